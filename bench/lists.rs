@@ -13,6 +13,7 @@ struct Parts {
     text_len: usize,
     first_wildcard_pos: usize,
     mode: u32,
+    reading: u32,
 }
 
 /// `struct gix_glob_row`.
@@ -112,5 +113,6 @@ fn parts_of(pattern: &gix_glob::Pattern) -> Parts {
         text_len: pattern.text.len(),
         first_wildcard_pos: pattern.first_wildcard_pos.unwrap_or(usize::MAX),
         mode: pattern.mode.bits(),
+        reading: 0,
     }
 }

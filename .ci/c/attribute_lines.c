@@ -12,7 +12,7 @@ struct received {
 
 #define NO_LINE {TEXT("none")}, 0, 7, {TEXT("none")}
 #define NO_MACRO {TEXT("none")}, {TEXT("none")}
-static const struct received NOTHING = {{{TEXT("none"), 7, 0}, TEXT("none")}, {TEXT("none"), TEXT("none")}, NO_KIND};
+static const struct received NOTHING = {{{TEXT("none"), 7, 0, GIX_GLOB_AS_CRATE}, TEXT("none")}, {TEXT("none"), TEXT("none")}, NO_KIND};
 
 static bool take(struct gix_glob_lines *lines, bool is_top, uint8_t *memory, size_t size, struct received *into)
 {

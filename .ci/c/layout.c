@@ -7,6 +7,7 @@ _Static_assert(offsetof(struct gix_glob_pattern, text) == 0, "text");
 _Static_assert(offsetof(struct gix_glob_pattern, text_len) == 8, "text_len");
 _Static_assert(offsetof(struct gix_glob_pattern, first_wildcard_pos) == 16, "first_wildcard_pos");
 _Static_assert(offsetof(struct gix_glob_pattern, mode) == 24, "mode");
+_Static_assert(offsetof(struct gix_glob_pattern, reading) == 28, "reading");
 _Static_assert(sizeof(struct gix_glob_lines) == 24, "the size of the lines");
 _Static_assert(offsetof(struct gix_glob_lines, rest) == 0, "rest");
 _Static_assert(offsetof(struct gix_glob_lines, rest_len) == 8, "rest_len");

@@ -47,7 +47,7 @@ static void made_up_parts_are_safe(void)
         const struct text text = texts[row % COUNT_OF(texts)];
         const size_t place = places[row / COUNT_OF(texts) % COUNT_OF(places)];
         const uint32_t mode = modes[row / COUNT_OF(texts) / COUNT_OF(places)];
-        const struct gix_glob_pattern pattern = {text.bytes, text.len, place, mode};
+        const struct gix_glob_pattern pattern = {text.bytes, text.len, place, mode, GIX_GLOB_AS_CRATE};
         const bool is_matched = gix_glob_pattern_matches_path(&pattern, TEXT("a/b"), true, true);
         check(gix_glob_last_match(&pattern, 1, TEXT("a/b"), true, true) == (is_matched ? 0 : GIX_GLOB_NONE), "made-up parts", row);
     }

@@ -1,5 +1,5 @@
 """Work trees made at random, each from a number, with attribute files at all depths."""
-from trees import BYTE_ORDER_MARK, IGNORE_FILE, Tree, has_stars_after_a_literal_front
+from trees import BYTE_ORDER_MARK, IGNORE_FILE, Tree
 
 ATTRIBUTE_FILE = b".gitattributes"
 ATTRIBUTES_INFO = b".git/info/attributes"
@@ -15,7 +15,6 @@ class AttributeTree(Tree):
 
     def __init__(self, seed):
         super().__init__(seed)
-        self.is_folding = False
         self.drop(IGNORE_FILE)
         self.files.pop(b".git/info/exclude", None)
         self.system = self.attribute_file(b"") if self.chance(0.4) else None
@@ -49,16 +48,11 @@ class AttributeTree(Tree):
 
     def attribute_file(self, folder):
         lines = [self.attribute_line(folder) for _ in range(self.random.choice((0, 1, 2, 3, 4, 6, 9)))]
-        lines = [line for line in lines if not has_stars_after_a_literal_front(self.pattern_of(line))]
         text = b"".join(line + (b"\r\n" if self.chance(0.05) else b"\n") for line in lines)
         if self.chance(0.2):
             text = text.removesuffix(b"\n")
         marks = self.random.choice((0,) * 18 + (1, 1, 2))
         return BYTE_ORDER_MARK * marks + text
-
-    def pattern_of(self, line):
-        """The bytes of a line from which on its pattern may begin."""
-        return line.lstrip(b' \t\r"')
 
     def attribute_line(self, folder):
         kind = self.random.random()
@@ -94,7 +88,7 @@ class AttributeTree(Tree):
 
     def pattern_head(self, folder):
         if self.chance(0.03):
-            return self.random.choice((b'" "', b'"\t"', b"\x0c", b"\xa0", b'"\\000"', b'"x\\000y"', b'"\\400"', b'"a\\q"', b'"a"b'))
+            return self.random.choice((b'" "', b'"\t"', b"\x0c", b"\xa0", b'"\\000"', b'"x\\000y"', b'"x**/\\000y"', b'"\\400"', b'"a\\q"', b'"a"b'))
         pattern = b"*" if self.chance(0.12) else self.pattern(folder)
         if self.chance(0.15):
             pattern += b"/"

@@ -7,14 +7,12 @@ import subprocess
 import tempfile
 
 from attribute_trees import ATTRIBUTE_FILE, ATTRIBUTES_INFO, BYTE_ORDER_MARK, NAMES, AttributeTree
-from documents import kinds_in
-from of_globtree import DOTTED, GLOBTREE, NO_TEXT, TOP, Told, lines_with_zeros, quoted, shown, told_kinds
+from of_globtree import DOTTED, GLOBTREE, NO_TEXT, Told, lines_with_zeros, quoted, shown
 from trees import OF_GIT, is_text, write
 
 FROM_INPUT = ["--stdin a b c m n", "-z --stdin a text eol", "--stdin -a", "-a -z --stdin", "--all --stdin -z --", "--stdin binary diff --", "-az --stdin"]
 # words that paths follow
 FROM_WORDS = ["a", "-a", "a --", "-z m n p --", "-a --", "--all", "a b m --", "-az --"]
-NAMED = kinds_in("ATTRIBUTES.md")
 # words for where Git's own folder is the current one
 WITHIN_GIT = ["a x", "-a -- ../x .", "--stdin a", "-az --stdin"]
 # words as they stand
@@ -27,9 +25,10 @@ WRONG = [
 class Pair:
     """Git and globtree in one repository. `outer` has the files that lie outside: their bytes, or None."""
 
-    def __init__(self, room, system, user, is_named):
+    def __init__(self, room, tree):
         self.room, self.top = room, os.path.join(room, b"top")
-        self.is_named = is_named
+        system, user = tree.system, tree.user
+        self.is_named, self.is_folding = tree.is_named, tree.is_folding
         home = os.path.join(room, b"home")
         kept = {name: value for name, value in os.environ.items() if not name.startswith("GIT_")}
         self.environment = {**kept, "HOME": home, "XDG_CONFIG_HOME": home, "LC_ALL": "C"}
@@ -37,7 +36,7 @@ class Pair:
         self.has_system = system is not None
         if self.has_system:
             write(os.path.join(room, b"system"), system)
-        self.user = os.path.join(room, b"user") if is_named else os.path.join(home, b"git", b"attributes")
+        self.user = os.path.join(room, b"user") if self.is_named else os.path.join(home, b"git", b"attributes")
         if user is not None:
             write(self.user, user)
         # Git's own file of the system can't be named: so the user's has its lines, too
@@ -48,11 +47,12 @@ class Pair:
     def git(self, folder, words, asked=b""):
         named = self.both_files if self.has_system else self.user if self.is_named else None
         options = ["-c", b"core.attributesFile=" + named] if named else []
-        return self.run(["git", "-c", "core.ignorecase=false", *options, "-C", folder, "check-attr", *words], asked)
+        return self.run(["git", "-c", "core.ignorecase=%s" % ("true" if self.is_folding else "false"), *options, "-C", folder, "check-attr", *words], asked)
 
     def globtree(self, folder, words, asked=b"", options=()):
         more = ["--system", os.path.join(self.room, b"system")] if self.has_system else []
         more += ["--attributes", self.user] if self.is_named else []
+        more += ["--ignore-case"] if self.is_folding else []
         return self.run([GLOBTREE, "-C", folder, *more, *options, "check-attr", *words], asked)
 
     def run(self, command, asked):
@@ -91,13 +91,13 @@ class Comparison:
 
     def __init__(self, with_globtree):
         self.with_globtree = with_globtree
-        self.kinds, self.named = collections.Counter(), collections.Counter()
+        self.kinds = collections.Counter()
         self.warned, self.runs, self.differences, self.refused = 0, 0, 0, 0
 
     def tree(self, seed, room):
         self.seed, self.random = seed, random.Random(~seed)
         self.tree_of = AttributeTree(seed)
-        self.pair = Pair(room, self.tree_of.system, self.tree_of.user, self.tree_of.is_named)
+        self.pair = Pair(room, self.tree_of)
         self.tree_of.make(self.pair.top)
         paths = self.paths()
         self.from_top(paths)
@@ -148,19 +148,9 @@ class Comparison:
         """A folder and those above it, told with dots."""
         below = self.random.choice(self.tree_of.folders)
         folder, names = os.path.join(self.pair.top, below), [b"a", b"m", b"text"]
-        paths = {told: os.path.relpath(os.path.join(folder, told), self.pair.top) for told in [*DOTTED, self.pair.top, self.pair.top + b"/"]}
-        paths = {told: path for told, path in paths.items() if not path.startswith(b"..")}
-        words, asked = ["-z", "--stdin", *names], b"".join(told + b"\0" for told in paths)
-        expected = self.pair.git(folder, words, asked)
-        if not self.with_globtree:
-            return
-        fields = expected.output.split(b"\0")
-        found = self.pair.globtree(folder, words, asked).output.split(b"\0")
-        for at in range(2, min(len(fields), len(found)), 3):
-            if TOP in NAMED and fields[at] != found[at] == b"unspecified" and paths[fields[at - 2]] == b".":
-                fields[at] = found[at]
-                self.named[TOP] += 1
-        self.judge(folder, words, asked, expected._replace(output=b"\0".join(fields)))
+        paths = [told for told in [*DOTTED, self.pair.top, self.pair.top + b"/"] if not os.path.relpath(os.path.join(folder, told), self.pair.top).startswith(b"..")]
+        self.both(folder, ["-z", "--stdin", *names], paths)
+        self.both(folder, ["-a", "-z", "--stdin"], paths)
 
     # ---- paths as they are told
 
@@ -241,7 +231,6 @@ def compare_trees(count, seed, with_globtree, kept):
     print("%d trees, %d states by git: %d set, %d unset, %d values, %d unspecified; something passed over in %d" % (
         count, sum(kinds.values()), kinds["set"], kinds["unset"], kinds["value"], kinds["unspecified"], comparison.warned))
     if with_globtree:
-        print("differences named in From Git: " + told_kinds(comparison.named))
         print("%d runs of globtree check-attr, %d ended at a name that is no text; %d differences" % (comparison.runs, comparison.refused, comparison.differences))
     return 1 if comparison.differences else 0
 

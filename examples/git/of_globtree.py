@@ -24,10 +24,8 @@ BEHIND = [[], [], ["-v"], ["--", "a"]]
 WITHIN_GIT = ["a", "-v -n -- HEAD ../a", "-q .", "--stdin", "-z --stdin"]
 NO_TEXT, NO_FOLDER = b"no UTF-8 text", b": no folder"
 # kinds of differences, which count as such where "From Git" in docs/GLOBTREE.md names them
-SLASH, STARS, TOP = "a slash at the end", "a slash at the end, and stars", "the top itself"
 UNLISTED, MESSAGES = "what can't be listed", "messages"
 NAMED = kinds_in("GLOBTREE.md")
-NONE = (b"", b"", b"")
 DOTTED = [b".", b"./", b".//", b"./.", b"..", b"../", b"../..", b"../.", b".././", b"x/..", b"x/../", b"x/../.", b"./x/y/../.."]
 ESCAPES = {7: "a", 8: "b", 9: "t", 10: "n", 11: "v", 12: "f", 13: "r", 34: '"', 92: "\\"}
 
@@ -149,25 +147,23 @@ class Comparison:
         tree = Tree(seed)
         self.pair = Pair(tree, room, self.with_globtree)
         paths = tree.asked()
-        known = self.from_top(paths)
+        self.from_top(paths)
         self.from_input(paths)
         self.from_words(paths)
         self.wrong(paths)
         self.within_git()
         self.files()
-        self.folders(known)
-        with_slash = [path for path in paths if not tree.is_below_file(path) and path not in tree.links and not path.endswith(b".gitignore")]
-        self.with_slash(with_slash, known)
+        self.folders()
+        self.with_slash([path for path in paths if path not in tree.links])
 
     def from_top(self, paths):
-        """Each path, as it stands. What Git answers is kept and counted."""
+        """Each path, as it stands. What Git answers is counted."""
         told = self.both(self.pair.top, ["-v", "-n", "-z", "--stdin"], paths)
         answers = decisions(told)
         if len(answers) != len(paths):
             sys.exit("compare: tree %d: git answered %d of %d paths" % (self.seed, len(answers), len(paths)))
         self.kinds.update(kind(answer) for answer in answers)
         self.with_top(paths, told)
-        return {answer[3]: answer[:3] for answer in answers}
 
     def with_top(self, paths, expected):
         """The same where the words say which folder is the top: its file of excludes counts where it is there."""
@@ -266,76 +262,24 @@ class Comparison:
             self.both(folder, self.random.choice(WITHIN_GIT).split(), [b"a"])
             self.list_files(folder, self.random.choice([[], ["-z"], ["a"], [".."]]))
 
-    def folders(self, known):
+    def folders(self):
         """The folders above and below one, told with dots: `.`, `./`, `..`, `x/..`."""
         folder = self.random.choice(self.pair.tree.folders)
-        asked, named = [], []
         below = [part + b"/" + dots for part in parts_below(self.pair.tree, folder) for dots in (b"", b".", b"./", b"x/..")]
-        for told in [*DOTTED, *below, self.pair.top, self.pair.top + b"/"]:
-            path = os.path.relpath(os.path.join(self.pair.top, folder, told), self.pair.top)
-            path = b"" if path == b"." else path
-            if path in known or not path:
-                asked.append(told)
-                named.append((SLASH, known[path]) if path else (TOP, NONE))
         folder = os.path.join(self.pair.top, folder)
-        same = self.each(folder, asked, named)
-        if same:
-            self.as_words(folder, self.random.choice(["--", "-v --", "-v -n --"]).split() + same)
-            self.as_words(folder, ["-q", self.random.choice(same)])
+        asked = [told for told in [*DOTTED, *below, self.pair.top, self.pair.top + b"/"] if self.is_in_tree(folder, told)]
+        self.both(folder, ["-v", "-n", "-z", "--stdin"], asked)
+        self.both(folder, self.random.choice(["--", "-v --", "-v -n --"]).split(), [], [told for told in asked if is_text(told)])
+        self.both(folder, ["-q"], [], [self.random.choice(DOTTED[:4])])
 
-    def with_slash(self, paths, known):
-        """Each path with a slash at its end. Then the folder that it names is made, to ask Git about it without the slash."""
-        asked = [path + b"/" for path in paths]
-        words = ["-v", "-n", "-z", "--stdin"]
-        of_git = self.pair.git(self.pair.top, words, given(asked, words))
-        of_globtree = self.pair.globtree(self.pair.top, words, given(asked, words)) if self.with_globtree else None
-        folders = {path for path in paths if path + b"/" in self.pair.tree.folders}
-        for path in paths:
-            name = os.path.join(self.pair.top, path)
-            if path in self.pair.tree.files and os.path.isfile(name):
-                os.remove(name)
-            os.makedirs(name, exist_ok=True)
-        answers = decisions(self.pair.git(self.pair.top, words, given(paths, words)))
-        for answer in answers:
-            if answer[3] in folders and known[answer[3]] != answer[:3]:
-                sys.exit("compare: tree %d: git answers twice about %s" % (self.seed, shown(answer[3])))
-        self.judge_each(self.pair.top, [(SLASH, answer[:3]) for answer in answers], of_git, of_globtree)
+    def is_in_tree(self, folder, told):
+        """Whether a told path leads to no folder above the top."""
+        return not os.path.relpath(os.path.join(folder, told), self.pair.top).startswith(b"..")
 
-    # ---- paths whose answers may differ by name
-
-    def each(self, folder, asked, named):
-        """Asks both about each path as it stands, and gives those that both answer alike. `named` has for each a kind of
-        "From Git", and the answer by which it may differ so."""
-        words = ["-v", "-n", "-z", "--stdin"]
-        of_git = self.pair.git(folder, words, given(asked, words))
-        found = self.pair.globtree(folder, words, given(asked, words)) if self.with_globtree else None
-        differ = self.judge_each(folder, named, of_git, found)
-        return [path for path, differs in zip(asked, differ) if not differs]
-
-    def as_words(self, folder, words):
-        """Runs both with these words. Git alone may tell errors: it also reads the ignore file of a folder with a slash."""
-        expected, found = self.pair.git(folder, words), self.pair.globtree(folder, words)
-        self.judge(folder, words, expected._replace(errors=found.errors), found)
-
-    def judge_each(self, folder, named, expected, found):
-        """Judges the answers one by one, and gives which of them differ by name."""
-        answers = decisions(expected)
-        if len(answers) != len(named):
-            sys.exit("compare: tree %d: git answered %d of %d paths" % (self.seed, len(answers), len(named)))
-        self.answered += len(answers)
-        if found is None:
-            return []
-        lawful, differ = [], []
-        for answer, (name, fields), other in zip(answers, named, decisions(found)):
-            name = STARS if name == SLASH and b"*" in answer[2] else name
-            differ.append(name in NAMED and other != answer and other[:3] == fields)
-            self.named[name] += differ[-1]
-            lawful.append(fields + answer[3:] if differ[-1] else answer)
-        lawful += answers[len(lawful):]
-        status = 0 if any(answer[0] for answer in lawful) else 1
-        told = Told(status, b"".join(b"\0".join(answer) + b"\0" for answer in lawful), found.errors)
-        self.judge(folder, ["-v", "-n", "-z", "--stdin"], told, found)
-        return differ
+    def with_slash(self, paths):
+        """Each path with a slash at its end, whether a folder is there, a file or nothing."""
+        behind = [self.random.choice((b"/", b"/", b"/", b"//", b"/.", b"/x/..")) for _ in paths]
+        self.both(self.pair.top, ["-v", "-n", "-z", "--stdin"], [path + more for path, more in zip(paths, behind)])
 
     # ---- paths as they are told
 

@@ -17,7 +17,14 @@ HOSTILE = [
     b"$x", b"'", b"...", b"..a", b"\a\b\v\f",
 ]
 NO_TEXT = [b"\xff", b"a\xfe.o", b"\xe2\x82"]
-CASED = b"a A b B aa Aa AA a.o A.O a.O dir Dir DIR".split() + [b"\xc3\xa9", b"\xc3\x89"]
+CASED = b"a A b B _ q aa Aa AA a_ a.o A.O a.O dir Dir DIR".split() + [b"\xc3\xa9", b"\xc3\x89"]
+SETS = (b"[a-z]", b"[!a]", b"[[:alnum:]]", b"[]b]", b"[^[:space:]]", b"[\\a-c]", b"[!-~]")
+# those in which the case of a letter counts where it is folded elsewhere
+CASED_SETS = (
+    b"[A]", b"[!A]", b"[aA]", b"[A-Z]", b"[a-z]", b"[A-a]", b"[a-B]", b"[B-A]", b"[_-a]", b"[Z-y]", b"[+-Z]", b"[[:upper:]]", b"[![:lower:]]", b"[\\A-b]",
+)
+# lines of white space, and such as end in a byte 0 or give an empty pattern
+UNUSUAL = (b"\t", b"!\t", b"\x0b", b"\x0c ", b" \t", b"\r", b"!\r", b" ", b"\0", b"#\0", b"!\0a", b"a\0b", b"*\0", b" \0x")
 
 
 class Tree:
@@ -25,7 +32,7 @@ class Tree:
 
     def __init__(self, seed):
         self.random = random.Random(seed)
-        self.is_folding = self.random.random() < 0.2
+        self.is_folding = self.random.random() < 0.35
         self.draw_names()
         self.folders = [b""]
         self.files, self.links = {}, {}
@@ -96,7 +103,7 @@ class Tree:
         for _ in range(self.random.choice((0, 1, 1, 2, 3, 4, 6))):
             lines += self.some_lines(folder)
         ends = [b"\r\n" if self.chance(0.03) else b"\n" for _ in lines]
-        if ends and not lines[-1].endswith(b"\r") and self.chance(0.3):
+        if ends and self.chance(0.3):
             ends[-1] = b""
         text = b"".join(line + end for line, end in zip(lines, ends))
         return BYTE_ORDER_MARK + text if self.chance(0.1) else text
@@ -106,15 +113,16 @@ class Tree:
         kind = self.random.random()
         if kind < 0.08:
             return [self.random.choice((b"", b"# a comment", b"#", b"   ", b"!", b"/", b"!/", b"//", b"!#a", b"*/", b"!*/", b".gitignore"))]
+        if kind < 0.11:
+            return [self.random.choice(UNUSUAL)]
         name = self.piece()
-        if kind < 0.10:
+        if kind < 0.13:
             return [b"/*", b"!/" + name + b"/"]
-        if kind < 0.15:
-            return [name + b"/**", b"!" + name + b"/**/" + self.piece()]
         if kind < 0.18:
+            return [name + b"/**", b"!" + name + b"/**/" + self.piece()]
+        if kind < 0.21:
             return [name + b"/", b"!" + name + b"/" + self.piece()]
-        line = self.line(folder)
-        return [line] if is_the_same_in_both(line) else []
+        return [self.line(folder)]
 
     def line(self, folder):
         text = self.pattern(folder)
@@ -126,6 +134,8 @@ class Tree:
             text += b"  "
         if self.chance(0.02):
             text += b"\r"
+        if self.chance(0.02):
+            text += b"\0" + self.piece()
         return b"!" + text if self.chance(0.45) else text
 
     def pattern(self, folder):
@@ -138,13 +148,22 @@ class Tree:
             return self.known(folder)
         if kind < 0.78:
             return b"**/" + self.piece()
-        if kind < 0.83:
+        if kind < 0.81:
             return self.piece() + b"/**"
+        if kind < 0.85:
+            return self.stars_behind_front()
         if kind < 0.89:
             return self.piece() + b"/**/" + self.piece()
         if kind < 0.97:
             return self.piece() + b"/" + self.piece()
         return self.random.choice((b"*", b"/*", b"**", b"*/*", b"*.*", b"?", b"**/*.o", b"/**/a", b"a/**/**/b", b"*a*", b"\\", b"[", b"a//b"))
+
+    def stars_behind_front(self):
+        """Stars directly behind a front of letters, and what follows them."""
+        front = literal(self.random.choice(self.names))
+        front = front[: self.random.randrange(1, len(front) + 1)] if self.chance(0.7) else self.piece() + b"/" + front
+        behind = self.random.choice((b"", b"/", b"/" + self.piece(), b"\\/" + self.piece(), self.piece(), b"/**/" + self.piece()))
+        return (b"/" if self.chance(0.2) else b"") + front + b"*" * self.random.choice((1, 2, 2, 2, 3)) + behind
 
     def known(self, folder):
         """A path of the tree that lies below the folder, with pieces of any kind."""
@@ -171,10 +190,11 @@ class Tree:
             return front + b"*"
         if kind < 0.84:
             return b"*" + back
-        if kind < 0.90 or self.is_folding:
+        if kind < 0.88:
             return front + b"?" + back
-        sets = (b"[a-z]", b"[!a]", b"[[:alnum:]]", b"[]b]", b"[^[:space:]]", b"[\\a-c]", b"[!-~]")
-        return front + self.random.choice(sets) + back
+        if self.is_folding and kind < 0.91:
+            return front + b"\\" + name[at:at + 1] + back
+        return front + self.random.choice(CASED_SETS if self.is_folding else SETS) + back
 
     # ---- paths
 
@@ -243,11 +263,7 @@ def literal(name):
     return text.replace(b"\n", b"?")
 
 
-# ---- lines that Git and this repository read in two ways
-
-def is_the_same_in_both(line):
-    return not is_white(line) and not has_stars_after_a_literal_front(line) and b"\0" not in line
-
+# ---- lines that Git and `globline` read in two ways
 
 def is_white(line):
     """Whether it is a line of white space other than spaces."""

@@ -17,6 +17,7 @@ struct Parts {
     text_len: usize,
     first_wildcard_pos: usize,
     mode: u32,
+    reading: u32,
 }
 
 #[repr(C)]
@@ -34,7 +35,7 @@ unsafe extern "C" {
     fn gix_glob_decide_in_tree(lists: *const List<'_>, count: usize, path: *const u8, path_len: usize, is_dir: bool, fold: bool, out: *mut Decision) -> bool;
 }
 
-const BLANK: Parts = Parts { text: std::ptr::NonNull::dangling().as_ptr(), text_len: 0, first_wildcard_pos: usize::MAX, mode: 0 };
+const BLANK: Parts = Parts { text: std::ptr::NonNull::dangling().as_ptr(), text_len: 0, first_wildcard_pos: usize::MAX, mode: 0, reading: 0 };
 const NEGATIVE: u32 = 8;
 
 /// A pattern that was read. Its text is a part of the line, which it borrows.

@@ -38,13 +38,18 @@ def trees_told(case, there, path, *fields):
     return check_ignore(case, path if there == b"folder" else b"other", path, fields)
 
 
+def git_told(case, there, told, *fields):
+    return check_ignore(case, there or b"other", told, fields)
+
+
 def check_ignore(case, there, path, fields):
     """Which line decides about a path, of a repository with these files that has what is there."""
     files = rows.ignore_files(fields)
     if not IS_GIT and not rows.is_text(path):
         return ()
     with rows.repository_of(files) as top:
-        rows.make(top, there)
+        for each in there.split(b"\n"):
+            rows.make(top, each)
         options = [*(FOLDS if case == b"fold" else []), *(EXCLUDES if files and files[0][0] == b".excludes" else [])]
         told = ask(top, options, ["check-ignore", "-v", "-n", "-z", *NO_INDEX, "--stdin"], path + b"\0").split(b"\0")
         names = [name for name, _ in files]
@@ -59,10 +64,28 @@ def matching(mode, pattern, value):
     return () if told is None else rows.told(told[2:3] == [b"set"])
 
 
+def git_paths(case, line, path, place, kind):
+    # (what a line of attributes matches, it matches by itself; one that begins with ! is refused)
+    if line.startswith(b"!") or not path or kind not in (b"file", b"folder"):
+        return ()
+    told = check_attributes(case, ["a"], path.removesuffix(b"/") + (b"/" if kind == b"folder" else b""), [b".gitattributes", quoted(line) + b" a"])
+    return () if told is None else rows.told(told[2:3] == [b"set"])
+
+
+def quoted(line):
+    """The pattern of a line, as attribute files quote it."""
+    return b'"' + re.sub(rb'(["\\])', rb"\\\1", line).replace(b"\n", b"\\n") + b'"'
+
+
+def git_attributes(case, file, told, names):
+    fields = check_attributes(case, names.split(b" "), told, [b".gitattributes", file])
+    return () if fields is None else [b"".join(b" " + word(name, state) for name, state in zip(fields[1::3], fields[2::3]))]
+
+
 def check_attributes(case, words, paths, fields):
     """The fields that check-attr writes for paths, each ended by a byte 0; None where it can't be asked."""
     files = rows.attribute_files(fields)
-    if not IS_GIT and (case == b"fold" or not all(rows.is_text(os.path.dirname(path)) for path in paths.split(b"\0"))):
+    if not IS_GIT and not all(rows.is_text(os.path.dirname(path)) for path in paths.split(b"\0")):
         return None
     if IS_GIT:
         # (so the lines of the system's file stand before the user's)
@@ -259,6 +282,6 @@ def exclude_names(current, words, *fields):
     return [fault or told.split(":")[0]]
 
 
-OF_PATTERNS = (matching, trees, trees_told, attribute_states, all_states, attribute_streams, attribute_names)
+OF_PATTERNS = (matching, git_paths, trees, trees_told, git_told, git_attributes, attribute_states, all_states, attribute_streams, attribute_names)
 OF_CONFIGURATION = (config_files, config_includes, config_booleans)
 rows.answer({it.__name__: it for it in (*OF_PATTERNS, *OF_CONFIGURATION, repositories, work_trees, exclude_names)})

@@ -10,7 +10,7 @@
 """
 
 from ._ignore import Decision, IgnoreFile, IgnoreList
-from ._pattern import Mode, Pattern, PatternMode, wildmatch
+from ._pattern import Mode, Pattern, PatternMode, Reading, wildmatch
 
-__all__ = ["Decision", "IgnoreFile", "IgnoreList", "Mode", "Pattern", "PatternMode", "wildmatch"]
+__all__ = ["Decision", "IgnoreFile", "IgnoreList", "Mode", "Pattern", "PatternMode", "Reading", "wildmatch"]
 __version__ = "0.1.0"

@@ -6,7 +6,7 @@ import os
 from typing import Any, Dict, Iterable, Iterator, List, NamedTuple, Optional, Sequence, Tuple, TypeVar
 
 from . import _library
-from ._pattern import Pattern
+from ._pattern import Pattern, Reading
 from ._texts import Path, Text, encoded, folder, split
 
 _P = TypeVar("_P", bound=Path)
@@ -304,23 +304,30 @@ class IgnoreFile(_Decides):
         text: the bytes of the file.
         base: the folder that the file lies in, from the top of the tree.
         name: what the file is called, for whoever asks where a line stands.
+        reading: whose reading of its lines counts.
     """
 
-    __slots__ = ("_base", "_name", "_rules", "__weakref__")
+    __slots__ = ("_base", "_name", "_reading", "_rules", "__weakref__")
     _base: bytes
     _name: Optional[Path]
+    _reading: Reading
     _rules: _library.Rules
 
-    def __init__(self, text: Text, base: Path = "", name: Optional[Path] = None) -> None:
+    def __init__(
+        self, text: Text, base: Path = "", name: Optional[Path] = None, reading: Reading = Reading.CRATE
+    ) -> None:
         self._base = folder(base)
         self._name = name
-        self._rules = _library.Rules(encoded(text, "the file's text"))
+        self._reading = reading
+        self._rules = _library.Rules(encoded(text, "the file's text"), reading is Reading.GIT)
 
     def _bases(self, ignore_case: bool) -> _Bases:
         return _Bases((self,), bool(ignore_case))
 
     @classmethod
-    def from_lines(cls, lines: Iterable[Text], base: Path = "", name: Optional[Path] = None) -> "IgnoreFile":
+    def from_lines(
+        cls, lines: Iterable[Text], base: Path = "", name: Optional[Path] = None, reading: Reading = Reading.CRATE
+    ) -> "IgnoreFile":
         r"""The file of some lines, each with its line feed or without, as `str.splitlines` and an open file give them.
 
         >>> len(IgnoreFile.from_lines(["*.o\n", "", "*.a"]))
@@ -339,13 +346,13 @@ class IgnoreFile(_Decides):
             if b"\n" in text:
                 raise ValueError(f"the line {text[:40]!r} has a line feed before its end")
             texts.append(text + b"\n")
-        return cls(b"".join(texts), base, name)
+        return cls(b"".join(texts), base, name, reading)
 
     @classmethod
-    def from_file(cls, file: Path, base: Path = "") -> "IgnoreFile":
+    def from_file(cls, file: Path, base: Path = "", reading: Reading = Reading.CRATE) -> "IgnoreFile":
         """The file at a path, which is read whole; its name is the path. It raises what reading raises."""
         with open(os.fspath(file), "rb") as opened:
-            return cls(opened.read(), base, file)
+            return cls(opened.read(), base, file, reading)
 
     @property
     def base(self) -> bytes:
@@ -356,6 +363,11 @@ class IgnoreFile(_Decides):
     def name(self) -> Optional[Path]:
         """What the file is called."""
         return self._name
+
+    @property
+    def reading(self) -> Reading:
+        """Whose reading of its lines counts."""
+        return self._reading
 
     def __len__(self) -> int:
         """The number of patterns."""
@@ -374,7 +386,7 @@ class IgnoreFile(_Decides):
         return f"<IgnoreFile{name} of {len(self)} patterns, base {self._base!r}>"
 
     def __reduce__(self) -> Tuple[Any, ...]:
-        return type(self), (self._rules.text, self._base, self._name)
+        return type(self), (self._rules.text, self._base, self._name, self._reading)
 
 
 class IgnoreList(_Decides):

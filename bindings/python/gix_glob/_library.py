@@ -28,6 +28,8 @@ VARIABLE = "GIX_GLOB_LIBRARY"
 NONE = ctypes.c_size_t(-1).value
 #: GIX_GLOB_NEGATIVE: the bit of a pattern's mode.
 NEGATIVE = 8
+#: GIX_GLOB_AS_CRATE and GIX_GLOB_AS_GIT: whose reading a pattern is.
+AS_CRATE, AS_GIT = 0, 1
 
 
 class Parts(ctypes.Structure):
@@ -38,6 +40,7 @@ class Parts(ctypes.Structure):
         ("text_len", ctypes.c_size_t),
         ("first_wildcard_pos", ctypes.c_size_t),
         ("mode", ctypes.c_uint32),
+        ("reading", ctypes.c_uint32),
     ]
 
 
@@ -85,7 +88,12 @@ class Lines(ctypes.Structure):
 #: The calls that are used, each with its parameters and its answer. A `bytes` is handed over as c_char_p, an address as c_void_p.
 CALLS = {
     "gix_glob_parse": ([ctypes.c_void_p, ctypes.c_size_t, ctypes.POINTER(Parts)], ctypes.c_bool),
+    "gix_glob_parse_as_git": ([ctypes.c_void_p, ctypes.c_size_t, ctypes.POINTER(Parts)], None),
     "gix_glob_parse_ignore_line": (
+        [ctypes.POINTER(Lines), ctypes.POINTER(Parts), ctypes.POINTER(ctypes.c_bool)],
+        ctypes.c_bool,
+    ),
+    "gix_glob_parse_ignore_line_as_git": (
         [ctypes.POINTER(Lines), ctypes.POINTER(Parts), ctypes.POINTER(ctypes.c_bool)],
         ctypes.c_bool,
     ),
@@ -177,6 +185,11 @@ class Reading:
         return int(self._parts.mode)
 
     @property
+    def is_gits(self) -> bool:
+        """Whether it is Git's reading of its line."""
+        return bool(self._parts.reading != AS_CRATE)
+
+    @property
     def first_wildcard_pos(self) -> Optional[int]:
         place = int(self._parts.first_wildcard_pos)
         return None if place == NONE else place
@@ -193,7 +206,7 @@ class Reading:
 
 def _blank() -> Parts:
     """GIX_GLOB_PATTERN_INIT."""
-    return Parts(ctypes.addressof(_EMPTY), 0, NONE, 0)
+    return Parts(ctypes.addressof(_EMPTY), 0, NONE, 0, AS_CRATE)
 
 
 _EMPTY = ctypes.create_string_buffer(1)
@@ -206,17 +219,25 @@ def parse(line: bytes) -> Optional[Reading]:
     return Reading(memory, parts) if has_pattern else None
 
 
+def parse_as_git(line: bytes) -> Reading:
+    """Reads a pattern line as Git does; each has a pattern."""
+    memory, parts = Memory(line), _blank()
+    _c.gix_glob_parse_as_git(memory.address, memory.length, ctypes.byref(parts))
+    return Reading(memory, parts)
+
+
 class Rules:
     """The patterns of an ignore file, in order and prepared, each with the number of its line."""
 
     __slots__ = ("_heads", "_index", "_memory", "_patterns", "_pointer", "_rows", "numbers")
 
-    def __init__(self, file: bytes) -> None:
+    def __init__(self, file: bytes, as_git: bool) -> None:
         memory = Memory(file)
+        take_line = _c.gix_glob_parse_ignore_line_as_git if as_git else _c.gix_glob_parse_ignore_line
         lines, parts, has_pattern = Lines(memory.address, memory.length, 0), _blank(), ctypes.c_bool()
         readings = bytearray()
         numbers = array("Q")
-        while _c.gix_glob_parse_ignore_line(ctypes.byref(lines), ctypes.byref(parts), ctypes.byref(has_pattern)):
+        while take_line(ctypes.byref(lines), ctypes.byref(parts), ctypes.byref(has_pattern)):
             if has_pattern.value:
                 readings += parts
                 numbers.append(lines.number)

@@ -34,6 +34,16 @@ class PatternMode(enum.IntFlag):
     ABSOLUTE = 16
 
 
+class Reading(enum.Enum):
+    """Whose reading of a line counts, and of what its pattern matches."""
+
+    #: That of the Rust crate `gix-glob`.
+    CRATE = "crate"
+    #: Git's own: what a pattern with a slash has before its first `*`, `?`, `[` or `\\` is compared by itself, what follows is a
+    #: pattern of its own, and where the case of letters doesn't count, members of sets and escaped letters stay as they are.
+    GIT = "git"
+
+
 def _bits(mode: int) -> int:
     return operator.index(mode) & 3
 
@@ -50,22 +60,27 @@ class Pattern:
     >>> Pattern("src/**/*.rs").matches_path("src/deep/lib.rs")
     True
 
-    A line that is empty or white space alone, also behind a `!`, has no pattern:
+    A line that is empty or white space alone, also behind a `!`, has no pattern, but as Git reads it:
 
     >>> Pattern(" \t")
     Traceback (most recent call last):
     ValueError: the line b' \t' is blank
+    >>> Pattern("a**/b").matches_path("ax/y/b"), Pattern("a**/b", Reading.GIT).matches_path("ax/y/b")
+    (False, True)
     """
 
     __slots__ = ("_reading",)
     _reading: _library.Reading
 
-    def __init__(self, line: Text) -> None:
+    def __init__(self, line: Text, reading: Reading = Reading.CRATE) -> None:
         text = encoded(line, "a line")
-        reading = _library.parse(text)
-        if reading is None:
+        if reading is Reading.GIT:
+            self._reading = _library.parse_as_git(text)
+            return
+        read = _library.parse(text)
+        if read is None:
             raise ValueError(f"the line {text[:40]!r} is blank")
-        self._reading = reading
+        self._reading = read
 
     @classmethod
     def _of(cls, reading: _library.Reading) -> "Pattern":
@@ -82,6 +97,11 @@ class Pattern:
     def mode(self) -> PatternMode:
         """What else was read of the line."""
         return PatternMode(self._reading.mode)
+
+    @property
+    def reading(self) -> Reading:
+        """Whose reading it is."""
+        return Reading.GIT if self._reading.is_gits else Reading.CRATE
 
     @property
     def first_wildcard_pos(self) -> Optional[int]:
@@ -144,10 +164,10 @@ class Pattern:
         return sign + slash + escape + text + (b"/" if PatternMode.MUST_BE_DIR in mode else b"")
 
     def __repr__(self) -> str:
-        return f"Pattern({bytes(self)!r})"
+        return f"Pattern({bytes(self)!r})" if self.reading is Reading.CRATE else f"Pattern({bytes(self)!r}, {self.reading})"
 
-    def _parts(self) -> Tuple[bytes, int]:
-        return self._reading.text, self._reading.mode
+    def _parts(self) -> Tuple[bytes, int, bool]:
+        return self._reading.text, self._reading.mode, self._reading.is_gits
 
     def __eq__(self, other: object) -> bool:
         if not isinstance(other, Pattern):
@@ -157,8 +177,8 @@ class Pattern:
     def __hash__(self) -> int:
         return hash(self._parts())
 
-    def __reduce__(self) -> Tuple[type, Tuple[bytes]]:
-        return type(self), (bytes(self),)
+    def __reduce__(self) -> Tuple[type, Tuple[bytes, Reading]]:
+        return type(self), (bytes(self), self.reading)
 
 
 def wildmatch(pattern: Text, value: Text, mode: int = Mode(0)) -> bool:

@@ -10,7 +10,7 @@ import tempfile
 import unittest
 from unittest import mock
 
-from gix_glob import IgnoreFile, IgnoreList, Pattern, _ignore
+from gix_glob import IgnoreFile, IgnoreList, Pattern, Reading, _ignore
 
 
 def place(decision):
@@ -53,6 +53,41 @@ def plainly_in_tree(rules, path, is_dir, fold):
             if above and above[2]:
                 return above
     return plainly(rules, path, is_dir, fold)
+
+
+class TwoReadings(unittest.TestCase):
+    """What Git reads otherwise than the crate does."""
+
+    ROWS = (
+        # text, path, whether it is a folder, whether case doesn't count, the line that decides by the crate's reading, and by Git's
+        ("a**/b\n", "ax/y/b", False, False, None, 1),
+        ("[A].o\n", "a.o", False, True, 1, None),
+        ("\\A\n", "a", False, True, 1, None),
+        ("\\a\n", "A", False, True, 1, 1),
+        ("x\r", "x", False, False, None, 1),
+        ("a\0b\n", "a", False, False, None, 1),
+    )
+
+    def test_files(self):
+        for text, path, is_dir, fold, by_crate, by_git in self.ROWS:
+            for reading, line in ((Reading.CRATE, by_crate), (Reading.GIT, by_git)):
+                with self.subTest(text=text, path=path, reading=reading):
+                    file = IgnoreFile(text, reading=reading)
+                    for rules in (file, IgnoreList([file]), pickle.loads(pickle.dumps(file))):
+                        found = rules.decide_in_tree(path, is_dir, ignore_case=fold)
+                        self.assertEqual(found and found.line, line)
+
+    def test_each_file_by_its_own(self):
+        text = "a**/b\n"
+        files = [IgnoreFile(text, "", "git", Reading.GIT), IgnoreFile(text, "", "crate")]
+        self.assertEqual(place(IgnoreList(files).decide_in_tree("ax/y/b")), ("git", 1, True))
+
+    def test_patterns(self):
+        for reading, matches in ((Reading.CRATE, False), (Reading.GIT, True)):
+            pattern = Pattern("a**/b", reading)
+            self.assertIs(pattern.reading, reading)
+            self.assertIs(pattern.matches_path("ax/y/b"), matches)
+        self.assertEqual(Pattern("", Reading.GIT).text, b"")
 
 
 class Deciding(unittest.TestCase):

@@ -54,9 +54,19 @@ pub struct Lists<'a, T: Pattern> {
 impl<'a, T: Pattern> Lists<'a, T> {
     /// Lays lists out: files of excludes first, then that of the top, then those of the folders on the way down.
     pub fn new(lists: &'a [List<T>]) -> Self {
+        Lists::by(lists, library::AS_CRATE)
+    }
+
+    /// The same, where patterns match as Git has it ([`crate::Pattern::matches_path_as_git`]). Read them by
+    /// [`crate::Pattern::from_git_line`].
+    pub fn as_git(lists: &'a [List<T>]) -> Self {
+        Lists::by(lists, library::AS_GIT)
+    }
+
+    fn by(lists: &'a [List<T>], reading: u32) -> Self {
         let texts = lists.iter().map(|list| {
             let base = list.base.as_ref().map_or(&b""[..], |base| base.as_slice());
-            (base, parts_of(list))
+            (base, parts_of(list, reading))
         });
         Lists { lists, laid_out: library::Lists::new(texts) }
     }
@@ -90,7 +100,12 @@ pub struct Index<'a, T: Pattern> {
 impl<'a, T: Pattern> Index<'a, T> {
     /// The index of a list; `None` where it has 2^32 patterns or more.
     pub fn new(list: &'a List<T>) -> Option<Self> {
-        Some(Index { list, prepared: library::Index::new(parts_of(list))? })
+        Some(Index { list, prepared: library::Index::new(parts_of(list, library::AS_CRATE))? })
+    }
+
+    /// The same, where patterns match as Git has it, as for [`Lists::as_git`].
+    pub fn as_git(list: &'a List<T>) -> Option<Self> {
+        Some(Index { list, prepared: library::Index::new(parts_of(list, library::AS_GIT))? })
     }
 
     /// The last pattern that matches what the base of the list leaves of a path; `None` where none does, or the path doesn't lie
@@ -104,8 +119,8 @@ impl<'a, T: Pattern> Index<'a, T> {
     }
 }
 
-/// The patterns of a list, as the library takes them.
-fn parts_of<T: Pattern>(list: &List<T>) -> Box<[library::Parts<'_>]> {
+/// The patterns of a list, of a reading, as the library takes them.
+fn parts_of<T: Pattern>(list: &List<T>, reading: u32) -> Box<[library::Parts<'_>]> {
     let patterns = list.patterns.iter().map(|mapping| &mapping.pattern);
-    patterns.map(|it| library::Parts::new(&it.text, it.mode.bits(), it.first_wildcard_pos)).collect()
+    patterns.map(|it| library::Parts::new(&it.text, it.mode.bits(), it.first_wildcard_pos, reading)).collect()
 }

@@ -19,14 +19,19 @@ pub(crate) struct Parts<'a> {
     text_len: usize,
     first_wildcard_pos: usize,
     mode: u32,
+    reading: u32,
     borrows: PhantomData<&'a [u8]>,
 }
 
+/// `GIX_GLOB_AS_CRATE` and `GIX_GLOB_AS_GIT`: whose reading a pattern is.
+pub(crate) const AS_CRATE: u32 = 0;
+pub(crate) const AS_GIT: u32 = 1;
+
 impl<'a> Parts<'a> {
     /// The parts of a pattern; any may stand together.
-    pub(crate) fn new(text: &'a [u8], mode: u32, place: Option<usize>) -> Self {
+    pub(crate) fn new(text: &'a [u8], mode: u32, place: Option<usize>, reading: u32) -> Self {
         let first_wildcard_pos = place.unwrap_or(NONE);
-        Parts { text: text.as_ptr(), text_len: text.len(), first_wildcard_pos, mode, borrows: PhantomData }
+        Parts { text: text.as_ptr(), text_len: text.len(), first_wildcard_pos, mode, reading, borrows: PhantomData }
     }
 }
 
@@ -73,6 +78,16 @@ struct Place {
 
 unsafe extern "C" {
     fn gix_glob_parse(line: *const u8, line_len: usize, out: *mut Parts<'_>) -> bool;
+
+    fn gix_glob_parse_as_git(line: *const u8, line_len: usize, out: *mut Parts<'_>);
+
+    fn gix_glob_pattern_matches_path(
+        pattern: *const Parts<'_>,
+        path: *const u8,
+        path_len: usize,
+        is_dir: bool,
+        fold: bool,
+    ) -> bool;
 
     fn gix_glob_prepare(
         patterns: *const Parts<'_>,
@@ -126,18 +141,35 @@ pub(crate) struct Reading {
 
 /// Reads a pattern line; `None` where it is blank.
 pub(crate) fn parse(line: &[u8]) -> Option<Reading> {
-    let mut parts = Parts::new(b"", 0, None);
+    let mut parts = Parts::new(b"", 0, None, AS_CRATE);
     // SAFETY: `line` is a slice, and `parts` is initialised, apart from it, and laid out as in the header.
     let has_pattern = unsafe { gix_glob_parse(line.as_ptr(), line.len(), &mut parts) };
-    has_pattern.then(|| {
-        // The pointer isn't read through: who slices the line by the range has it checked.
-        let start = parts.text.addr().wrapping_sub(line.as_ptr().addr());
-        Reading {
-            text: start..start.wrapping_add(parts.text_len),
-            mode: parts.mode,
-            first_wildcard_pos: (parts.first_wildcard_pos != NONE).then_some(parts.first_wildcard_pos),
-        }
-    })
+    has_pattern.then(|| reading_of(line, &parts))
+}
+
+/// Reads a pattern line as Git does.
+pub(crate) fn parse_as_git(line: &[u8]) -> Reading {
+    let mut parts = Parts::new(b"", 0, None, AS_CRATE);
+    // SAFETY: as in `parse`.
+    unsafe { gix_glob_parse_as_git(line.as_ptr(), line.len(), &mut parts) };
+    reading_of(line, &parts)
+}
+
+/// The parts that were read of a line.
+fn reading_of(line: &[u8], parts: &Parts<'_>) -> Reading {
+    // The pointer isn't read through: who slices the line by the range has it checked.
+    let start = parts.text.addr().wrapping_sub(line.as_ptr().addr());
+    Reading {
+        text: start..start.wrapping_add(parts.text_len),
+        mode: parts.mode,
+        first_wildcard_pos: (parts.first_wildcard_pos != NONE).then_some(parts.first_wildcard_pos),
+    }
+}
+
+/// Whether a pattern matches a path, by its reading.
+pub(crate) fn matches_path(pattern: &Parts<'_>, path: &[u8], is_dir: bool, fold: bool) -> bool {
+    // SAFETY: `pattern` is laid out as in the header, and its text is borrowed; `path` is a slice.
+    unsafe { gix_glob_pattern_matches_path(pattern, path.as_ptr(), path.len(), is_dir, fold) }
 }
 
 /// Whether a pattern's text matches the whole of a value.

@@ -26,6 +26,24 @@ impl Pattern {
         })
     }
 
+    /// Reads a pattern line as Git does. Each line has a pattern, which may be empty; `\!` and `\#` at the front keep their backslash.
+    /// [`Pattern::matches_path_as_git`] and [`decide::Lists::as_git`](crate::decide::Lists::as_git) match it so. The other crate has
+    /// no such call.
+    ///
+    /// ```
+    /// let pattern = gix_glob::Pattern::from_git_line(b"\\!foo");
+    /// assert_eq!(pattern.text, "\\!foo");
+    /// assert_eq!(gix_glob::Pattern::from_git_line(b"\t").text, "\t");
+    /// ```
+    pub fn from_git_line(text: &[u8]) -> Self {
+        let reading = library::parse_as_git(text);
+        Pattern {
+            text: text[reading.text].into(),
+            mode: Mode::from_bits_retain(reading.mode),
+            first_wildcard_pos: reading.first_wildcard_pos,
+        }
+    }
+
     /// Reads a pattern line in which `!`, `\!` and `\#` at the front are a part of the text. One slash is taken off each end all
     /// the same.
     ///

@@ -102,6 +102,24 @@ impl Pattern {
         path.get(start..).is_some_and(|subject| self.matches_bytes(subject, mode))
     }
 
+    /// Whether the pattern matches a path as Git has it, told from the folder of the pattern's file: what a pattern with a slash has before
+    /// its first `*`, `?`, `[` or `\` is compared by itself, and what follows is a pattern of its own; and with [`Case::Fold`] members of
+    /// sets and escaped letters stay as they are. The other crate has no such call.
+    ///
+    /// A path that is empty, has a slash at its front or end, or two in a row, is matched by nothing.
+    ///
+    /// ```
+    /// use gix_glob::{Pattern, pattern::Case};
+    ///
+    /// let pattern = Pattern::from_git_line(b"a**/b");
+    /// assert!(pattern.matches_path_as_git("ax/y/b".into(), false, Case::Sensitive));
+    /// assert!(!Pattern::from_git_line(b"[A]").matches_path_as_git("a".into(), false, Case::Fold));
+    /// ```
+    pub fn matches_path_as_git(&self, path: &BStr, is_dir: bool, case: Case) -> bool {
+        let parts = library::Parts::new(&self.text, self.mode.bits(), self.first_wildcard_pos, library::AS_GIT);
+        library::matches_path(&parts, path, is_dir, case == Case::Fold)
+    }
+
     /// Whether the text matches the whole of a value, as [`wildmatch()`](crate::wildmatch()) answers, by a comparison where one
     /// is enough. Of the pattern's mode `ENDS_WITH` alone counts.
     ///

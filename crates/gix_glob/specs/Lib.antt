@@ -10,11 +10,13 @@ pub mod Private
 pub use Rattle.glob_patterns.specs.Folding
 pub use Rattle.glob_patterns.specs.Laws.LiteralBytes
 pub use Rattle.glob_patterns.specs.GitLines
+pub use Rattle.glob_patterns.specs.GitPaths
 pub use Rattle.glob_patterns.specs.Patterns
 pub use Rattle.glob_patterns.specs.PatternParts
 pub use Rattle.glob_patterns.specs.RepositoryPaths
 pub use Rattle.glob_patterns.specs.PatternLimits
 pub use Rattle.glob_matcher.specs.Bytes
+pub use Rattle.glob_matcher.specs.Ways
 pub use Rattle.glob_matcher.specs.Sets
 pub use Rattle.glob_matcher.specs.Tokens
 pub use Rattle.glob_matcher.specs.Matching

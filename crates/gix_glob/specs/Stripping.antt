@@ -1,14 +1,15 @@
 -- Stripping a base from a path: what is left of the path, and where its last part then begins.
-use Rattle.std.specs.Prelude.{◌≡◌, ◌==◌, ◌≤◌, ⊤, ℕ, ◌-◌, ◌*◌, min, if◌then◌else◌, List, length, ◌++◌, Option, None, Some}
+use Rattle.std.specs.Prelude.{false, ◌≡◌, ◌==◌, ◌≤◌, ⊤, ℕ, ◌-◌, ◌*◌, min, if◌then◌else◌, List, length, ◌++◌, Option, None, Some}
 use Rattle.std.specs.Option.{ForSome}
 use Rattle.glob_patterns.specs.declared.pattern.case.Case.{Case}
 use Rattle.glob_patterns.specs.declared.pattern.case.Case.TheVariants.{Sensitive, Fold}
+use Rattle.glob_matcher.specs.declared.wildmatch.way.Folding.TheVariants.{Both}
 use Rattle.glob_patterns.specs.Folding.{folding_of}
 
 -- the bytes that are compared: those of the text, or where case doesn't count those after folding
 abbrev pub folding_by : Case → List ℕ → List ℕ
 folding_by Sensitive text = text
-folding_by Fold text = folding_of (record { 0 = 2 }) text
+folding_by Fold text = folding_of (record { path = false; folding = Both }) text
 
 -- the path is a front that equals the base, and then the rest
 pub record Rest (case : Case) (base path rest : List ℕ) : Type 0 where

@@ -12,11 +12,13 @@ mod lists;
 
 pub use glob_matcher::laws::{
     a_crossing_run_splits_from_before, a_double_star_splits_from_before,
-    a_local_run_splits_from_before, a_pattern_has_one_reading, each_pattern_has_a_reading,
-    no_slash_is_special_where_the_value_has_none, one_more_star_changes_nothing_in_plain_mode,
-    star_tokens_are_as_many_in_each_mode,
+    a_local_run_splits_from_before, a_pattern_has_one_reading, a_rest_is_a_pattern_of_its_own,
+    each_pattern_has_a_reading, modes_never_fold_exactly,
+    no_slash_is_special_in_ways_that_fold_alike, no_slash_is_special_where_the_value_has_none,
+    one_more_star_changes_nothing_in_plain_mode, star_tokens_are_as_many_in_each_mode,
 };
 pub use glob_patterns::laws::{
+    a_front_without_stars_behind_it_changes_nothing, both_answers_for_a_path_agree,
     both_readings_of_a_line_agree, case_counts_by_default, flags_do_not_count, git_line_is_shown,
     git_readings_are_these, line_has_one_reading, literal_text_splits_itself,
     matched_values_end_as_the_text, matched_values_have_the_literal_bytes,

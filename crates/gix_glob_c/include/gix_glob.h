@@ -49,6 +49,12 @@ extern "C" {
 #define GIX_GLOB_NEGATIVE 8u    /* the line began with '!': what it matches isn't ignored */
 #define GIX_GLOB_ABSOLUTE 16u   /* the line began with a slash */
 
+/* Whose reading a pattern is: that of the Rust crate gix-glob, or Git's own. By Git's, the bytes before the first of * ? [ and \ of
+ * a pattern with a slash are compared by themselves, and what follows is a pattern of its own; and folding leaves the members of
+ * sets and escaped letters as they are. All patterns of one call are of one reading: that of the first counts. */
+#define GIX_GLOB_AS_CRATE 0u
+#define GIX_GLOB_AS_GIT 1u
+
 /* A pattern that was read. Its text is a part of the line: keep the line where it is, and unchanged, as long as the pattern is
  * used. The struct may be copied. Fields that no call wrote together may give a wrong answer, and nothing worse, as long as
  * the text can be read. */
@@ -58,10 +64,11 @@ struct gix_glob_pattern {
     size_t first_wildcard_pos; /* the place of the first of * ? [ and \ in the text, from 0; GIX_GLOB_NONE where there is
                                   none. A call that matches takes any place past the text's end for none */
     uint32_t mode;             /* the sum of the bits that stand */
+    uint32_t reading;          /* GIX_GLOB_AS_CRATE, or any other number for GIX_GLOB_AS_GIT */
 };
 
 /* A pattern before one was read: struct gix_glob_pattern pattern = GIX_GLOB_PATTERN_INIT; */
-#define GIX_GLOB_PATTERN_INIT { (const uint8_t *)"", 0, GIX_GLOB_NONE, 0 }
+#define GIX_GLOB_PATTERN_INIT { (const uint8_t *)"", 0, GIX_GLOB_NONE, 0, GIX_GLOB_AS_CRATE }
 
 /* The bytes at a pointer, which may be NULL where there are none. */
 static inline const uint8_t *gix_glob_bytes(const void *bytes)
@@ -75,6 +82,9 @@ static inline const uint8_t *gix_glob_bytes(const void *bytes)
  *   out             receives the pattern; it stays as it was where false is answered
  * Answers whether there is a pattern: a line of white space alone, also behind a '!', has none. */
 bool gix_glob_parse(const uint8_t *line, size_t line_len, struct gix_glob_pattern *out);
+
+/* The same as Git reads it. Each line has a pattern, which may be empty. */
+void gix_glob_parse_as_git(const uint8_t *line, size_t line_len, struct gix_glob_pattern *out);
 
 /* What is left to read of an ignore file. */
 struct gix_glob_lines {
@@ -102,6 +112,10 @@ static inline struct gix_glob_lines gix_glob_lines_of(const void *bytes, size_t 
  *   has_pattern  receives whether the line has a pattern
  * Answers whether a line was left; where none was, `lines`, `out` and `has_pattern` stay as they were. */
 bool gix_glob_parse_ignore_line(struct gix_glob_lines *lines, struct gix_glob_pattern *out, bool *has_pattern);
+
+/* The same as Git reads the file: one carriage return is taken off each line, a byte 0 ends the text of a line, and only a line
+ * without bytes, or one that begins with '#', has no pattern. */
+bool gix_glob_parse_ignore_line_as_git(struct gix_glob_lines *lines, struct gix_glob_pattern *out, bool *has_pattern);
 
 /* Whether a pattern matches a path. Its '!' isn't looked at: GIX_GLOB_NEGATIVE says whether it stood there.
  *   pattern         what a call read
@@ -247,6 +261,10 @@ struct gix_glob_macro {
  * `macro` and `kind` stay as they were. */
 bool gix_glob_parse_attribute_line(struct gix_glob_lines *lines, bool is_top, uint8_t *memory, size_t memory_len,
                                    struct gix_glob_attribute_line *line, struct gix_glob_macro *macro, uint32_t *kind);
+
+/* The same, with the pattern as Git reads it. */
+bool gix_glob_parse_attribute_line_as_git(struct gix_glob_lines *lines, bool is_top, uint8_t *memory, size_t memory_len,
+                                          struct gix_glob_attribute_line *line, struct gix_glob_macro *macro, uint32_t *kind);
 
 /* The lines of one attribute file that give a pattern, and its folder. Both are borrowed. */
 struct gix_glob_attribute_list {

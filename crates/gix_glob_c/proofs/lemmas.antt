@@ -1,6 +1,7 @@
 pub mod Bits
 pub mod DecidingLemmas
 pub mod FindingLemmas
+pub mod FirstLemmas
 pub mod ListsLemmas
 pub mod Numbers
 pub mod Views

@@ -2,15 +2,16 @@
 use Rattle.std.specs.Prelude.{◌≡◌, ℕ, Bool, ◌==◌, nat_le, if◌then◌else◌, List, [], length}
 use Rattle.glob_lines.specs.Ignore.{EndsIgnoreLine, without_mark}
 use Rattle.glob_lines.specs.Lines.{CutsLine}
+use Rattle.glob_lists.specs.declared.rules.Reading.{Reading}
 use Rattle.glob_attributes.specs.declared.borrowed.telling.TextMacro.{TextMacro}
 use Rattle.glob_attributes.specs.declared.line.Silence.{Silence}
 use Rattle.glob_attributes.specs.declared.line.Silence.TheVariants.{TooLong, MacroBelowTop, MacroName, AttributeName, Negative}
 use Rattle.glob_attributes.specs.Borrowed.{assigned_by, definition_of}
-use Rattle.glob_attributes.specs.Patterns.{IsPatternOf}
+use Rattle.glob_attributes.specs.Patterns.{IsPatternAs}
 use Rattle.glob_attributes.specs.Readings.{Gives, a_macro, a_pattern, line_gives, nothing, silent}
 use Rattle.gix_glob_c.specs.declared.attribute_file.GlobAttributeLine.{GlobAttributeLine}
 use Rattle.gix_glob_c.specs.declared.ignore_file.GlobLines.{GlobLines}
-use Rattle.gix_glob_c.specs.Parsed.{IsLawful, mode_of}
+use Rattle.gix_glob_c.specs.Parsed.{IsLawful, mode_of, reading_of}
 use Rattle.gix_glob_c.specs.Parts.{unless_none}
 
 -- the bytes that are left to read: before the first line, a byte order mark isn't of them, and of a file of 100 MiB or more none is
@@ -35,12 +36,12 @@ kind_of (a_pattern bytes assignments) = 1
 kind_of (a_macro name assignments) = 2
 kind_of (silent silence) = number_of silence
 
--- the new line is what a line gives, where that is a pattern, and else it is the old one
-abbrev pub ReadsPattern : Gives → GlobAttributeLine → GlobAttributeLine → Type 0
-ReadsPattern (a_pattern bytes assignments) old new =
-    IsPatternOf bytes new.pattern.text.now (mode_of new.pattern) (unless_none new.pattern.first_wildcard_pos)
-    × IsLawful new.pattern × (assigned_by new.words.now ≡ assignments)
-ReadsPattern _ old new = new ≡ old
+-- the new line is what a line gives, where that is a pattern, by this reading, and else it is the old one
+abbrev pub ReadsPattern : Reading → Gives → GlobAttributeLine → GlobAttributeLine → Type 0
+ReadsPattern reading (a_pattern bytes assignments) old new =
+    IsPatternAs reading bytes new.pattern.text.now (mode_of new.pattern) (unless_none new.pattern.first_wildcard_pos)
+    × IsLawful new.pattern × (reading_of new.pattern ≡ reading) × (assigned_by new.words.now ≡ assignments)
+ReadsPattern reading _ old new = new ≡ old
 
 -- the same for a macro
 abbrev pub ReadsMacro : Gives → TextMacro → TextMacro → Type 0
@@ -48,13 +49,13 @@ ReadsMacro (a_macro name assignments) old new = definition_of new ≡ record { n
 ReadsMacro _ old new = new ≡ old
 
 -- what a line gives was read: a pattern, a macro, or neither
-pub record ReadsAttributes (gives : Gives) (old new : GlobAttributeLine) (old_macro new_macro : TextMacro) (number : ℕ) : Type 0 where
+pub record ReadsAttributes (reading : Reading) (gives : Gives) (old new : GlobAttributeLine) (old_macro new_macro : TextMacro) (number : ℕ) : Type 0 where
   pub kind : number ≡ kind_of gives
-  pub pattern : ReadsPattern gives old new
+  pub pattern : ReadsPattern reading gives old new
   pub definition : ReadsMacro gives old_macro new_macro
 
 -- The bytes begin with a line, which was read, and the rest follows it.
-pub record TakesAttributes (is_top : Bool) (bytes rest : List ℕ) (old new : GlobAttributeLine) (old_macro new_macro : TextMacro) (number : ℕ) : Type 0 where
+pub record TakesAttributes (reading : Reading) (is_top : Bool) (bytes rest : List ℕ) (old new : GlobAttributeLine) (old_macro new_macro : TextMacro) (number : ℕ) : Type 0 where
   pub line : List ℕ
   pub cut : CutsLine EndsIgnoreLine bytes line rest
-  pub reads : ReadsAttributes (line_gives is_top line) old new old_macro new_macro number
+  pub reads : ReadsAttributes reading (line_gives is_top line) old new old_macro new_macro number

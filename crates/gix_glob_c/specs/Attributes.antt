@@ -1,9 +1,10 @@
 -- Lists of attribute lines that C hands over, and the state that it is told.
 use Rattle.std.specs.Prelude.{ℕ, List, [], All, length, map, None, Some}
-use Rattle.std.specs.List.{sum_by}
+use Rattle.std.specs.List.{flat_map, sum_by}
 use Rattle.gix_glob.specs.Entries.{Entry}
 use Rattle.gix_glob.specs.EntryLists.{EntryList}
 use Rattle.gix_glob.specs.Paths.{IsFolder}
+use Rattle.glob_lists.specs.declared.rules.Reading.{Reading}
 use Rattle.glob_lists.specs.Paths.{Path}
 use Rattle.glob_attributes.specs.declared.assignment.State.{State}
 use Rattle.glob_attributes.specs.declared.assignment.State.TheVariants.{Set, Unset, Unspecified, Value}
@@ -12,7 +13,7 @@ use Rattle.glob_attributes.specs.States.{Assigned}
 use Rattle.gix_glob_c.specs.declared.attribute_file.GlobAttributeLine.{GlobAttributeLine}
 use Rattle.gix_glob_c.specs.declared.attributes.GlobAttributeList.{GlobAttributeList}
 use Rattle.gix_glob_c.specs.declared.paths.GlobPath.{GlobPath}
-use Rattle.gix_glob_c.specs.Parsed.{IsLawful, first_of, mode_of}
+use Rattle.gix_glob_c.specs.Parsed.{IsLawful, first_of, mode_of, reading_of_all}
 
 -- the line as an entry, whose value is what its words assign
 abbrev pub entry_of_line : GlobAttributeLine → Entry (List Assigned)
@@ -32,6 +33,10 @@ attribute_list list = record { entries = map entry_of_line list.lines.now; sourc
 pub record IsLawfulAttributes (list : GlobAttributeList) : Type 0 where
   pub folder : IsFolder list.base.now
   pub lines : All (λ (line : GlobAttributeLine). IsLawful line.pattern) list.lines.now
+
+-- whose reading counts for the lines of a call: that of the first
+abbrev pub reading_of_lines : List GlobAttributeList → Reading
+reading_of_lines lists = reading_of_all (flat_map (λ list. map (λ (line : GlobAttributeLine). line.pattern) list.lines.now) lists)
 
 -- how many lines the lists have
 abbrev pub line_count : List GlobAttributeList → ℕ

@@ -1,8 +1,10 @@
 -- The lists that C hands over, and the pair of places that it is told.
 use Rattle.std.specs.Prelude.{◌≡◌, ℕ, ◌<◌, Bool, List, All, length, map, slice_get, Option, None, Some, if◌then◌else◌}
+use Rattle.std.specs.List.{flat_map}
 use Rattle.gix_glob.specs.EntryLists.{EntryList}
+use Rattle.glob_lists.specs.declared.rules.Reading.{Reading}
 use Rattle.gix_glob.specs.Paths.{IsFolder}
-use Rattle.gix_glob_c.specs.Parsed.{IsLawful, entry_of_parts}
+use Rattle.gix_glob_c.specs.Parsed.{IsLawful, entry_of_parts, reading_of_all}
 use Rattle.gix_glob_c.specs.declared.tree.GlobDecision.{GlobDecision}
 use Rattle.gix_glob_c.specs.declared.tree.GlobList.{GlobList}
 
@@ -14,6 +16,10 @@ pub record IsLawfulList (list : GlobList) : Type 0 where
 -- the list as plain data
 abbrev pub entry_list : GlobList → EntryList (Unit {0})
 entry_list list = record { entries = map entry_of_parts list.patterns.now; source = None; base = Some list.base.now }
+
+-- whose reading counts for the lists of a call: that of their first pattern
+abbrev pub reading_of_lists : List GlobList → Reading
+reading_of_lists lists = reading_of_all (flat_map (λ list. list.patterns.now) lists)
 
 -- a pattern of the lists stands at this pair of places
 pub record HasPatternAt (lists : List GlobList) (pair : ℕ × ℕ) : Type 0 where

@@ -1,11 +1,22 @@
 -- What the numbers that cross from C stand for.
 use Rattle.std.specs.Prelude.{ℕ, ◌-◌, ◌^◌, Bool, List, length, ◌==◌, nat_lt, Option, None, Some, if◌then◌else◌}
 use Rattle.gix_glob.specs.declared.pattern.Case.{Case}
+use Rattle.glob_lists.specs.declared.rules.Rules.{Rules}
+use Rattle.glob_lists.specs.declared.rules.Reading.{Reading}
+use Rattle.glob_lists.specs.declared.rules.Reading.TheVariants.{Crate, Git}
 use Rattle.gix_glob.specs.declared.pattern.Case.TheVariants.{Sensitive, Fold}
 
 -- the case that the flag asks for
 abbrev pub case_of : Bool → Case
 case_of fold = if fold then Fold else Sensitive
+
+-- whose reading a number stands for: 0 for the ported crate's, any other for Git's
+abbrev pub reading_told : ℕ → Reading
+reading_told number = if number == 0 then Crate else Git
+
+-- the rules by which patterns of a reading are matched
+abbrev pub rules_of : Reading → Bool → Rules
+rules_of reading fold = record { case = case_of fold; reading = reading }
 
 -- a place that C hands over: one past the text's end stands for none
 abbrev pub place_in : List ℕ → ℕ → Option ℕ

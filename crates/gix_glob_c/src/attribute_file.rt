@@ -3,6 +3,7 @@ ghost use Rattle.std.specs.Prelude.{◌≡◌, ◌↔◌, ◌≤◌, ◌+◌, �
 ghost use Rattle.glob_lines.specs.Ignore.{EndsIgnoreLine};
 ghost use Rattle.glob_lines.specs.Lines.{CutsLine};
 ghost use Rattle.glob_lines.specs.Memory.{end_of};
+ghost use Rattle.glob_lists.specs.declared.rules.Reading.TheVariants.{Crate, Git};
 ghost use Rattle.glob_attributes.specs.Borrowed.{GivesParts};
 ghost use Rattle.glob_attributes.specs.Readings.{Gives};
 ghost use Rattle.gix_glob_c.specs.AttributeFile.{ReadsAttributes, TakesAttributes, number_of, unread_of_file};
@@ -12,6 +13,7 @@ use crate::parsed::{GlobPattern, parts_of};
 use glob_attributes::borrowed::{LineParts, TextMacro, line_parts};
 use glob_attributes::{FILE_LIMIT, Silence};
 use glob_lines::{next_ended_line, without_byte_order_mark};
+use glob_lists::Reading;
 
 /// `struct gix_glob_attribute_line`: a pattern, and what the paths are assigned that it matches.
 #[repr(C)]
@@ -42,18 +44,56 @@ pub extern "C" fn gix_glob_parse_attribute_line<'a>(
     ensures ended { length lines.old.rest.now ≤ length memory.old → (result ≡ false) ↔ (unread_of_file lines.old ≡ []) }
     ensures kept { result ≡ false → (lines.new ≡ lines.old) × (out.new ≡ out.old) × (definition.new ≡ definition.old) × (kind.new ≡ kind.old) }
     ensures place { end_of lines.new.rest ≡ end_of lines.old.rest }
-    ensures taken { result ≡ true → TakesAttributes is_top (unread_of_file lines.old) lines.new.rest.now out.old out.new definition.old definition.new kind.new }
+    ensures taken { result ≡ true → TakesAttributes Crate is_top (unread_of_file lines.old) lines.new.rest.now out.old out.new definition.old definition.new kind.new }
+    ensures number { result ≡ true → lines.new.number ≡ min (lines.old.number + 1) (2 ^ 64 - 1) }
+{
+    take_line(lines, is_top, Reading::Crate, memory, out, definition, kind)
+}
+
+/// The same, with the pattern as Git reads it.
+#[unsafe(no_mangle)]
+pub extern "C" fn gix_glob_parse_attribute_line_as_git<'a>(
+    lines: &mut GlobLines<'a>,
+    is_top: bool,
+    memory: &'a mut [u8],
+    out: &mut GlobAttributeLine<'a>,
+    definition: &mut TextMacro<'a>,
+    kind: &mut u32,
+) -> bool
+    ensures ended { length lines.old.rest.now ≤ length memory.old → (result ≡ false) ↔ (unread_of_file lines.old ≡ []) }
+    ensures kept { result ≡ false → (lines.new ≡ lines.old) × (out.new ≡ out.old) × (definition.new ≡ definition.old) × (kind.new ≡ kind.old) }
+    ensures place { end_of lines.new.rest ≡ end_of lines.old.rest }
+    ensures taken { result ≡ true → TakesAttributes Git is_top (unread_of_file lines.old) lines.new.rest.now out.old out.new definition.old definition.new kind.new }
+    ensures number { result ≡ true → lines.new.number ≡ min (lines.old.number + 1) (2 ^ 64 - 1) }
+{
+    take_line(lines, is_top, Reading::Git, memory, out, definition, kind)
+}
+
+/// Takes the next line off an attribute file, and reads its pattern by a reading.
+fn take_line<'a>(
+    lines: &mut GlobLines<'a>,
+    is_top: bool,
+    reading: Reading,
+    memory: &'a mut [u8],
+    out: &mut GlobAttributeLine<'a>,
+    definition: &mut TextMacro<'a>,
+    kind: &mut u32,
+) -> bool
+    ensures ended { length lines.old.rest.now ≤ length memory.old → (result ≡ false) ↔ (unread_of_file lines.old ≡ []) }
+    ensures kept { result ≡ false → (lines.new ≡ lines.old) × (out.new ≡ out.old) × (definition.new ≡ definition.old) × (kind.new ≡ kind.old) }
+    ensures place { end_of lines.new.rest ≡ end_of lines.old.rest }
+    ensures taken { result ≡ true → TakesAttributes reading is_top (unread_of_file lines.old) lines.new.rest.now out.old out.new definition.old definition.new kind.new }
     ensures number { result ≡ true → lines.new.number ≡ min (lines.old.number + 1) (2 ^ 64 - 1) }
 {
     let Some((line, rest)) = next_line(lines) else {
         return false;
     };
-    let Some(parts) = line_parts(line, is_top, memory) else {
+    let Some(parts) = line_parts(line, is_top, reading, memory) else {
         return false;
     };
     lines.rest = rest;
     lines.number = lines.number.saturating_add(1);
-    *kind = write_parts(parts, out, definition);
+    *kind = write_parts(parts, reading, out, definition);
     true
 }
 
@@ -84,17 +124,18 @@ fn unread<'a>(lines: &GlobLines<'a>) -> &'a [u8]
 /// Writes what a line gives to its place, and answers its kind.
 fn write_parts<'a>(
     parts: LineParts<'a>,
+    reading: Reading,
     out: &mut GlobAttributeLine<'a>,
     definition: &mut TextMacro<'a>,
 ) -> u32
-    requires { (gives : Gives) × GivesParts gives parts }
-    ensures { (gives : Gives) → GivesParts gives parts.entry → ReadsAttributes gives out.old out.new definition.old definition.new result }
+    requires { (gives : Gives) × GivesParts reading gives parts }
+    ensures { (gives : Gives) → GivesParts reading gives parts.entry → ReadsAttributes reading gives out.old out.new definition.old definition.new result }
 {
     match parts {
         LineParts::Nothing => 0,
         LineParts::Pattern { pattern, words } => {
             *out = GlobAttributeLine {
-                pattern: parts_of(pattern),
+                pattern: parts_of(pattern, reading),
                 words,
             };
             1

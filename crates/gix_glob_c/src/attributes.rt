@@ -1,23 +1,23 @@
 //! The state of an attribute for a path: `struct gix_glob_attributes` of the header.
 ghost use Rattle.std.specs.Prelude.{◌≡◌, ◌<◌, ◌≤◌, ◌+◌, ◌++◌, ℕ, All, IfSome, List, drop, is_some, length, map, true, false};
 ghost use Rattle.std.specs.List.{flat_map};
-ghost use Rattle.gix_glob_c.specs.Attributes.{IsLawfulAttributes, attribute_list, line_count, path_asked, told_of};
+ghost use Rattle.gix_glob_c.specs.Attributes.{IsLawfulAttributes, attribute_list, line_count, path_asked, reading_of_lines, told_of};
 ghost use Rattle.gix_glob_c.specs.Private.Finding.{IsFoundUpTo, lines_at};
 ghost use Rattle.gix_glob_c.specs.Parsed.{IsPathOfFile};
-ghost use Rattle.gix_glob_c.specs.Parts.{case_of};
+ghost use Rattle.gix_glob_c.specs.Parts.{rules_of};
 ghost use Rattle.glob_attributes.specs.Views.{state_with};
 ghost use Rattle.glob_attributes.specs.Borrowed.{assigned_by, definition_of, row_of};
 ghost use Rattle.glob_attributes.specs.States.{Assigned, IsAssigned, assigned_at, state_in};
 ghost use Rattle.glob_lists.specs.Index.{AreMatches};
 
 use crate::attribute_file::GlobAttributeLine;
-use crate::case_of;
 use crate::parsed::{is_matched, path_of_file};
 use crate::paths::GlobPath;
+use crate::rules_of;
 use crate::tree::is_folder;
 use glob_attributes::State;
 use glob_attributes::borrowed::{Text, TextMacro, tell_state};
-use glob_lists::RepositoryPath;
+use glob_lists::{Reading, RepositoryPath, Rules};
 
 /// `struct gix_glob_attribute_list`: the lines of one attribute file that give a pattern, and its folder.
 #[repr(C)]
@@ -51,7 +51,7 @@ pub struct GlobState<'a> {
 
 /// The state of an attribute for a path, as [`PathAttributes`](glob_attributes::PathAttributes) has it. `texts` and `marks` are
 /// memory that is written to: as many texts as there are lines in all lists, and one for each macro, suffice; and a mark for each
-/// macro; further marks stay as they were. `false` is answered, and `out` left as it was, where there are too few, or the path is
+/// macro; further marks stay as they were. The reading of the first line's pattern counts for all. `false` is answered, and `out` left as it was, where there are too few, or the path is
 /// empty, has a slash at its front or end, or two in a row.
 #[unsafe(no_mangle)]
 pub extern "C" fn gix_glob_attribute_of<'a>(
@@ -69,13 +69,14 @@ pub extern "C" fn gix_glob_attribute_of<'a>(
         → length attributes.now.macros.now ≤ length marks.old → result ≡ true }
     ensures marks { drop (length attributes.now.macros.now) marks.new ≡ drop (length attributes.now.macros.now) marks.old }
     ensures exact { All IsLawfulAttributes attributes.now.lists.now → result ≡ true → (filled : List Assigned)
-        × IsAssigned (map attribute_list attributes.now.lists.now) (map definition_of attributes.now.macros.now) (path_asked path.now) (case_of fold) filled
+        × IsAssigned (map attribute_list attributes.now.lists.now) (map definition_of attributes.now.macros.now) (path_asked path.now) (rules_of (reading_of_lines attributes.now.lists.now) fold) filled
         × ((out.new.kind, out.new.value.now) ≡ told_of (state_in filled name.now)) }
 {
     let Some(asked) = path_of_file(path.bytes, path.is_dir) else {
         return false;
     };
-    let Some(count) = push_matches(attributes.lists, &asked, fold, texts) else {
+    let rules = rules_of(reading_of_lines(attributes.lists), fold);
+    let Some(count) = push_matches(attributes.lists, &asked, rules, texts) else {
         return false;
     };
     let macros = attributes.macros;
@@ -88,6 +89,18 @@ pub extern "C" fn gix_glob_attribute_of<'a>(
     };
     *out = told_of(&state);
     true
+}
+
+/// Whose reading counts for the lines of a call: that of the first.
+fn reading_of_lines(lists: &[GlobAttributeList<'_>]) -> Reading
+    ensures { result ≡ reading_of_lines lists.now }
+{
+    for i in 0..lists.len() {
+        if let [first, ..] = lists[i].lines {
+            return first.pattern.reading();
+        }
+    }
+    Reading::Crate
 }
 
 /// What C is told of a state.
@@ -116,11 +129,11 @@ fn told_of<'a>(state: &State<&'a [u8]>) -> GlobState<'a>
 fn push_matches<'a>(
     lists: &[GlobAttributeList<'a>],
     path: &RepositoryPath<'_>,
-    fold: bool,
+    rules: Rules,
     texts: &mut [Text<'a>],
 ) -> Option<usize>
     ensures row { All IsLawfulAttributes lists.now → IfSome result (λ count. (pairs : List (ℕ × ℕ))
-        × AreMatches (map attribute_list lists.now) path.now.bytes path.now.is_dir (case_of fold) pairs
+        × AreMatches (map attribute_list lists.now) path.now.bytes path.now.is_dir rules pairs
         × (row_of texts.new count ≡ flat_map (assigned_at (map attribute_list lists.now)) pairs)) }
     ensures inside { IfSome result (λ count. count ≤ length texts.new) }
     ensures fewer { IfSome result (λ count. count ≤ line_count lists.now) }
@@ -129,7 +142,7 @@ fn push_matches<'a>(
 {
     let mut count = 0;
     'lists: for i in 0..lists.len() {
-        count = push_list(lists, i, path, fold, texts, count)?;
+        count = push_list(lists, i, path, rules, texts, count)?;
     }
     Some(count)
 }
@@ -139,14 +152,14 @@ fn push_list<'a>(
     lists: &[GlobAttributeList<'a>],
     i: usize,
     path: &RepositoryPath<'_>,
-    fold: bool,
+    rules: Rules,
     texts: &mut [Text<'a>],
     before: usize,
 ) -> Option<usize>
     requires list { i < length lists.now }
     requires inside { before ≤ length texts.old }
-    ensures row { All IsLawfulAttributes lists.now → IsFoundUpTo lists.now path.now (case_of fold) i 0 (row_of texts.old before) → IfSome result (λ count.
-        IsFoundUpTo lists.now path.now (case_of fold) (i + 1) 0 (row_of texts.new count)) }
+    ensures row { All IsLawfulAttributes lists.now → IsFoundUpTo lists.now path.now rules i 0 (row_of texts.old before) → IfSome result (λ count.
+        IsFoundUpTo lists.now path.now rules (i + 1) 0 (row_of texts.new count)) }
     ensures inside { IfSome result (λ count. count ≤ length texts.new) }
     ensures fewer { IfSome result (λ count. count ≤ before + lines_at lists.now i) }
     ensures room { before + lines_at lists.now i ≤ length texts.old → is_some result ≡ true }
@@ -156,13 +169,13 @@ fn push_list<'a>(
     if !is_folder(list.base) {
         return Some(before);
     }
-    let Some(rest) = path.below(list.base, case_of(fold)) else {
+    let Some(rest) = path.below(list.base, rules.case) else {
         return Some(before);
     };
     let lines = list.lines;
     let mut count = before;
     'lines: for m in 0..lines.len() {
-        if is_matched(&lines[m].pattern, &rest, fold) {
+        if is_matched(&lines[m].pattern, &rest, rules) {
             count = push(texts, count, lines[m].words)?;
         }
     }

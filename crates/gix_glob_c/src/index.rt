@@ -2,15 +2,15 @@
 ghost use Rattle.std.specs.Prelude.{◌≡◌, ◌↔◌, ◌⊎◌, ◌^◌, ◌<◌, ◌≤◌, ℕ, [], ◌∷◌, All, IfSome, drop, length, map, option_map, take, true, false};
 ghost use Rattle.glob_lists.specs.Deciding.{Decides};
 ghost use Rattle.glob_lists.specs.Prepared.{ArePrepared};
-ghost use Rattle.gix_glob_c.specs.Parsed.{IsLawful, IsPathOfFile, entry_of_parts, list_of};
+ghost use Rattle.gix_glob_c.specs.Parsed.{IsLawful, IsPathOfFile, entry_of_parts, list_of, reading_of_all};
 ghost use Rattle.gix_glob_c.specs.Indexed.{IsIndex};
-ghost use Rattle.gix_glob_c.specs.Parts.{case_of, none, unless_none};
+ghost use Rattle.gix_glob_c.specs.Parts.{none, rules_of, unless_none};
 
-use crate::case_of;
-use crate::parsed::{GlobPattern, NONE, last_match, path_of_file};
+use crate::parsed::{GlobPattern, NONE, last_match, path_of_file, reading_of_all};
+use crate::rules_of;
 use gix_glob::pattern::PatternView;
 use glob_lists::prepared::{self, Heads, Viewed};
-use glob_lists::{RepositoryPath, Row};
+use glob_lists::{RepositoryPath, Row, Rules};
 
 /// `struct gix_glob_index`: patterns, and what `gix_glob_prepare` wrote for them.
 #[repr(C)]
@@ -66,26 +66,27 @@ pub extern "C" fn gix_glob_index_last_match(
     ensures none { (result ≡ none) ⊎ (result < length index.now.patterns.now) }
     ensures other { ¬ IsPathOfFile path.now → result ≡ none }
     ensures exact { All IsLawful index.now.patterns.now → IsIndex index.now → IsPathOfFile path.now
-        → Decides (list_of index.now.patterns.now ∷ []) path.now is_dir (case_of fold) (option_map (λ (index : ℕ). (0, index)) (unless_none result)) }
+        → Decides (list_of index.now.patterns.now ∷ []) path.now is_dir (rules_of (reading_of_all index.now.patterns.now) fold) (option_map (λ (index : ℕ). (0, index)) (unless_none result)) }
 {
     let Some(path) = path_of_file(path, is_dir) else {
         return NONE;
     };
-    match last_by_index(index, &path, fold) {
+    let rules = rules_of(reading_of_all(index.patterns), fold);
+    match last_by_index(index, &path, rules) {
         Some(place) => place,
         None => NONE,
     }
 }
 
 /// The index of the last of the patterns that matches a path.
-fn last_by_index(index: &GlobIndex<'_>, path: &RepositoryPath<'_>, fold: bool) -> Option<usize>
+fn last_by_index(index: &GlobIndex<'_>, path: &RepositoryPath<'_>, rules: Rules) -> Option<usize>
     ensures inside { IfSome result (λ place. place < length index.now.patterns.now) }
     ensures some { IfSome result (λ place. place < none) }
     ensures exact { All IsLawful index.now.patterns.now → IsIndex index.now
-        → Decides (list_of index.now.patterns.now ∷ []) path.now.bytes path.now.is_dir (case_of fold) (option_map (λ (index : ℕ). (0, index)) result) }
+        → Decides (list_of index.now.patterns.now ∷ []) path.now.bytes path.now.is_dir rules (option_map (λ (index : ℕ). (0, index)) result) }
 {
     if !prepared::pays_for(index.patterns.len(), index.rows) {
-        return last_match(index.patterns, path, fold);
+        return last_match(index.patterns, path, rules);
     }
-    prepared::last_match(index.patterns, index.rows, index.heads, path, case_of(fold))
+    prepared::last_match(index.patterns, index.rows, index.heads, path, rules)
 }

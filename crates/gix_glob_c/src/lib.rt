@@ -3,11 +3,12 @@
 
 ghost use Rattle.std.specs.Prelude.{◌≡◌, ◌↔◌, true, false, IsTrue, None};
 ghost use Rattle.gix_glob.specs.Bytes.{HasByte, slash};
+ghost use Rattle.glob_lists.specs.declared.rules.Reading.TheVariants.{Crate};
 ghost use Rattle.glob_lists.specs.Deciding.{AnswersUnder};
 ghost use Rattle.gix_glob.specs.Entries.{Entry};
 ghost use Rattle.gix_glob.specs.Matching.{Splits};
 ghost use Rattle.gix_glob.specs.Patterns.{HasReading, IsPattern, Reads};
-ghost use Rattle.gix_glob_c.specs.Parts.{case_of, place_in};
+ghost use Rattle.gix_glob_c.specs.Parts.{case_of, place_in, rules_of};
 
 pub mod attribute_file;
 pub mod attributes;
@@ -22,6 +23,7 @@ use bitflags::Flags;
 use gix_glob::laws::line_has_one_reading;
 use gix_glob::pattern::{Case, PatternView, basename_start};
 use gix_glob::wildmatch::{Mode, wildmatch};
+use glob_lists::{Reading, Rules};
 
 /// Whether the pattern matches the whole of the value. The bit of value 1 in `mode` is path
 /// mode, that of value 2 folds; other bits don't count.
@@ -39,7 +41,7 @@ pub extern "C" fn gix_glob_matches_path(line: &[u8], path: &[u8], is_dir: bool, 
     ensures blank { ¬ HasReading line.now true → result ≡ false }
     ensures absolute { HasByte path.now 0 slash → result ≡ false }
     ensures answers { (entry : Entry (Unit {0})) → Reads line.now true entry.text entry.mode entry.place → ¬ HasByte path.now 0 slash
-        → (IsTrue result ↔ AnswersUnder None entry path.now is_dir (case_of fold)) }
+        → (IsTrue result ↔ AnswersUnder None entry path.now is_dir (rules_of Crate fold)) }
 {
     // a law does nothing: it is called for what it ensures
     line_has_one_reading();
@@ -75,6 +77,7 @@ pub extern "C" fn gix_glob_matches(
         text,
         first_wildcard_pos,
         mode: pattern_mode,
+        reading: 0,
     };
     let view = parts.view();
     view.matches(value, Mode::from_bits_retain(mode))
@@ -88,6 +91,16 @@ fn place_in(text: &[u8], place: usize) -> Option<usize>
         Some(place)
     } else {
         None
+    }
+}
+
+/// The rules by which patterns of a reading are matched, with the case that `fold` asks for.
+fn rules_of(reading: Reading, fold: bool) -> Rules
+    ensures { result ≡ rules_of reading fold }
+{
+    Rules {
+        case: case_of(fold),
+        reading,
     }
 }
 

@@ -2,13 +2,13 @@
 ghost use Rattle.std.specs.Prelude.{◌≡◌, ◌<◌, ◌⊎◌, ◌↔◌, ℕ, [], ◌∷◌, length, All, IsTrue, IfSome, MatchOption, None, option_map, true, false};
 ghost use Rattle.glob_lists.specs.Deciding.{AnswersUnder, Decides};
 ghost use Rattle.gix_glob.specs.Patterns.{HasReading, IsPattern, is_blank, is_negative, without_negation};
-ghost use Rattle.gix_glob_c.specs.Parsed.{IsLawful, IsPathOfFile, IsRead, entry_of_parts, first_of, list_of, mode_of};
-ghost use Rattle.gix_glob_c.specs.Parts.{case_of, none, unless_none};
+ghost use Rattle.gix_glob_c.specs.Parsed.{IsLawful, IsPathOfFile, IsRead, IsReadAsGit, entry_of_parts, first_of, list_of, mode_of, reading_of, reading_of_all};
+ghost use Rattle.gix_glob_c.specs.Parts.{none, reading_told, rules_of, unless_none};
 
-use crate::{case_of, place_in};
+use crate::{place_in, rules_of};
 use bitflags::Flags;
 use gix_glob::pattern::{Mode, PatternView};
-use glob_lists::RepositoryPath;
+use glob_lists::{Reading, RepositoryPath, Rules};
 
 /// What stands for no place and for no index.
 pub(crate) const NONE: usize = usize::MAX;
@@ -24,9 +24,22 @@ pub struct GlobPattern<'a> {
     pub first_wildcard_pos: usize,
     /// The bits of what is known of the text and of what stood around it.
     pub mode: u32,
+    /// Whose reading it is: 0 for the ported crate's, any other number for Git's. The calls that read a pattern write 0 or 1.
+    pub reading: u32,
 }
 
 impl<'a> GlobPattern<'a> {
+    /// Whose reading it is.
+    pub(crate) fn reading(&self) -> Reading
+        ensures { result ≡ reading_of self.now }
+    {
+        if self.reading == 0 {
+            Reading::Crate
+        } else {
+            Reading::Git
+        }
+    }
+
     /// The same parts, as Rust keeps them.
     pub(crate) fn view(&self) -> PatternView<'a>
         ensures text { result.text.now ≡ self.now.text.now }
@@ -51,14 +64,22 @@ pub extern "C" fn gix_glob_parse<'a>(line: &'a [u8], out: &mut GlobPattern<'a>) 
 {
     match PatternView::from_bytes(line) {
         Some(view) => {
-            *out = parts_of(view);
+            *out = parts_of(view, Reading::Crate);
             true
         }
         None => false,
     }
 }
 
-/// Whether a pattern matches a path, in path mode. The path is that from the folder of the pattern's file on: it isn't
+/// Reads a pattern line as Git does, as `Pattern::from_git_line` reads it. Each line has a pattern.
+#[unsafe(no_mangle)]
+pub extern "C" fn gix_glob_parse_as_git<'a>(line: &'a [u8], out: &mut GlobPattern<'a>)
+    ensures { IsReadAsGit line.now out.new }
+{
+    *out = parts_of(PatternView::from_git_line(line), Reading::Git);
+}
+
+/// Whether a pattern matches a path, in path mode, by its reading. The path is that from the folder of the pattern's file on: it isn't
 /// empty, has no slash at its front or end, and no two in a row; any other is matched by nothing.
 #[unsafe(no_mangle)]
 pub extern "C" fn gix_glob_pattern_matches_path(
@@ -69,16 +90,16 @@ pub extern "C" fn gix_glob_pattern_matches_path(
 ) -> bool
     ensures other { ¬ IsPathOfFile path.now → result ≡ false }
     ensures exact { IsLawful pattern.now → IsPathOfFile path.now
-        → (IsTrue result ↔ AnswersUnder None (entry_of_parts pattern.now) path.now is_dir (case_of fold)) }
+        → (IsTrue result ↔ AnswersUnder None (entry_of_parts pattern.now) path.now is_dir (rules_of (reading_of pattern.now) fold)) }
 {
     let Some(path) = path_of_file(path, is_dir) else {
         return false;
     };
-    is_matched(pattern, &path, fold)
+    is_matched(pattern, &path, rules_of(pattern.reading(), fold))
 }
 
 /// The index of the last of the patterns that matches a path, as [`gix_glob_pattern_matches_path`] answers; `usize::MAX`
-/// where none does.
+/// where none does. The reading of the first counts for all.
 #[unsafe(no_mangle)]
 pub extern "C" fn gix_glob_last_match(
     patterns: &[GlobPattern<'_>],
@@ -89,14 +110,24 @@ pub extern "C" fn gix_glob_last_match(
     ensures none { (result ≡ none) ⊎ (result < length patterns.now) }
     ensures other { ¬ IsPathOfFile path.now → result ≡ none }
     ensures exact { All IsLawful patterns.now → IsPathOfFile path.now
-        → Decides (list_of patterns.now ∷ []) path.now is_dir (case_of fold) (option_map (λ (index : ℕ). (0, index)) (unless_none result)) }
+        → Decides (list_of patterns.now ∷ []) path.now is_dir (rules_of (reading_of_all patterns.now) fold) (option_map (λ (index : ℕ). (0, index)) (unless_none result)) }
 {
     let Some(path) = path_of_file(path, is_dir) else {
         return NONE;
     };
-    match last_match(patterns, &path, fold) {
+    match last_match(patterns, &path, rules_of(reading_of_all(patterns), fold)) {
         Some(index) => index,
         None => NONE,
+    }
+}
+
+/// Whose reading counts for the patterns of a call: that of the first.
+pub(crate) fn reading_of_all(patterns: &[GlobPattern<'_>]) -> Reading
+    ensures { result ≡ reading_of_all patterns.now }
+{
+    match patterns {
+        [first, ..] => first.reading(),
+        [] => Reading::Crate,
     }
 }
 
@@ -104,33 +135,45 @@ pub extern "C" fn gix_glob_last_match(
 pub(crate) fn last_match(
     patterns: &[GlobPattern<'_>],
     path: &RepositoryPath<'_>,
-    fold: bool,
+    rules: Rules,
 ) -> Option<usize>
     ensures inside { IfSome result (λ index. index < length patterns.now) }
     ensures some { IfSome result (λ index. index < none) }
     ensures exact { All IsLawful patterns.now
-        → Decides (list_of patterns.now ∷ []) path.now.bytes path.now.is_dir (case_of fold) (option_map (λ (index : ℕ). (0, index)) result) }
+        → Decides (list_of patterns.now ∷ []) path.now.bytes path.now.is_dir rules (option_map (λ (index : ℕ). (0, index)) result) }
 {
     for i in (0..patterns.len()).rev() {
-        if is_matched(&patterns[i], path, fold) {
+        if is_matched(&patterns[i], path, rules) {
             return Some(i);
         }
     }
     None
 }
 
-/// The parts of a pattern, as C keeps them.
-pub(crate) fn parts_of<'a>(view: PatternView<'a>) -> GlobPattern<'a>
+/// The parts of a pattern of a reading, as C keeps them.
+pub(crate) fn parts_of<'a>(view: PatternView<'a>, reading: Reading) -> GlobPattern<'a>
     requires { IsPattern view.text.now view.mode view.first_wildcard_pos }
     ensures text { result.text.now ≡ view.entry.text.now }
     ensures mode { mode_of result ≡ view.entry.mode }
     ensures place { first_of result ≡ view.entry.first_wildcard_pos }
     ensures told { unless_none result.first_wildcard_pos ≡ view.entry.first_wildcard_pos }
+    ensures reading { reading_of result ≡ reading }
 {
     GlobPattern {
         text: view.text,
         first_wildcard_pos: view.first_wildcard_pos.unwrap_or(NONE),
         mode: view.mode.bits(),
+        reading: number_of(reading),
+    }
+}
+
+/// The number of a reading.
+fn number_of(reading: Reading) -> u32
+    ensures { reading_told result ≡ reading }
+{
+    match reading {
+        Reading::Crate => 0,
+        Reading::Git => 1,
     }
 }
 
@@ -154,9 +197,9 @@ pub(crate) fn is_negative(pattern: &GlobPattern<'_>) -> bool
 }
 
 /// Whether a pattern matches a path.
-pub(crate) fn is_matched(pattern: &GlobPattern<'_>, path: &RepositoryPath<'_>, fold: bool) -> bool
+pub(crate) fn is_matched(pattern: &GlobPattern<'_>, path: &RepositoryPath<'_>, rules: Rules) -> bool
     ensures { IsLawful pattern.now →
-        (IsTrue result ↔ AnswersUnder None (entry_of_parts pattern.now) path.now.bytes path.now.is_dir (case_of fold)) }
+        (IsTrue result ↔ AnswersUnder None (entry_of_parts pattern.now) path.now.bytes path.now.is_dir rules) }
 {
-    path.is_matched_by(pattern.view(), case_of(fold))
+    path.is_matched_by(pattern.view(), rules)
 }

@@ -5,15 +5,14 @@ ghost use Rattle.gix_glob.specs.Paths.{IsFolder};
 ghost use Rattle.gix_glob.specs.Patterns.{is_negative};
 ghost use Rattle.glob_lists.specs.Deciding.{AnswersAt};
 ghost use Rattle.glob_trees.specs.Trees.{DecidesInTree};
-ghost use Rattle.gix_glob_c.specs.Lists.{HasPatternAt, IsLawfulList, entry_list, pair_told};
+ghost use Rattle.gix_glob_c.specs.Lists.{HasPatternAt, IsLawfulList, entry_list, pair_told, reading_of_lists};
 ghost use Rattle.gix_glob_c.specs.Parsed.{IsPathOfFile, mode_of};
 ghost use Rattle.gix_glob_c.specs.declared.parsed.GlobPattern.{GlobPattern};
-ghost use Rattle.gix_glob_c.specs.Parts.{case_of};
+ghost use Rattle.gix_glob_c.specs.Parts.{rules_of};
 
-use crate::case_of;
 use crate::parsed::{GlobPattern, is_negative, last_match, path_of_file};
-use gix_glob::pattern::Case;
-use glob_lists::{ListStack, RepositoryPath};
+use crate::rules_of;
+use glob_lists::{ListStack, Reading, RepositoryPath, Rules};
 use glob_trees::decide_in_tree_by;
 
 /// `struct gix_glob_list`: the patterns of one file, and its folder.
@@ -37,7 +36,8 @@ pub struct GlobDecision {
 }
 
 /// Which pattern decides about a path in a work tree, as [`decide_in_tree`](glob_trees::decide_in_tree) answers it: the one that
-/// ignores the topmost ignored folder above the path, and where none is ignored, the last one that matches the path. `false` is
+/// ignores the topmost ignored folder above the path, and where none is ignored, the last one that matches the path. The reading of the
+/// lists' first pattern counts for all. `false` is
 /// answered, and `out` left as it was, where none decides, or the path is empty, has a slash at its front or end, or two in a row.
 #[unsafe(no_mangle)]
 pub extern "C" fn gix_glob_decide_in_tree(
@@ -51,17 +51,30 @@ pub extern "C" fn gix_glob_decide_in_tree(
     ensures inside { result ≡ true → HasPatternAt lists.now (out.new.list, out.new.pattern) }
     ensures other { ¬ IsPathOfFile path.now → result ≡ false }
     ensures exact { All IsLawfulList lists.now → IsPathOfFile path.now
-        → DecidesInTree (map entry_list lists.now) path.now is_dir (case_of fold) (pair_told result out.new) }
+        → DecidesInTree (map entry_list lists.now) path.now is_dir (rules_of (reading_of_lists lists.now) fold) (pair_told result out.new) }
 {
     let Some(path) = path_of_file(path, is_dir) else {
         return false;
     };
+    let rules = rules_of(reading_of_lists(lists), fold);
     let lists = HandedLists { lists };
-    let Some((list, pattern)) = decide_in_tree_by(&lists, &path, case_of(fold)) else {
+    let Some((list, pattern)) = decide_in_tree_by(&lists, &path, rules) else {
         return false;
     };
     *out = GlobDecision { list, pattern };
     true
+}
+
+/// Whose reading counts for the lists of a call: that of their first pattern.
+fn reading_of_lists(lists: &[GlobList<'_>]) -> Reading
+    ensures { result ≡ reading_of_lists lists.now }
+{
+    for i in 0..lists.len() {
+        if let [first, ..] = lists[i].patterns {
+            return first.reading();
+        }
+    }
+    Reading::Crate
 }
 
 /// The lists that C hands over.
@@ -79,9 +92,9 @@ impl<'a> ListStack for HandedLists<'a> {
 
     ghost is_lawful = { λ handed. All IsLawfulList handed.lists.now };
 
-    fn decide(&self, path: &RepositoryPath<'_>, case: Case) -> Option<(usize, usize)> {
+    fn decide(&self, path: &RepositoryPath<'_>, rules: Rules) -> Option<(usize, usize)> {
         for i in (0..self.lists.len()).rev() {
-            if let Some(m) = last_match_under(&self.lists[i], path, case) {
+            if let Some(m) = last_match_under(&self.lists[i], path, rules) {
                 return Some((i, m));
             }
         }
@@ -103,20 +116,20 @@ fn is_negative_at(patterns: &[GlobPattern<'_>], place: usize) -> bool
 
 /// The place of the last pattern of a list that matches what the base of the list leaves of a path. A base that is no folder's
 /// leaves nothing.
-fn last_match_under(list: &GlobList<'_>, path: &RepositoryPath<'_>, case: Case) -> Option<usize>
+fn last_match_under(list: &GlobList<'_>, path: &RepositoryPath<'_>, rules: Rules) -> Option<usize>
     ensures inside { IfSome result (λ last. last < length list.now.patterns.now) }
     ensures exact { IsLawfulList list.now → MatchOption result
-        ((m : ℕ) → ¬ AnswersAt (entry_list list.now) path.now.bytes path.now.is_dir case m)
-        (λ last. AnswersAt (entry_list list.now) path.now.bytes path.now.is_dir case last
-        × ((m : ℕ) → AnswersAt (entry_list list.now) path.now.bytes path.now.is_dir case m → m ≤ last)) }
+        ((m : ℕ) → ¬ AnswersAt (entry_list list.now) path.now.bytes path.now.is_dir rules m)
+        (λ last. AnswersAt (entry_list list.now) path.now.bytes path.now.is_dir rules last
+        × ((m : ℕ) → AnswersAt (entry_list list.now) path.now.bytes path.now.is_dir rules m → m ≤ last)) }
 {
     if !is_folder(list.base) {
         return None;
     }
-    let Some(rest) = path.below(list.base, case) else {
+    let Some(rest) = path.below(list.base, rules.case) else {
         return None;
     };
-    last_match(list.patterns, &rest, is_folded(case))
+    last_match(list.patterns, &rest, rules)
 }
 
 /// Whether a base is empty or ends in a slash.
@@ -124,11 +137,4 @@ pub(crate) fn is_folder(base: &[u8]) -> bool
     ensures { IsTrue result ↔ IsFolder base.now }
 {
     matches!(base, [] | [.., b'/'])
-}
-
-/// The flag of C that asks for the case.
-fn is_folded(case: Case) -> bool
-    ensures { case_of result ≡ case }
-{
-    matches!(case, Case::Fold)
 }

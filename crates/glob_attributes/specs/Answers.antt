@@ -1,7 +1,7 @@
 -- What is written about a path: each attribute that is asked for, with its state.
 use Rattle.std.specs.Prelude.{◌≡◌, ◌⊎◌, ℕ, List, [], ◌∷◌, ◌++◌, codes}
 use Rattle.std.specs.List.{flat_map}
-use Rattle.gix_glob.specs.declared.pattern.Case.{Case}
+use Rattle.glob_lists.specs.declared.rules.Rules.{Rules}
 use Rattle.glob_lists.specs.Paths.{IsPlainPath, MarksDirectory, Path}
 use Rattle.glob_attributes.specs.declared.assignment.State.{State}
 use Rattle.glob_attributes.specs.declared.assignment.State.TheVariants.{Set, Unset, Unspecified, Value}
@@ -19,18 +19,18 @@ state_text (Value bytes) = bytes
 abbrev pub fields_of : List ℕ → List ℕ → List ℕ → List ℕ
 fields_of told name state = told ++ 0 ∷ (name ++ 0 ∷ (state ++ 0 ∷ []))
 
--- what is asked of each path: lists and macros, the weakest first, whether the case of letters counts, and the names of attributes
+-- what is asked of each path: lists and macros, the weakest first, the rules by which patterns are matched, and the names of attributes
 pub record Query : Type 0 where
   pub lists : Lists
   pub macros : List Definition
-  pub case : Case
+  pub rules : Rules
   pub names : List (List ℕ)
 
 -- What is assigned to the path that was told: nothing where it is none of a repository. A slash at its end marks a directory.
 abbrev pub IsAssignedTo : Query → List ℕ → List Assigned → Type 0
 IsAssignedTo query told filled =
     (¬ IsPlainPath told × (filled ≡ []))
-    ⊎ (IsPlainPath told × (path : Path) × MarksDirectory told path.bytes path.is_dir × IsAssigned query.lists query.macros path query.case filled)
+    ⊎ (IsPlainPath told × (path : Path) × MarksDirectory told path.bytes path.is_dir × IsAssigned query.lists query.macros path query.rules filled)
 
 -- the fields for each name, in order: the path as it was told, the name and its state
 abbrev pub states_text : List Assigned → List ℕ → List (List ℕ) → List ℕ

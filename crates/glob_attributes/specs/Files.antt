@@ -6,8 +6,9 @@ use Rattle.glob_lines.specs.Ignore.{EndsIgnoreLine, without_mark}
 use Rattle.glob_lines.specs.Lines.{Lines}
 use Rattle.glob_attributes.specs.Assignments.{Assigned}
 use Rattle.glob_attributes.specs.Equations.Files.{file_lines}
-use Rattle.glob_attributes.specs.Patterns.{IsPatternOf}
+use Rattle.glob_attributes.specs.Patterns.{IsPatternAs}
 use Rattle.glob_attributes.specs.Readings.{Gives, a_pattern, line_gives}
+use Rattle.glob_lists.specs.declared.rules.Reading.{Reading}
 
 -- The lines of a file end as those of an ignore file, and a byte order mark at its front isn't of them. A file of 100 MiB or more
 -- is read as an empty one.
@@ -20,10 +21,10 @@ pattern_given number (a_pattern bytes assigned) = Some (number, bytes, assigned)
 pattern_given number _ = None
 
 -- the entry of such a line
-abbrev pub IsEntryOf : ℕ × List ℕ × List Assigned → Entry (List Assigned) → Type 0
-IsEntryOf line entry = (entry.number ≡ line.0) × IsPatternOf line.1 entry.text entry.mode entry.place × (entry.value ≡ line.2)
+abbrev pub IsEntryOf : Reading → ℕ × List ℕ × List Assigned → Entry (List Assigned) → Type 0
+IsEntryOf reading line entry = (entry.number ≡ line.0) × IsPatternAs reading line.1 entry.text entry.mode entry.place × (entry.value ≡ line.2)
 
 -- The entries of an attribute file: one for each line that gives a pattern, in order, where the first line has the number 1.
-abbrev pub Attributes : List ℕ → List (Entry (List Assigned)) → Type 0
-Attributes bytes =
-    AllZip IsEntryOf (filter_map (λ line. pattern_given line.0 (line_gives true line.1)) (enumerate_from 1 (file_lines bytes)))
+abbrev pub Attributes : Reading → List ℕ → List (Entry (List Assigned)) → Type 0
+Attributes reading bytes =
+    AllZip (IsEntryOf reading) (filter_map (λ line. pattern_given line.0 (line_gives true line.1)) (enumerate_from 1 (file_lines bytes)))

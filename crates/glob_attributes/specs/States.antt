@@ -3,7 +3,7 @@ use Rattle.std.specs.Prelude.{◌≡◌, ℕ, if◌then◌else◌, List, [], ◌
 use Rattle.std.specs.List.{filter_map, find, flat_map, list_any}
 use Rattle.std.specs.Option.{option_and_then, option_map_or}
 use Rattle.std.specs.Str.{bytes_eq}
-use Rattle.gix_glob.specs.declared.pattern.Case.{Case}
+use Rattle.glob_lists.specs.declared.rules.Rules.{Rules}
 use Rattle.gix_glob.specs.EntryLists.{EntryList}
 use Rattle.glob_lists.specs.Index.{AreMatches}
 use Rattle.glob_lists.specs.Paths.{Path}
@@ -22,9 +22,9 @@ assigned_at lists pair =
     option_map_or (λ entry. entry.value) (option_and_then (λ list. slice_get list.entries pair.1) (slice_get lists pair.0)) []
 
 -- The row of a path: what the patterns that match it assign, turned around, so that the strongest stands first.
-abbrev pub IsRow : Lists → Path → Case → List Assigned → Type 0
-IsRow lists path case row =
-    (pairs : List (ℕ × ℕ)) × AreMatches lists path.bytes path.is_dir case pairs × (row ≡ reverse (flat_map (assigned_at lists) pairs))
+abbrev pub IsRow : Lists → Path → Rules → List Assigned → Type 0
+IsRow lists path rules row =
+    (pairs : List (ℕ × ℕ)) × AreMatches lists path.bytes path.is_dir rules pairs × (row ≡ reverse (flat_map (assigned_at lists) pairs))
 
 -- what the last macro of a name assigns, turned around, if this state sets the name
 abbrev pub given_by : List Definition → List ℕ → State (List ℕ) → List Assigned
@@ -43,8 +43,8 @@ IsFilledIn macros before row (assigned ∷ filled) =
     (rest : List Assigned) × (row ≡ assigned ∷ rest) × IsFilledIn macros (assigned ∷ before) (put_in macros before assigned ++ rest) filled
 
 -- What is assigned to a path: its row, with what macros put in.
-abbrev pub IsAssigned : Lists → List Definition → Path → Case → List Assigned → Type 0
-IsAssigned lists macros path case filled = (row : List Assigned) × IsRow lists path case row × IsFilledIn macros [] row filled
+abbrev pub IsAssigned : Lists → List Definition → Path → Rules → List Assigned → Type 0
+IsAssigned lists macros path rules filled = (row : List Assigned) × IsRow lists path rules row × IsFilledIn macros [] row filled
 
 -- the state of an attribute: the first that names it decides
 abbrev pub state_in : List Assigned → List ℕ → State (List ℕ)

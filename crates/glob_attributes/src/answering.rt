@@ -53,8 +53,9 @@ pub(crate) trait Question {
 impl Question for Brand {
     ghost use Rattle.std.specs.Prelude.{[]};
     ghost use Rattle.gix_glob.specs.declared.pattern.Case.TheVariants.{Sensitive};
+    ghost use Rattle.glob_lists.specs.Rules.{by_crate};
 
-    ghost query = { record { lists = []; macros = []; case = Sensitive; names = [] } };
+    ghost query = { record { lists = []; macros = []; rules = by_crate Sensitive; names = [] } };
 }
 
 /// What answers each path by what is asked, which its type names: so a run keeps the question, whatever it does to the answerer.

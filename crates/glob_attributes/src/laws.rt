@@ -2,7 +2,8 @@
 ghost use Rattle.std.specs.Prelude.{◌≡◌, ◌↔◌, ◌+◌, ◌++◌, ◌∷◌, ◌≤◌, [], ℕ, List, Some, false, length, map, true};
 ghost use Rattle.std.specs.List.{AllByRecursion, filter_map, list_any};
 ghost use Rattle.std.specs.Str.{bytes_eq};
-ghost use Rattle.gix_glob.specs.declared.pattern.Case.{Case};
+ghost use Rattle.glob_lists.specs.declared.rules.Reading.{Reading};
+ghost use Rattle.glob_lists.specs.declared.rules.Rules.{Rules};
 ghost use Rattle.gix_glob.specs.EntryLists.{EntryList};
 ghost use Rattle.gix_glob.specs.Stripping.{NothingLeft};
 ghost use Rattle.glob_lists.specs.Paths.{Path};
@@ -22,7 +23,7 @@ ghost use Rattle.glob_attributes.specs.States.{Assigned, IsAssigned, IsFilledIn,
 mod assigned;
 
 pub use assigned::paths_are_assigned_something;
-use gix_glob::laws::readings_are_these;
+use gix_glob::laws::{git_readings_are_these, readings_are_these};
 
 /// A text has one head, with one rest, which the equations of `head_of` give.
 pub fn heads_are_these()
@@ -34,11 +35,12 @@ pub fn file_lines_are_these()
     ensures { (bytes : List ℕ) (lines : List (List ℕ)) → FileLines bytes lines ↔ (lines ≡ file_lines bytes) }
 {}
 
-/// A file has one list of entries, which the equations of `attributes_of` give.
+/// A file has one list of entries by each reading, which the equations of `attributes_of` give.
 pub fn attributes_are_these()
-    ensures { (bytes : List ℕ) (entries : List AttributeEntry) → Attributes bytes entries ↔ (entries ≡ attributes_of bytes) }
+    ensures { (reading : Reading) (bytes : List ℕ) (entries : List AttributeEntry) → Attributes reading bytes entries ↔ (entries ≡ attributes_of reading bytes) }
 {
     readings_are_these();
+    git_readings_are_these();
 }
 
 /// Each row is filled in, and in one way, so it gives each attribute one state.
@@ -77,21 +79,21 @@ pub fn unnamed_attributes_are_unspecified()
 /// Attribute files assign to no name but one that an attribute can have ([`is_name`](crate::is_name)): neither by their entries nor by
 /// their macros.
 pub fn files_assign_to_valid_names()
-    ensures entries { (bytes : List ℕ) → EntriesHaveNames (attributes_of bytes) }
+    ensures entries { (reading : Reading) (bytes : List ℕ) → EntriesHaveNames (attributes_of reading bytes) }
     ensures macros { (bytes : List ℕ) → MacrosHaveNames (macros_of bytes) }
 {}
 
 /// Where lists and macros assign to no other name, one that no attribute can have is unspecified for each path.
 pub fn invalid_names_are_unspecified()
-    ensures { (lists : Lists) (macros : List Definition) (path : Path) (case : Case) (filled : List Assigned) (name : List ℕ) →
+    ensures { (lists : Lists) (macros : List Definition) (path : Path) (rules : Rules) (filled : List Assigned) (name : List ℕ) →
         AllByRecursion (λ list. EntriesHaveNames list.entries) lists → MacrosHaveNames macros → is_name name ≡ false →
-        IsAssigned lists macros path case filled → state_in filled name ≡ Unspecified }
+        IsAssigned lists macros path rules filled → state_in filled name ≡ Unspecified }
 {}
 
 /// A line that says nothing may be left out: the others have the same entries, but for their numbers, and define the same macros.
 pub fn silent_lines_may_be_left_out()
-    ensures entries { (front rest : List (List ℕ)) (line : List ℕ) (n k : ℕ) → SaysNothing line →
-        map unnumbered (entries_from n (front ++ line ∷ rest)) ≡ map unnumbered (entries_from k (front ++ rest)) }
+    ensures entries { (reading : Reading) (front rest : List (List ℕ)) (line : List ℕ) (n k : ℕ) → SaysNothing line →
+        map unnumbered (entries_from reading n (front ++ line ∷ rest)) ≡ map unnumbered (entries_from reading k (front ++ rest)) }
     ensures macros { (front rest : List (List ℕ)) (line : List ℕ) → SaysNothing line →
         filter_map (λ l. definition_given (line_gives true l)) (front ++ line ∷ rest)
         ≡ filter_map (λ l. definition_given (line_gives true l)) (front ++ rest) }
@@ -100,13 +102,13 @@ pub fn silent_lines_may_be_left_out()
 /// Each attribute has one state for a path at most: what is assigned to the path is one list. [`paths_are_assigned_something`] says
 /// that there is one.
 pub fn attributes_have_one_state()
-    ensures { (lists : Lists) (macros : List Definition) (path : Path) (case : Case) (filled other : List Assigned) →
-        IsAssigned lists macros path case filled → IsAssigned lists macros path case other → filled ≡ other }
+    ensures { (lists : Lists) (macros : List Definition) (path : Path) (rules : Rules) (filled other : List Assigned) →
+        IsAssigned lists macros path rules filled → IsAssigned lists macros path rules other → filled ≡ other }
 {}
 
 /// The list of a folder that isn't on the way of a path changes nothing: without its entries the row is the same.
 pub fn lists_off_the_way_say_nothing()
-    ensures { (front after : Lists) (list : EntryList (List Assigned)) (base : List ℕ) (path : Path) (case : Case) (row : List Assigned) →
-        list.base ≡ Some base → NothingLeft case (Some base) path.bytes →
-        IsRow (front ++ list ∷ after) path case row ↔ IsRow (front ++ emptied list ∷ after) path case row }
+    ensures { (front after : Lists) (list : EntryList (List Assigned)) (base : List ℕ) (path : Path) (rules : Rules) (row : List Assigned) →
+        list.base ≡ Some base → NothingLeft rules.case (Some base) path.bytes →
+        IsRow (front ++ list ∷ after) path rules row ↔ IsRow (front ++ emptied list ∷ after) path rules row }
 {}

@@ -2,7 +2,7 @@
 ghost use Rattle.std.specs.Prelude.{◌≡◌, ◌++◌, ◌∷◌, All, List, filter, map};
 ghost use Rattle.std.specs.List.{list_any};
 ghost use Rattle.std.specs.Vec.{vec_items};
-ghost use Rattle.gix_glob.specs.declared.pattern.Case.{Case};
+ghost use Rattle.glob_lists.specs.declared.rules.Rules.{Rules};
 ghost use Rattle.gix_glob.specs.EntryLists.{entry_list_of};
 ghost use Rattle.glob_lists.specs.Paths.{Path};
 ghost use Rattle.glob_attributes.specs.Views.{assignment_with};
@@ -24,9 +24,9 @@ pub fn keep_named(list: &mut pattern::List<AttributeLines>, names: &[&[u8]], mac
     ensures base { list.new.base ≡ list.old.base }
     ensures kept { list.new.patterns.items
         ≡ filter (λ mapping. concerns (map (λ name. name.now) names.now) macros.now (seen_assignments mapping.value)) list.old.patterns.items }
-    ensures states { (front after : Lists) (path : Path) (case : Case) (filled : List Assigned) →
-        IsAssigned (front ++ entry_list_of seen_assignments list.old ∷ after) macros.now path case filled →
-        (kept : List Assigned) × IsAssigned (front ++ entry_list_of seen_assignments list.new ∷ after) macros.now path case kept
+    ensures states { (front after : Lists) (path : Path) (rules : Rules) (filled : List Assigned) →
+        IsAssigned (front ++ entry_list_of seen_assignments list.old ∷ after) macros.now path rules filled →
+        (kept : List Assigned) × IsAssigned (front ++ entry_list_of seen_assignments list.new ∷ after) macros.now path rules kept
         × All (λ name. state_in kept name.now ≡ state_in filled name.now) names.now }
 {
     keep_mappings(&mut list.patterns, names, macros);

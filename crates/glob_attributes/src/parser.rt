@@ -10,6 +10,7 @@ use crate::pattern::read_pattern;
 use gix_glob::search::pattern::Mapping;
 use gix_glob::{laws, search};
 use glob_lines::{next_ended_line, without_byte_order_mark};
+use glob_lists::Reading;
 use std::alloc::{AllocError, Global};
 
 /// The length in bytes from which on a file has no lines.
@@ -22,7 +23,10 @@ pub const FILE_LIMIT: usize = 104_857_600;
 /// it, or at the end of the bytes. The number of a mapping is that of its line, from 1. A file of 104,857,600 bytes or more has no
 /// lines.
 #[derive(Clone, Copy, PartialEq, Eq, Debug, Hash, PartialOrd, Ord, Default)]
-pub struct AttributeLines;
+pub struct AttributeLines {
+    /// Whose reading of the patterns counts.
+    pub reading: Reading,
+}
 
 impl search::Pattern for AttributeLines {
     ghost use Rattle.std.specs.Prelude.{ℕ, List};
@@ -36,7 +40,7 @@ impl search::Pattern for AttributeLines {
 
     ghost seen = { seen_assignments };
 
-    ghost meaning = { λ _ bytes _. attributes_of bytes };
+    ghost meaning = { λ lines bytes _. attributes_of lines.reading bytes };
 
     fn bytes_to_patterns(
         &self,
@@ -44,8 +48,9 @@ impl search::Pattern for AttributeLines {
         bytes: &[u8],
         _source: &str,
     ) -> Result<Vec<Mapping<Vec<Assignment<Vec<u8>>>>>, AllocError> {
-        // a law does nothing: it is called for what it ensures
+        // laws do nothing: they are called for what they ensure
         laws::readings_are_these();
+        laws::git_readings_are_these();
         let mut mappings = Vec::new(alloc);
         let mut number = 0;
         let mut rest = file_lines(bytes);
@@ -57,7 +62,7 @@ impl search::Pattern for AttributeLines {
             } = read_line(alloc, line, true)?
             {
                 mappings.push(Mapping {
-                    pattern: read_pattern(alloc, &pattern)?,
+                    pattern: read_pattern(alloc, &pattern, self.reading)?,
                     value: assignments,
                     sequence_number: number,
                 })?;

@@ -31,7 +31,7 @@ impl<'a> Model for AttributeQuery<'a> {
 
     ghost Value = { Query };
 
-    ghost view = { λ query. record { lists = map (entry_list_of seen_assignments) query.index.now.lists; macros = query.macros.now; case = query.index.now.case; names = map (λ name. name.now) query.names.now } };
+    ghost view = { λ query. record { lists = map (entry_list_of seen_assignments) query.index.now.lists; macros = query.macros.now; rules = query.index.now.rules; names = map (λ name. name.now) query.names.now } };
 }
 
 impl<'a> AttributeQuery<'a> {
@@ -47,7 +47,7 @@ impl<'a> AttributeQuery<'a> {
         macros: &'a MacroTable,
         names: &'a [&'a [u8]],
     ) -> AttributeQuery<'a>
-        ensures { result ≡ record { lists = map (entry_list_of seen_assignments) index.now.lists; macros = macros.now; case = index.now.case; names = map (λ name. name.now) names.now } }
+        ensures { result ≡ record { lists = map (entry_list_of seen_assignments) index.now.lists; macros = macros.now; rules = index.now.rules; names = map (λ name. name.now) names.now } }
     {
         AttributeQuery {
             index,

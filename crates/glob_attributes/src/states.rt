@@ -15,9 +15,8 @@ use crate::first_places::first_places;
 use crate::macro_table::MacroTable;
 use crate::parser::AttributeLines;
 use crate::places::Places;
-use gix_glob::pattern::Case;
 use gix_glob::search::pattern::List;
-use glob_lists::{ListIndex, RepositoryPath, matches_into};
+use glob_lists::{ListIndex, RepositoryPath, Rules, matches_into};
 use std::alloc::{AllocError, Global};
 use std::marker::Model;
 
@@ -58,20 +57,20 @@ impl<'a> PathAttributes<'a> {
         lists: &'a [List<AttributeLines>],
         macros: &'a MacroTable,
         path: &RepositoryPath<'_>,
-        case: Case,
+        rules: Rules,
     ) -> Result<PathAttributes<'a>, AllocError>
         requires folders { BasesAreFolders (map (entry_list_of seen_assignments) lists.now) }
-        ensures { IfOk result (λ assigned. IsAssigned (map (entry_list_of seen_assignments) lists.now) macros.now path.now case assigned) }
+        ensures { IfOk result (λ assigned. IsAssigned (map (entry_list_of seen_assignments) lists.now) macros.now path.now rules assigned) }
     {
         let mut pairs = Vec::with_capacity(alloc, FEW)?;
-        matches_into(lists, path, case, &mut pairs)?;
+        matches_into(lists, path, rules, &mut pairs)?;
         let mut row = Vec::new(alloc);
         push_row(&mut row, lists, &pairs)?;
         let filled = fill_in(alloc, row, macros)?;
         Ok(PathAttributes { filled })
     }
 
-    /// What the lists of an index, then stronger ones, and the macros assign to a path. The case of letters counts as the index says.
+    /// What the lists of an index, then stronger ones, and the macros assign to a path. Patterns are matched by the rules of the index.
     /// The stronger lists have to meet [`bases_are_folders`](glob_lists::bases_are_folders).
     ///
     /// Of the path counts what [`PathAttributes::new`] says: a part `.` or `..` is a name, and a trailing slash leaves an empty last
@@ -87,13 +86,13 @@ impl<'a> PathAttributes<'a> {
         path: &RepositoryPath<'_>,
     ) -> Result<PathAttributes<'a>, AllocError>
         requires folders { BasesAreFolders (map (entry_list_of seen_assignments) stronger.now) }
-        ensures { IfOk result (λ assigned. IsAssigned (map (entry_list_of seen_assignments) index.now.lists ++ map (entry_list_of seen_assignments) stronger.now) macros.now path.now index.now.case assigned) }
+        ensures { IfOk result (λ assigned. IsAssigned (map (entry_list_of seen_assignments) index.now.lists ++ map (entry_list_of seen_assignments) stronger.now) macros.now path.now index.now.rules assigned) }
     {
         let mut pairs = Vec::with_capacity(alloc, FEW)?;
         index.matches_into(path, &mut pairs)?;
         let mut row = Vec::new(alloc);
         push_row(&mut row, index.lists(), &pairs)?;
-        matches_into(stronger, path, index.case(), &mut pairs)?;
+        matches_into(stronger, path, index.rules(), &mut pairs)?;
         push_row(&mut row, stronger, &pairs)?;
         let filled = fill_in(alloc, row, macros)?;
         Ok(PathAttributes { filled })

@@ -3,7 +3,7 @@ use crate::compare::same;
 use crate::lists::list_of;
 use gix_glob::pattern::Case;
 use glob_lines::{PlainLines, bases_are_folders};
-use glob_lists::{CountedDecision, ListIndex, RepositoryPath};
+use glob_lists::{CountedDecision, ListIndex, RepositoryPath, Rules};
 use std::alloc::{AllocError, Global};
 use std::process::Abort;
 use std::test::Fail;
@@ -75,7 +75,7 @@ fn only_what_can_match_is_asked(rt: HostRuntime) -> Result<(), Fail> {
         let lines = lines_of(rt.alloc(), text, others)?;
         let lists = [list_of(rt.alloc(), PlainLines, &lines)?];
         assert!(rt; bases_are_folders(&lists));
-        let index = ListIndex::new(rt.alloc(), &lists, Case::Sensitive)?;
+        let index = ListIndex::new(rt.alloc(), &lists, Rules::by_crate(Case::Sensitive))?;
         check_path(&rt, &index, path, CountedDecision { pair, asked }, row)?;
     }
     Ok(())
@@ -170,7 +170,7 @@ fn of_a_thousand_patterns_few_are_asked(rt: HostRuntime) -> Result<(), Fail> {
     let lines = thousand_lines(rt.alloc(), &mut seed)?;
     let lists = [list_of(rt.alloc(), PlainLines, lines.as_bytes())?];
     assert!(rt; bases_are_folders(&lists));
-    let index = ListIndex::new(rt.alloc(), &lists, Case::Sensitive)?;
+    let index = ListIndex::new(rt.alloc(), &lists, Rules::by_crate(Case::Sensitive))?;
     let (asked, undecided) = count_asked(rt.alloc(), &index, &mut seed)?;
     // A path shows its own ending, one of 144, which some two patterns ask for, and few that ask for a part of its name. In
     // turn each of the 1,000 would be asked where none decides.

@@ -4,6 +4,7 @@ use gix_glob::pattern::Case;
 use gix_glob::search::pattern::List;
 use gix_glob::search::{Pattern as _, Watched};
 use glob_lines::IgnoreLines;
+use glob_lists::Reading;
 use glob_trees::list_in_folder;
 use std::alloc::{AllocError, Global};
 use std::process::Abort;
@@ -95,7 +96,10 @@ impl FileSource for InMemory {
             if let Thing::File(bytes) = thing
                 && name_in(path, folder) == Some(b".gitignore".as_slice())
             {
-                list.patterns = IgnoreLines.bytes_to_patterns(self.alloc, bytes, "")?;
+                let lines = IgnoreLines {
+                    reading: Reading::Git,
+                };
+                list.patterns = lines.bytes_to_patterns(self.alloc, bytes, "")?;
             }
         }
         list_in_folder(self.alloc, list, folder)

@@ -5,7 +5,7 @@ use gix_glob::pattern::Case;
 use gix_glob::search::Watched;
 use gix_glob::search::pattern::List;
 use glob_lines::{IgnoreLines, bases_are_folders, run_ignore};
-use glob_lists::{ListIndex, RepositoryPath};
+use glob_lists::{ListIndex, Reading, RepositoryPath, Rules};
 use std::process::Abort;
 use std::test::Fail;
 
@@ -20,7 +20,7 @@ fn are_found(
 ) -> Result<(), Fail> {
     let path = RepositoryPath::new(b"a", false).ok_or("a path")?;
     assert!(rt; bases_are_folders(lists));
-    let index = ListIndex::new(rt.alloc(), lists, Case::Sensitive)?;
+    let index = ListIndex::new(rt.alloc(), lists, Rules::by_crate(Case::Sensitive))?;
     let mut pairs = Vec::new(rt.alloc());
     index.matches_into(&path, &mut pairs)?;
     let pair = Some((last, 0));
@@ -49,9 +49,12 @@ fn is_written(
 
 #[test]
 fn many_lists_decide(rt: HostRuntime) -> Result<(), Fail> {
+    let lines = IgnoreLines {
+        reading: Reading::Crate,
+    };
     let mut lists = Vec::new(rt.alloc());
     for _ in 0..LISTS {
-        lists.push(list_of(rt.alloc(), IgnoreLines, b"a")?)?;
+        lists.push(list_of(rt.alloc(), lines, b"a")?)?;
     }
     are_found(&rt, &lists, LISTS - 1)?;
     is_written(&rt, &lists, b"ignored 65600:1\n")?;

@@ -4,11 +4,15 @@ use gix_glob::pattern::Case;
 use gix_glob::search::Pattern as _;
 use gix_glob::search::pattern::List;
 use glob_lines::IgnoreLines;
-use glob_lists::{PreparedList, RepositoryPath};
+use glob_lists::{PreparedList, Reading, RepositoryPath, Rules};
 use glob_trees::{FolderLists, Tree, TreeFault, list_in_folder};
 use std::alloc::{AllocError, Global};
 use std::process::Abort;
 use std::test::Fail;
+
+const LINES: IgnoreLines = IgnoreLines {
+    reading: Reading::Crate,
+};
 
 /// Why the source has no list.
 #[derive(Clone, Copy, PartialEq)]
@@ -47,7 +51,7 @@ impl Failing {
             _ => b"",
         };
         let mut list = List::empty(self.alloc);
-        list.patterns = IgnoreLines.bytes_to_patterns(self.alloc, lines, "")?;
+        list.patterns = LINES.bytes_to_patterns(self.alloc, lines, "")?;
         Ok(list)
     }
 }
@@ -80,7 +84,7 @@ pub(crate) fn tree_of(
     fronts: Vec<PreparedList<IgnoreLines>>,
 ) -> Result<Tree<IgnoreLines, Failing>, Fail> {
     let source = Failing::at(alloc, fails_at);
-    let tree = Tree::new(alloc, source, fronts, Case::Sensitive);
+    let tree = Tree::new(alloc, source, fronts, Rules::by_crate(Case::Sensitive));
     Ok(tree.ok_or("a tree")?)
 }
 
@@ -131,7 +135,7 @@ const DEPTH: usize = 200;
 /// A list before all folders.
 fn front(alloc: Global) -> Result<Vec<PreparedList<IgnoreLines>>, AllocError> {
     let mut excludes = List::empty(alloc);
-    excludes.patterns = IgnoreLines.bytes_to_patterns(alloc, b"q\nx\ny\n", "")?;
+    excludes.patterns = LINES.bytes_to_patterns(alloc, b"q\nx\ny\n", "")?;
     let mut fronts = Vec::new(alloc);
     fronts.push(PreparedList::new(alloc, excludes))?;
     Ok(fronts)

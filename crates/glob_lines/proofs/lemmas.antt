@@ -3,6 +3,7 @@ pub mod DecisionsLemmas
 pub mod EntriesLemmas
 pub mod FoundLemmas
 pub mod GitLineLemmas
+pub mod IgnoreAsLemmas
 pub mod IgnoreLemmas
 pub mod LabelLemmas
 pub mod LinesLemmas

@@ -1,6 +1,8 @@
 -- The text of decisions: what is written for path lines and a stack of lists.
 use Rattle.std.specs.Prelude.{◌≡◌, ℕ, ◌+◌, Bool, if◌then◌else◌, List, ◌++◌, slice_get, Option, Some, MatchOption, decimal, codes}
 use Rattle.gix_glob.specs.declared.pattern.Case.{Case}
+use Rattle.glob_lists.specs.declared.rules.Rules.{Rules}
+use Rattle.glob_lists.specs.Rules.{by_crate}
 use Rattle.glob_lists.specs.Deciding.{Decides}
 use Rattle.gix_glob.specs.Entries.{Entry}
 use Rattle.gix_glob.specs.EntryLists.{EntryList}
@@ -22,11 +24,11 @@ pub record WritesVerdict {V : Type 0} (lists : List (EntryList V)) (pair : ℕ �
   pub shown : written ≡ verdict (pair.0 + 1) entry
 
 -- The line for a path: what is said of the entry that decides, and `none` where no entry does.
-pub record WritesDecision {V : Type 0} (lists : List (EntryList V)) (case : Case) (path : List ℕ) (is_dir : Bool) (written : List ℕ) : Type 0 where
+pub record WritesDecision {V : Type 0} (lists : List (EntryList V)) (rules : Rules) (path : List ℕ) (is_dir : Bool) (written : List ℕ) : Type 0 where
   pub pair : Option (ℕ × ℕ)
-  pub decides : Decides lists path is_dir case pair
+  pub decides : Decides lists path is_dir rules pair
   pub shown : MatchOption pair (written ≡ codes "none") (λ p. WritesVerdict lists p written)
 
 -- The text of decisions: a line for each path line, in order.
 abbrev pub DecisionsText : {V : Type 0} → List (EntryList V) → Case → List ℕ → List ℕ → Type 0
-DecisionsText lists case paths text = WritesLines (WritesForPath (WritesDecision lists case)) paths text
+DecisionsText lists case paths text = WritesLines (WritesForPath (WritesDecision lists (by_crate case))) paths text

@@ -5,6 +5,7 @@
 pub mod Entries
 pub mod GitLines
 pub mod Ignore
+pub mod IgnoreAs
 pub mod Label
 pub mod Lines
 pub mod Plain

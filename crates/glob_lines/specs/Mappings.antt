@@ -1,6 +1,8 @@
 -- The text of mappings: what is written for path lines and the entries of a list.
 use Rattle.std.specs.Prelude.{◌≡◌, ℕ, Bool, List, map, Option}
 use Rattle.gix_glob.specs.declared.pattern.Case.{Case}
+use Rattle.glob_lists.specs.declared.rules.Rules.{Rules}
+use Rattle.glob_lists.specs.Rules.{by_crate}
 use Rattle.glob_lists.specs.Deciding.{AnswersUnder}
 use Rattle.gix_glob.specs.Paths.{Base}
 use Rattle.glob_lines.specs.Lines.{WritesLines}
@@ -10,9 +12,9 @@ use Rattle.glob_lines.specs.Plain.{Plain, PlainEntry}
 use Rattle.glob_lines.specs.Transfers.{ReadsWhole}
 
 -- The line has the numbers of the entries that answer for the path under the base of their list, in order, with one space between.
-pub record WritesNumbers (entries : List PlainEntry) (base : Option (List ℕ)) (case : Case) (path : List ℕ) (is_dir : Bool) (written : List ℕ) : Type 0 where
+pub record WritesNumbers (entries : List PlainEntry) (base : Option (List ℕ)) (rules : Rules) (path : List ℕ) (is_dir : Bool) (written : List ℕ) : Type 0 where
   pub chosen : List PlainEntry
-  pub picks : Picks (λ entry. AnswersUnder base entry path is_dir case) entries chosen
+  pub picks : Picks (λ entry. AnswersUnder base entry path is_dir rules) entries chosen
   pub shown : written ≡ text_of_numbers (map (λ entry. entry.number) chosen)
 
 -- what is read: pattern lines, and path lines
@@ -32,4 +34,4 @@ pub record MappingsText (source : List ℕ) (root : Option (List ℕ)) (case : C
   pub meant : Plain input.patterns entries
   pub base : Option (List ℕ)
   pub based : Base source root base
-  pub matches : WritesLines (WritesForPath (WritesNumbers entries base case)) input.paths text
+  pub matches : WritesLines (WritesForPath (WritesNumbers entries base (by_crate case))) input.paths text

@@ -5,12 +5,13 @@ ghost use Rattle.gix_glob.specs.Steps.{NeverFall};
 ghost use Rattle.glob_lists.specs.Deciding.{BasesAreFolders, Decides};
 ghost use Rattle.glob_lists.specs.DecisionLimits.{decision_look_limit, decision_step_limit};
 ghost use Rattle.glob_lists.specs.Paths.{IsPlainPath};
+ghost use Rattle.glob_lists.specs.Rules.{by_crate};
 
 use gix_glob::pattern::Case;
 use gix_glob::search;
 use gix_glob::search::pattern::List;
 use gix_glob::wildmatch::Counts;
-use glob_lists::RepositoryPath;
+use glob_lists::{RepositoryPath, Rules};
 use std::sync::ledger::Ledger;
 
 /// Which pattern decides about a path, in a stack of lists, as [`glob_lists::decide`] answers it.
@@ -25,7 +26,7 @@ pub fn decide<T: search::Pattern>(
 ) -> Option<(usize, usize)>
     requires plain { IsPlainPath path.now }
     requires folders { BasesAreFolders (map (entry_list_of T.seen) lists.now) }
-    ensures { Decides (map (entry_list_of T.seen) lists.now) path.now is_dir case result }
+    ensures { Decides (map (entry_list_of T.seen) lists.now) path.now is_dir (by_crate case) result }
 {
     glob_lists::decide(lists, &RepositoryPath::from_plain(path, is_dir), case)
 }
@@ -45,7 +46,7 @@ pub fn decide_with_counts<T: search::Pattern, S: Ledger, L: Ledger>(
 ) -> Option<(usize, usize)>
     requires plain { IsPlainPath path.now }
     requires folders { BasesAreFolders (map (entry_list_of T.seen) lists.now) }
-    ensures exact { Decides (map (entry_list_of T.seen) lists.now) path.now is_dir case result }
+    ensures exact { Decides (map (entry_list_of T.seen) lists.now) path.now is_dir (by_crate case) result }
     ensures steps { counts.new.steps
         ≤ counts.old.steps + decision_step_limit (map (entry_list_of T.seen) lists.now) (length path.now) }
     ensures looks { counts.new.looks
@@ -56,7 +57,7 @@ pub fn decide_with_counts<T: search::Pattern, S: Ledger, L: Ledger>(
     glob_lists::decide_with_counts(
         lists,
         &RepositoryPath::from_plain(path, is_dir),
-        case,
+        Rules::by_crate(case),
         counts,
     )
 }

@@ -18,7 +18,7 @@ use gix_glob::pattern::Case;
 use gix_glob::search;
 use gix_glob::search::Watched;
 use gix_glob::search::pattern::{List, Mapping};
-use glob_lists::{Cursor, RepositoryPath};
+use glob_lists::{Cursor, RepositoryPath, Rules};
 use std::alloc::{AllocError, Global};
 use std::io::{Read, Write};
 
@@ -68,7 +68,7 @@ fn decisions_of<T: search::Pattern>(
     requires { BasesAreFolders (map (entry_list_of T.seen) lists.now) }
     ensures { IfOk result (λ text. DecisionsText (map (entry_list_of T.seen) lists.now) case paths.now text.items) }
 {
-    let stack = ListStack::new(alloc, lists, case)?;
+    let stack = ListStack::new(alloc, lists, Rules::by_crate(case))?;
     let cursor = Cursor::new();
     report_on(alloc, &mut Decision { stack, cursor }, paths)
 }
@@ -90,7 +90,7 @@ impl<'a, T: search::Pattern> PathReport for Decision<'a, T> {
 
     ghost basis = { λ report. report.stack };
 
-    ghost writes = { λ stack. WritesDecision (map (entry_list_of T.seen) stack.lists) stack.case };
+    ghost writes = { λ stack. WritesDecision (map (entry_list_of T.seen) stack.lists) stack.rules };
 
     fn append(&mut self, text: &mut Vec<u8>, path: &RepositoryPath<'_>) -> Result<(), AllocError> {
         match self.stack.decide_near(path, &mut self.cursor) {

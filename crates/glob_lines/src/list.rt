@@ -6,6 +6,7 @@ ghost use Rattle.std.specs.Io.KnownBytes.{Appends};
 ghost use Rattle.gix_glob.specs.Entries.{entry_of};
 ghost use Rattle.gix_glob.specs.Paths.{IsFolder, has_file_part};
 ghost use Rattle.gix_glob.specs.Watched.{has_failed, inner};
+ghost use Rattle.glob_lists.specs.Rules.{by_crate};
 ghost use Rattle.glob_lines.specs.Mappings.{MappingsText, ReadsBoth};
 ghost use Rattle.glob_lines.specs.Transfers.{AppendsFront, Run, TellsFaults};
 ghost use Rattle.glob_lines.specs.Private.Answering.{MatchesText};
@@ -20,7 +21,7 @@ use crate::transfer::{read_whole, write_output};
 use gix_glob::pattern::Case;
 use gix_glob::search::Watched;
 use gix_glob::search::pattern::List;
-use glob_lists::RepositoryPath;
+use glob_lists::{RepositoryPath, Rules};
 use std::alloc::{AllocError, Global};
 use std::io::{Read, Write};
 use std::slice;
@@ -82,11 +83,11 @@ fn matches_of(
 ) -> Result<Vec<u8>, AllocError>
     requires { ForSome (option_map vec_items list.now.base) IsFolder }
     ensures { IfOk result (λ text.
-        MatchesText (map (entry_of (λ _. tt)) list.now.patterns.items) (option_map vec_items list.now.base) case paths.now text.items) }
+        MatchesText (map (entry_of (λ _. tt)) list.now.patterns.items) (option_map vec_items list.now.base) (by_crate case) paths.now text.items) }
 {
     let mut report = Matches {
         list,
-        stack: ListStack::new(alloc, slice::from_ref(list), case)?,
+        stack: ListStack::new(alloc, slice::from_ref(list), Rules::by_crate(case))?,
         pairs: Vec::new(alloc),
     };
     report_on(alloc, &mut report, paths)
@@ -108,13 +109,13 @@ impl<'a> PathReport for Matches<'a> {
     ghost use Rattle.std.specs.Vec.{vec_items};
     ghost use Rattle.gix_glob.specs.Entries.{entry_of};
     ghost use Rattle.glob_lines.specs.Mappings.{WritesNumbers};
-    ghost use Rattle.glob_lines.specs.Private.Answering.{CasedList};
+    ghost use Rattle.glob_lines.specs.Private.Answering.{RuledList};
 
-    ghost Basis = { CasedList };
+    ghost Basis = { RuledList };
 
-    ghost basis = { λ report. record { entries = map (entry_of (λ _. tt)) report.list.now.patterns.items; base = option_map vec_items report.list.now.base; case = report.stack.case } };
+    ghost basis = { λ report. record { entries = map (entry_of (λ _. tt)) report.list.now.patterns.items; base = option_map vec_items report.list.now.base; rules = report.stack.rules } };
 
-    ghost writes = { λ it. WritesNumbers it.entries it.base it.case };
+    ghost writes = { λ it. WritesNumbers it.entries it.base it.rules };
 
     fn append(&mut self, text: &mut Vec<u8>, path: &RepositoryPath<'_>) -> Result<(), AllocError> {
         self.stack.matches_into(path, &mut self.pairs)?;

@@ -1,4 +1,5 @@
 pub mod Paths
+pub mod Rules
 pub mod Deciding
 pub mod DecisionLimits
 pub mod Index

@@ -6,6 +6,7 @@ ghost use Rattle.gix_glob.specs.Paths.{IsFolder};
 ghost use Rattle.gix_glob.specs.Patterns.{is_negative};
 ghost use Rattle.gix_glob.specs.Steps.{IsBlankOf, NeverFall};
 ghost use Rattle.glob_lists.specs.Deciding.{AnswersAt, BasesAreFolders, Decides, HasFolder};
+ghost use Rattle.glob_lists.specs.Rules.{by_crate};
 ghost use Rattle.glob_lists.specs.DecisionLimits.{decision_look_limit, decision_step_limit, list_look_limit, list_step_limit};
 
 pub(crate) mod among;
@@ -15,6 +16,7 @@ pub(crate) mod matching;
 use crate::deciding::among::{AskedLists, decide_among};
 use crate::deciding::list_stack::ListStack;
 use crate::path::RepositoryPath;
+use crate::rules::Rules;
 use gix_glob::pattern::Case;
 use gix_glob::search;
 use gix_glob::search::pattern::List;
@@ -34,9 +36,21 @@ pub fn decide<T: search::Pattern>(
     case: Case,
 ) -> Option<(usize, usize)>
     requires folders { BasesAreFolders (map (entry_list_of T.seen) lists.now) }
-    ensures { Decides (map (entry_list_of T.seen) lists.now) path.now.bytes path.now.is_dir case result }
+    ensures { Decides (map (entry_list_of T.seen) lists.now) path.now.bytes path.now.is_dir (by_crate case) result }
 {
-    decide_with_new_counts::<T, Brand, Brand>(lists, path, case, (Blank::new(1), Blank::new(1)))
+    decide_by(lists, path, Rules::by_crate(case))
+}
+
+/// Which pattern decides about a path, as [`decide`] answers it, by these rules.
+pub fn decide_by<T: search::Pattern>(
+    lists: &[List<T>],
+    path: &RepositoryPath<'_>,
+    rules: Rules,
+) -> Option<(usize, usize)>
+    requires folders { BasesAreFolders (map (entry_list_of T.seen) lists.now) }
+    ensures { Decides (map (entry_list_of T.seen) lists.now) path.now.bytes path.now.is_dir rules result }
+{
+    decide_with_new_counts::<T, Brand, Brand>(lists, path, rules, (Blank::new(1), Blank::new(1)))
 }
 
 /// Which pattern decides about a path, with new counts that no one asks for.
@@ -44,18 +58,18 @@ pub fn decide<T: search::Pattern>(
 fn decide_with_new_counts<T: search::Pattern, S: Ledger, L: Ledger>(
     lists: &[List<T>],
     path: &RepositoryPath<'_>,
-    case: Case,
+    rules: Rules,
     blanks: (Blank, Blank),
 ) -> Option<(usize, usize)>
     requires folders { BasesAreFolders (map (entry_list_of T.seen) lists.now) }
     requires steps { IsBlankOf S.name S.parts blanks.0 }
     requires looks { IsBlankOf L.name L.parts blanks.1 }
-    ensures { Decides (map (entry_list_of T.seen) lists.now) path.now.bytes path.now.is_dir case result }
+    ensures { Decides (map (entry_list_of T.seen) lists.now) path.now.bytes path.now.is_dir rules result }
 {
     decide_with_counts(
         lists,
         path,
-        case,
+        rules,
         &mut Counts::<S, L>::new(blanks.0, blanks.1),
     )
 }
@@ -68,18 +82,18 @@ fn decide_with_new_counts<T: search::Pattern, S: Ledger, L: Ledger>(
 pub fn decide_with_counts<T: search::Pattern, S: Ledger, L: Ledger>(
     lists: &[List<T>],
     path: &RepositoryPath<'_>,
-    case: Case,
+    rules: Rules,
     counts: &mut Counts<S, L>,
 ) -> Option<(usize, usize)>
     requires folders { BasesAreFolders (map (entry_list_of T.seen) lists.now) }
-    ensures exact { Decides (map (entry_list_of T.seen) lists.now) path.now.bytes path.now.is_dir case result }
+    ensures exact { Decides (map (entry_list_of T.seen) lists.now) path.now.bytes path.now.is_dir rules result }
     ensures steps { counts.new.steps
         ≤ counts.old.steps + decision_step_limit (map (entry_list_of T.seen) lists.now) (length path.now.bytes) }
     ensures looks { counts.new.looks
         ≤ counts.old.looks + decision_look_limit (map (entry_list_of T.seen) lists.now) (length path.now.bytes) }
     ensures grows { NeverFall counts.old counts.new }
 {
-    decide_among(&Asked { lists, path, case }, counts)
+    decide_among(&Asked { lists, path, rules }, counts)
 }
 
 /// Lists, each pattern of which is tested, and what they are asked: which of their patterns match this path.
@@ -87,7 +101,7 @@ pub fn decide_with_counts<T: search::Pattern, S: Ledger, L: Ledger>(
 pub(crate) struct Asked<'a, 'p, T: search::Pattern> {
     pub(crate) lists: &'a [List<T>],
     pub(crate) path: &'a RepositoryPath<'p>,
-    pub(crate) case: Case,
+    pub(crate) rules: Rules,
 }
 
 impl<'a, 'p, T: search::Pattern> AskedLists for Asked<'a, 'p, T> {
@@ -97,7 +111,7 @@ impl<'a, 'p, T: search::Pattern> AskedLists for Asked<'a, 'p, T> {
 
     ghost path = { λ asked. asked.path.now };
 
-    ghost case = { λ asked. asked.case };
+    ghost rules = { λ asked. asked.rules };
 
     ghost can_ask = { λ asked. BasesAreFolders (map (entry_list_of T.seen) asked.lists.now) };
 
@@ -114,7 +128,7 @@ impl<'a, 'p, T: search::Pattern> AskedLists for Asked<'a, 'p, T> {
         i: usize,
         counts: &mut Counts<S, L>,
     ) -> Option<usize> {
-        last_match(&self.lists[i], self.path, self.case, counts)
+        last_match(&self.lists[i], self.path, self.rules, counts)
     }
 }
 
@@ -128,8 +142,8 @@ impl<'a, T: search::Pattern> ListStack for &'a [List<T>] {
     ghost is_lawful = { λ _. Unit {0} };
 
     #[inline(always)]
-    fn decide(&self, path: &RepositoryPath<'_>, case: Case) -> Option<(usize, usize)> {
-        decide(*self, path, case)
+    fn decide(&self, path: &RepositoryPath<'_>, rules: Rules) -> Option<(usize, usize)> {
+        decide_by(*self, path, rules)
     }
 
     #[inline(always)]
@@ -151,22 +165,22 @@ pub(crate) fn is_negative_in<T: search::Pattern>(list: &List<T>, place: usize) -
 pub(crate) fn last_match<T: search::Pattern, S: Ledger, L: Ledger>(
     list: &List<T>,
     path: &RepositoryPath<'_>,
-    case: Case,
+    rules: Rules,
     counts: &mut Counts<S, L>,
 ) -> Option<usize>
     requires folder { HasFolder (entry_list_of T.seen list.now) }
     ensures last { MatchOption result
-        ((m : ℕ) → ¬ AnswersAt (entry_list_of T.seen list.now) path.now.bytes path.now.is_dir case m)
-        (λ last. AnswersAt (entry_list_of T.seen list.now) path.now.bytes path.now.is_dir case last
-        × ((m : ℕ) → AnswersAt (entry_list_of T.seen list.now) path.now.bytes path.now.is_dir case m → m ≤ last)) }
+        ((m : ℕ) → ¬ AnswersAt (entry_list_of T.seen list.now) path.now.bytes path.now.is_dir rules m)
+        (λ last. AnswersAt (entry_list_of T.seen list.now) path.now.bytes path.now.is_dir rules last
+        × ((m : ℕ) → AnswersAt (entry_list_of T.seen list.now) path.now.bytes path.now.is_dir rules m → m ≤ last)) }
     ensures steps { counts.new.steps ≤ counts.old.steps + list_step_limit (entry_list_of T.seen list.now) (length path.now.bytes) }
     ensures looks { counts.new.looks ≤ counts.old.looks + list_look_limit (entry_list_of T.seen list.now) (length path.now.bytes) }
     ensures grows { NeverFall counts.old counts.new }
 {
-    let rest = path.under_with_counts(list, case, counts)?;
+    let rest = path.under_with_counts(list, rules.case, counts)?;
     let mappings = list.patterns.as_slice();
     for m in (0..mappings.len()).rev() {
-        if rest.is_matched_with_counts(mappings[m].pattern.view(), case, counts) {
+        if rest.is_matched_with_counts(mappings[m].pattern.view(), rules, counts) {
             return Some(m);
         }
     }

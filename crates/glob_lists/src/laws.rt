@@ -1,6 +1,6 @@
 //! Laws of what lists say of a path: each is a call that does nothing, which a caller makes to know what it ensures.
 ghost use Rattle.std.specs.Prelude.{◌≡◌, ℕ, Bool, List, Option};
-ghost use Rattle.gix_glob.specs.declared.pattern.Case.{Case};
+ghost use Rattle.glob_lists.specs.declared.rules.Rules.{Rules};
 ghost use Rattle.gix_glob.specs.declared.pattern.Mode as pattern;
 ghost use Rattle.gix_glob.specs.Entries.{Entry};
 ghost use Rattle.gix_glob.specs.EntryLists.{EntryList};
@@ -20,8 +20,8 @@ use gix_glob::search;
 
 /// At most one pattern of a stack of lists decides about a path: what decides is one pair of places, or none.
 pub fn decides_one_pair<T: search::Pattern>()
-    ensures { (lists : List (EntryList T.Seen)) (path : List ℕ) (is_dir : Bool) (case : Case) (pair other : Option (ℕ × ℕ)) →
-        Decides lists path is_dir case pair → Decides lists path is_dir case other → pair ≡ other }
+    ensures { (lists : List (EntryList T.Seen)) (path : List ℕ) (is_dir : Bool) (rules : Rules) (pair other : Option (ℕ × ℕ)) →
+        Decides lists path is_dir rules pair → Decides lists path is_dir rules other → pair ≡ other }
 {}
 
 /// The base of a list that was loaded is that of a folder: so lists that were loaded meet
@@ -35,9 +35,9 @@ pub fn loaded_lists_have_folders<T: search::Pattern>()
 
 /// A pattern that answers for what a base leaves of a path asks for nothing that the path doesn't show.
 pub(crate) fn answering_patterns_pass()
-    ensures { (text : List ℕ) (mode : pattern.Mode) (base : Option (List ℕ)) (path rest : List ℕ) (is_dir : Bool) (case : Case)
-        (row : Row) (probe : Probe) → Shows path probe → Asks text mode row → RestOf case base path rest
-        → AnswersFor text mode rest is_dir case → Passes row probe }
+    ensures { (text : List ℕ) (mode : pattern.Mode) (base : Option (List ℕ)) (path rest : List ℕ) (is_dir : Bool) (rules : Rules)
+        (row : Row) (probe : Probe) → Shows path probe → Asks text mode row → RestOf rules.case base path rest
+        → AnswersFor text mode rest is_dir rules → Passes row probe }
 {
     matched_values_end_as_the_text();
     matched_values_have_the_literal_bytes();

@@ -1,5 +1,5 @@
 //! Paths of a repository: which bytes are one, and what the base of a list leaves of it.
-ghost use Rattle.std.specs.Prelude.{◌≡◌, ◌+◌, ◌≤◌, ◌↔◌, IsTrue, MatchOption, Some, length, option_map, take, true};
+ghost use Rattle.std.specs.Prelude.{◌≡◌, ◌+◌, ◌≤◌, ◌↔◌, [], false, IsTrue, MatchOption, Some, length, option_map, take, true};
 ghost use Rattle.std.specs.Option.{ForSome};
 ghost use Rattle.std.specs.Vec.{vec_items};
 ghost use Rattle.gix_glob.specs.Bytes.{HasByte, slash};
@@ -12,6 +12,7 @@ ghost use Rattle.gix_glob.specs.Stripping.{NothingLeft, Rest, RestOf, strip_look
 ghost use Rattle.glob_lists.specs.Deciding.{AnswersFor};
 ghost use Rattle.glob_lists.specs.Paths.{IsPlainPath, MarksDirectory};
 
+use crate::rules::{Reading, Rules};
 use gix_glob::pattern::{Case, PatternView, basename_start};
 use gix_glob::search::pattern::{List, strip_base_handle_recompute_basename_pos};
 use gix_glob::wildmatch::{Counts, Mode};
@@ -21,7 +22,7 @@ use std::sync::ledger::Ledger;
 
 /// A path of a repository, or what a base leaves of one: its bytes, and whether it is a directory's.
 ///
-/// The bytes begin with no slash and have no two slashes in a row. They are empty only where a base was all of a path. A part `.` or
+/// The bytes begin with no slash and have no two slashes in a row. They are empty only of the top, and where a base was all of a path. A part `.` or
 /// `..` is a name like any other here, where Git goes to the folder that it means: lead such paths to where they mean before.
 /// Contracts see the bytes, and whether it is a directory's.
 #[derive(Debug, Drop)]
@@ -69,6 +70,19 @@ impl<'a> RepositoryPath<'a> {
             return None;
         }
         Some(RepositoryPath::from_plain(bytes, is_dir))
+    }
+
+    /// The top of a repository, which has no bytes. It isn't said to be a directory: no pattern for directories alone speaks of it.
+    ///
+    /// A pattern for paths that matches no bytes would match it, though as Git has it none does.
+    pub fn top() -> RepositoryPath<'a>
+        ensures { result ≡ record { bytes = []; is_dir = false } }
+    {
+        RepositoryPath {
+            bytes: &[],
+            basename_start: None,
+            is_dir: false,
+        }
     }
 
     /// The path of bytes that are known to be a [`plain_path`], which are not tested again.
@@ -207,20 +221,28 @@ impl<'a> RepositoryPath<'a> {
         })
     }
 
-    /// Whether a pattern matches the path, where no wildcard matches a slash. It looks at the whole path, whatever stands
+    /// Whether a pattern matches the path by these rules, where no wildcard matches a slash. It looks at the whole path, whatever stands
     /// before it in the repository.
     #[inline(always)]
-    pub fn is_matched_by(&self, pattern: PatternView<'_>, case: Case) -> bool
+    pub fn is_matched_by(&self, pattern: PatternView<'_>, rules: Rules) -> bool
         ensures { IsPattern pattern.entry.text.now pattern.entry.mode pattern.entry.first_wildcard_pos →
-            IsTrue result ↔ AnswersFor pattern.entry.text.now pattern.entry.mode self.now.bytes self.now.is_dir case }
+            IsTrue result ↔ AnswersFor pattern.entry.text.now pattern.entry.mode self.now.bytes self.now.is_dir rules }
     {
-        pattern.matches_repo_relative_path(
-            self.bytes,
-            self.basename_start,
-            Some(self.is_dir),
-            case,
-            Mode::NO_MATCH_SLASH_LITERAL,
-        )
+        match rules.reading {
+            Reading::Crate => pattern.matches_repo_relative_path(
+                self.bytes,
+                self.basename_start,
+                Some(self.is_dir),
+                rules.case,
+                Mode::NO_MATCH_SLASH_LITERAL,
+            ),
+            Reading::Git => pattern.matches_path_as_git(
+                self.bytes,
+                self.basename_start,
+                Some(self.is_dir),
+                rules.case,
+            ),
+        }
     }
 
     /// Whether a pattern matches the path, as [`RepositoryPath::is_matched_by`] answers it, with its steps and looks counted.
@@ -231,24 +253,33 @@ impl<'a> RepositoryPath<'a> {
     pub fn is_matched_with_counts<S: Ledger, L: Ledger>(
         &self,
         pattern: PatternView<'_>,
-        case: Case,
+        rules: Rules,
         counts: &mut Counts<S, L>,
     ) -> bool
         ensures exact { IsPattern pattern.entry.text.now pattern.entry.mode pattern.entry.first_wildcard_pos →
-            IsTrue result ↔ AnswersFor pattern.entry.text.now pattern.entry.mode self.now.bytes self.now.is_dir case }
+            IsTrue result ↔ AnswersFor pattern.entry.text.now pattern.entry.mode self.now.bytes self.now.is_dir rules }
         ensures steps { counts.new.steps ≤ counts.old.steps + step_limit (length pattern.entry.text.now) (length self.now.bytes) }
         ensures looks { counts.new.looks
             ≤ counts.old.looks + pattern_look_limit (length pattern.entry.text.now) (length self.now.bytes) }
         ensures grows { NeverFall counts.old counts.new }
     {
-        pattern.matches_repo_relative_path_with_counts(
-            self.bytes,
-            self.basename_start,
-            Some(self.is_dir),
-            case,
-            Mode::NO_MATCH_SLASH_LITERAL,
-            counts,
-        )
+        match rules.reading {
+            Reading::Crate => pattern.matches_repo_relative_path_with_counts(
+                self.bytes,
+                self.basename_start,
+                Some(self.is_dir),
+                rules.case,
+                Mode::NO_MATCH_SLASH_LITERAL,
+                counts,
+            ),
+            Reading::Git => pattern.matches_path_as_git_with_counts(
+                self.bytes,
+                self.basename_start,
+                Some(self.is_dir),
+                rules.case,
+                counts,
+            ),
+        }
     }
 }
 

@@ -15,7 +15,8 @@ use crate::list::answering::is_answer;
 use crate::list::chains::{FEWEST_CHAINS, FEWEST_ROWS, chain};
 use crate::list::walk::Walk;
 use crate::path::RepositoryPath;
-use gix_glob::pattern::{Case, PatternView};
+use crate::rules::Rules;
+use gix_glob::pattern::PatternView;
 use gix_glob::wildmatch::Counts;
 use std::marker::Brand;
 use std::sync::ledger::{Blank, Ledger};
@@ -102,20 +103,20 @@ pub fn last_match<P: Viewed>(
     rows: &[Row],
     heads: &Heads,
     path: &RepositoryPath<'_>,
-    case: Case,
+    rules: Rules,
 ) -> Option<usize>
     requires { length patterns.now ≤ length rows.now }
     ensures inside { IfSome result (λ place. place < length patterns.now) }
     ensures exact { All (λ (pattern : P). IsLawfulEntry (P.seen pattern)) patterns.now
         → ArePrepared (map P.seen patterns.now) (take (length patterns.now) rows.now) heads.now
-        → Decides (list_without_base (map P.seen patterns.now) ∷ []) path.now.bytes path.now.is_dir case (option_map (λ (place : ℕ). (0, place)) result) }
+        → Decides (list_without_base (map P.seen patterns.now) ∷ []) path.now.bytes path.now.is_dir rules (option_map (λ (place : ℕ). (0, place)) result) }
 {
     last_match_with::<P, Brand, Brand>(
         patterns,
         &rows[..patterns.len()],
         heads.over(patterns.len()),
         path,
-        case,
+        rules,
         Blank::new(1),
         Blank::new(1),
     )
@@ -128,7 +129,7 @@ fn last_match_with<P: Viewed, S: Ledger, L: Ledger>(
     rows: &[Row],
     heads: &[Link],
     path: &RepositoryPath<'_>,
-    case: Case,
+    rules: Rules,
     steps: Blank,
     looks: Blank,
 ) -> Option<usize>
@@ -139,7 +140,7 @@ fn last_match_with<P: Viewed, S: Ledger, L: Ledger>(
     ensures inside { IfSome result (λ place. place < length patterns.now) }
     ensures exact { All (λ (pattern : P). IsLawfulEntry (P.seen pattern)) patterns.now
         → AreAsked (map P.seen patterns.now) rows.now → (1 < length heads.now → AreChained rows.now heads.now)
-        → Decides (list_without_base (map P.seen patterns.now) ∷ []) path.now.bytes path.now.is_dir case (option_map (λ (place : ℕ). (0, place)) result) }
+        → Decides (list_without_base (map P.seen patterns.now) ∷ []) path.now.bytes path.now.is_dir rules (option_map (λ (place : ℕ). (0, place)) result) }
 {
     // a law does nothing: it is called for what it ensures
     laws::answering_patterns_pass();
@@ -155,7 +156,7 @@ fn last_match_with<P: Viewed, S: Ledger, L: Ledger>(
         &mut counts,
     ) {
         let pattern = patterns[place].view();
-        if is_answer(&rows[place], &probe, pattern, path, case, &mut counts) {
+        if is_answer(&rows[place], &probe, pattern, path, rules, &mut counts) {
             return Some(place);
         }
     }

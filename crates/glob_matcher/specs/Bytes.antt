@@ -1,9 +1,11 @@
--- Bytes at places of a text, the bits of a mode, and folding.
-use Rattle.std.specs.Prelude.{◌≡◌, ◌≢◌, ℕ, ◌+◌, ◌<◌, ◌≤◌, Bool, false, List, [], ◌∷◌, ◌++◌, length, slice_index, ◌==◌, bit_and, ◌||◌, if◌then◌else◌}
-use Rattle.std.specs.Char.{to_ascii_lowercase}
+-- Bytes at places of a text, ways to match, and folding.
+use Rattle.std.specs.Prelude.{◌≡◌, ◌≢◌, ℕ, ◌+◌, ◌<◌, ◌≤◌, Bool, false, true, ◌&&◌, List, [], ◌∷◌, ◌++◌, length, slice_index, ◌==◌, ◌||◌, if◌then◌else◌}
+use Rattle.std.specs.Char.{is_ascii_uppercase, to_ascii_lowercase}
 use Rattle.std.specs.List.{list_any}
 use Rattle.std.specs.Str.{byte}
-use Rattle.glob_matcher.specs.declared.wildmatch.mode.Mode.{Mode}
+use Rattle.glob_matcher.specs.declared.wildmatch.way.Folding.{Folding}
+use Rattle.glob_matcher.specs.declared.wildmatch.way.Folding.TheVariants.{Off, Both, Exact}
+use Rattle.glob_matcher.specs.declared.wildmatch.way.Way.{Way}
 
 -- bytes with a meaning of their own
 abbrev pub star : ℕ
@@ -53,14 +55,37 @@ pub record NoSlash (value : List ℕ) (k e : ℕ) : Type 0 where
 abbrev pub has_slash : List ℕ → Bool
 has_slash text = list_any (λ b. b == slash) text
 
--- whether the mode asks that no wildcard match a slash
-abbrev pub is_path : Mode → Bool
-is_path mode = bit_and mode.0 1 == 1
+-- whether no wildcard matches a slash
+abbrev pub is_path : Way → Bool
+is_path way = way.path
 
--- whether the mode asks that the case of ASCII letters not count
-abbrev pub folds : Mode → Bool
-folds mode = bit_and mode.0 2 == 2
+-- whether folding is on, and whether it is exact
+abbrev pub is_on : Folding → Bool
+is_on Off = false
+is_on Both = true
+is_on Exact = true
 
--- a byte after folding, where the mode asks for it
-abbrev pub fold : Mode → ℕ → ℕ
-fold mode b = if folds mode then to_ascii_lowercase b else b
+abbrev pub is_exact_one : Folding → Bool
+is_exact_one Off = false
+is_exact_one Both = false
+is_exact_one Exact = true
+
+-- whether the case of ASCII letters doesn't count
+abbrev pub folds : Way → Bool
+folds way = is_on way.folding
+
+-- whether only the value, and what stands for itself in the pattern, is folded
+abbrev pub is_exact : Way → Bool
+is_exact way = is_exact_one way.folding
+
+-- a byte after folding, where it is folded: of the value, or one that stands for itself in the pattern
+abbrev pub fold : Way → ℕ → ℕ
+fold way b = if folds way then to_ascii_lowercase b else b
+
+-- the same of a byte that is escaped, or that a set has
+abbrev pub fold_inner : Way → ℕ → ℕ
+fold_inner way b = if is_exact way then b else fold way b
+
+-- an escaped byte that matches nothing: a capital, where folding is exact
+abbrev pub is_dead : Way → ℕ → Bool
+is_dead way b = is_exact way && is_ascii_uppercase b

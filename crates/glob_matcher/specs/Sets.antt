@@ -2,52 +2,57 @@
 use Rattle.std.specs.Prelude.{◌≡◌, ◌≢◌, ◌↔◌, ◌⊎◌, ℕ, ◌+◌, ◌-◌, ◌<◌, ◌≤◌, Bool, true, false, not, ◌&&◌, ◌||◌, ◌==◌, nat_le, IsTrue, List, [], ◌∷◌, length, slice_range, Option, Some, None, IsSomeAnd, if◌then◌else◌, codes}
 use Rattle.std.specs.List.{list_any}
 use Rattle.std.specs.Char.{to_ascii_uppercase, is_ascii_alphabetic, is_ascii_alphanumeric, is_ascii_control, is_ascii_digit, is_ascii_graphic, is_ascii_hexdigit, is_ascii_lowercase, is_ascii_punctuation, is_ascii_uppercase}
-use Rattle.glob_matcher.specs.declared.wildmatch.mode.Mode.{Mode}
+use Rattle.glob_matcher.specs.declared.wildmatch.way.Way.{Way}
 use Rattle.glob_matcher.specs.declared.wildmatch.items.Class.{Class}
 use Rattle.glob_matcher.specs.declared.wildmatch.items.Class.TheVariants as class
 use Rattle.glob_matcher.specs.declared.wildmatch.items.Item.{Item}
 use Rattle.glob_matcher.specs.declared.wildmatch.items.Item.TheVariants as item
-use Rattle.glob_matcher.specs.Bytes.{HasByte, IsEscaped, fold, folds, is_path, open_bracket, backslash, slash}
+use Rattle.glob_matcher.specs.Bytes.{HasByte, IsEscaped, fold, fold_inner, folds, is_exact, is_path, open_bracket, backslash, slash}
 use Rattle.std.specs.Str.{byte}
 
 -- The classes: the name that stands for one between `[:` and `:]`, and its bytes, which are folded already.
-abbrev pub class_row : Class → List ℕ × (Mode → ℕ → Bool)
-class_row class.Alnum = (codes "alnum", λ mode b. is_ascii_alphanumeric b)
-class_row class.Alpha = (codes "alpha", λ mode b. is_ascii_alphabetic b)
-class_row class.Blank = (codes "blank", λ mode b. b == 32 || b == 9)
-class_row class.Cntrl = (codes "cntrl", λ mode b. is_ascii_control b)
-class_row class.Digit = (codes "digit", λ mode b. is_ascii_digit b)
-class_row class.Graph = (codes "graph", λ mode b. is_ascii_graphic b)
-class_row class.Lower = (codes "lower", λ mode b. is_ascii_lowercase b)
-class_row class.Print = (codes "print", λ mode b. b == 32 || is_ascii_graphic b)
-class_row class.Punct = (codes "punct", λ mode b. is_ascii_punctuation b)
-class_row class.Space = (codes "space", λ mode b. (b == 32 || b == 9) || (b == 10 || b == 13))
-class_row class.Upper = (codes "upper", λ mode b. is_ascii_uppercase b || (folds mode && is_ascii_lowercase b))
-class_row class.Xdigit = (codes "xdigit", λ mode b. is_ascii_hexdigit b)
+abbrev pub class_row : Class → List ℕ × (Way → ℕ → Bool)
+class_row class.Alnum = (codes "alnum", λ way b. is_ascii_alphanumeric b)
+class_row class.Alpha = (codes "alpha", λ way b. is_ascii_alphabetic b)
+class_row class.Blank = (codes "blank", λ way b. b == 32 || b == 9)
+class_row class.Cntrl = (codes "cntrl", λ way b. is_ascii_control b)
+class_row class.Digit = (codes "digit", λ way b. is_ascii_digit b)
+class_row class.Graph = (codes "graph", λ way b. is_ascii_graphic b)
+class_row class.Lower = (codes "lower", λ way b. is_ascii_lowercase b)
+class_row class.Print = (codes "print", λ way b. b == 32 || is_ascii_graphic b)
+class_row class.Punct = (codes "punct", λ way b. is_ascii_punctuation b)
+class_row class.Space = (codes "space", λ way b. (b == 32 || b == 9) || (b == 10 || b == 13))
+class_row class.Upper = (codes "upper", λ way b. is_ascii_uppercase b || (folds way && is_ascii_lowercase b))
+class_row class.Xdigit = (codes "xdigit", λ way b. is_ascii_hexdigit b)
 
 abbrev pub name_of : Class → List ℕ
 name_of class = (class_row class).0
 
-abbrev pub class_holds : Mode → Class → ℕ → Bool
-class_holds mode class b = (class_row class).1 mode b
+abbrev pub class_holds : Way → Class → ℕ → Bool
+class_holds way class b = (class_row class).1 way b
 
 -- a number lies between two others, in either order
 abbrev pub is_between : ℕ → ℕ → ℕ → Bool
 is_between a b n = (nat_le a n && nat_le n b) || (nat_le b n && nat_le n a)
 
--- the bytes of a range. Where case doesn't count, the ends and the byte are folded, and a letter is in the range also
--- where its uppercase lies between the uppercased ends, in either order.
-abbrev pub range_holds : Mode → ℕ → ℕ → ℕ → Bool
-range_holds mode low high b =
-    (nat_le (fold mode low) (fold mode b) && nat_le (fold mode b) (fold mode high))
-    || (folds mode && is_ascii_lowercase (fold mode b)
-    && is_between (to_ascii_uppercase (fold mode low)) (to_ascii_uppercase (fold mode high)) (to_ascii_uppercase (fold mode b)))
+-- the capital of a letter lies between the ends: where folding is exact as they are, else uppercased and in either order
+abbrev pub capital_lies : Way → ℕ → ℕ → ℕ → Bool
+capital_lies way low high c =
+    if is_exact way then nat_le low c && nat_le c high
+    else is_between (to_ascii_uppercase (fold way low)) (to_ascii_uppercase (fold way high)) c
+
+-- The bytes of a range. Where case doesn't count, the byte is folded, and the ends are, unless folding is exact; a letter is in the range also
+-- where its capital lies between the ends.
+abbrev pub range_holds : Way → ℕ → ℕ → ℕ → Bool
+range_holds way low high b =
+    (nat_le (fold_inner way low) (fold way b) && nat_le (fold way b) (fold_inner way high))
+    || (folds way && is_ascii_lowercase (fold way b) && capital_lies way low high (to_ascii_uppercase (fold way b)))
 
 -- the bytes of an item
-abbrev pub item_holds : Mode → ℕ → Item → Bool
-item_holds mode b (item.Member m) = fold mode b == fold mode m
-item_holds mode b (item.Range low high) = range_holds mode low high b
-item_holds mode b (item.Class c) = class_holds mode c (fold mode b)
+abbrev pub item_holds : Way → ℕ → Item → Bool
+item_holds way b (item.Member m) = fold way b == fold_inner way m
+item_holds way b (item.Range low high) = range_holds way low high b
+item_holds way b (item.Class c) = class_holds way c (fold way b)
 
 -- a set as it is read: whether it is negated, and its items in order
 pub record Set : Type 0 where
@@ -55,10 +60,10 @@ pub record Set : Type 0 where
   pub items : List Item
 
 -- the bytes that a set holds: those of its items, or where it is negated all others, but in path mode never a slash
-abbrev pub set_holds : Mode → Set → ℕ → Bool
-set_holds mode set b =
-    not (is_path mode && b == slash)
-    && (if set.negated then not (list_any (item_holds mode b) set.items) else list_any (item_holds mode b) set.items)
+abbrev pub set_holds : Way → Set → ℕ → Bool
+set_holds way set b =
+    not (is_path way && b == slash)
+    && (if set.negated then not (list_any (item_holds way b) set.items) else list_any (item_holds way b) set.items)
 
 -- place j is the first from place i on that has the byte b
 pub record IsFirstFrom (text : List ℕ) (i b j : ℕ) : Type 0 where

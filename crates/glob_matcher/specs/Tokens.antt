@@ -1,7 +1,7 @@
 -- The tokens of a pattern, by the places where they are spelled.
-use Rattle.std.specs.Prelude.{◌≡◌, ◌⊎◌, ℕ, ◌+◌, ◌-◌, ◌<◌, ◌≤◌, IsTrue, List, [], ◌∷◌, length}
-use Rattle.glob_matcher.specs.declared.wildmatch.mode.Mode.{Mode}
-use Rattle.glob_matcher.specs.Bytes.{HasByte, IsEscaped, StandsForItself, is_path, star, open_bracket, backslash, slash}
+use Rattle.std.specs.Prelude.{not, ◌≡◌, ◌⊎◌, ℕ, ◌+◌, ◌-◌, ◌<◌, ◌≤◌, IsTrue, List, [], ◌∷◌, length}
+use Rattle.glob_matcher.specs.declared.wildmatch.way.Way.{Way}
+use Rattle.glob_matcher.specs.Bytes.{HasByte, IsEscaped, StandsForItself, is_dead, is_path, star, open_bracket, backslash, slash}
 use Rattle.glob_matcher.specs.Sets.{Set, SetAt}
 use Rattle.std.specs.Str.{byte}
 
@@ -19,7 +19,7 @@ pub data Token : Type 0 where
   Local : Token
   -- a double star with the slash after it
   Dirs : Token
-  -- what matches nothing: a last lone backslash, or a bracket that begins no set, with the rest of the pattern
+  -- what matches nothing: a backslash that escapes nothing, or a bracket that begins no set, with the rest of the pattern
   Nothing : Token
 
 -- the run of stars from place i up to place j, as long as can be
@@ -35,40 +35,44 @@ pub record IsBounded (pattern : List ℕ) (i j : ℕ) : Type 0 where
   pub after : (j ≡ length pattern) ⊎ (HasByte pattern j slash ⊎ IsEscaped pattern j slash)
 
 -- a run with its slash: in path mode, a bounded run, and the bare slash after it
-pub record DirsAt (mode : Mode) (pattern : List ℕ) (i j : ℕ) : Type 0 where
-  pub path : IsTrue (is_path mode)
+pub record DirsAt (way : Way) (pattern : List ℕ) (i j : ℕ) : Type 0 where
+  pub path : IsTrue (is_path way)
   pub run_end : ℕ
   pub run : IsRun pattern i run_end
   pub bounded : IsBounded pattern i run_end
   pub slash : HasByte pattern run_end slash
   pub after : j ≡ run_end + 1
 
--- nothing can match from place i on: a backslash without a byte after it, or a bracket that begins no set
-abbrev pub IsBroken : List ℕ → ℕ → Type 0
-IsBroken pattern i =
-    (HasByte pattern i backslash × (i + 1 ≡ length pattern))
+-- a backslash at place i escapes nothing: no byte follows it, or one that matches nothing
+abbrev pub EscapesNothing : Way → List ℕ → ℕ → Type 0
+EscapesNothing way pattern i = (i + 1 ≡ length pattern) ⊎ ((b : ℕ) × HasByte pattern (i + 1) b × IsTrue (is_dead way b))
+
+-- nothing can match from place i on: a backslash that escapes nothing, or a bracket that begins no set
+abbrev pub IsBroken : Way → List ℕ → ℕ → Type 0
+IsBroken way pattern i =
+    (HasByte pattern i backslash × EscapesNothing way pattern i)
     ⊎ (HasByte pattern i open_bracket × ((set : Set) (j : ℕ) → ¬ SetAt pattern i set j))
 
 -- The token is spelled from place i up to place j. A byte is escaped, or bare where it stands for itself. In plain mode each run
 -- crosses slashes; in path mode a bounded one does, unless a bare slash follows it, and one that isn't bounded stays within a component.
-abbrev pub TokenAt : Mode → List ℕ → ℕ → Token → ℕ → Type 0
-TokenAt mode pattern i (Byte b) j = (IsEscaped pattern i b × (j ≡ i + 2)) ⊎ (HasByte pattern i b × StandsForItself b × (j ≡ i + 1))
-TokenAt mode pattern i Any j = HasByte pattern i (byte "?") × (j ≡ i + 1)
-TokenAt mode pattern i (OneOf set) j = SetAt pattern i set j
-TokenAt mode pattern i Free j = IsRun pattern i j × (IsTrue (is_path mode) → IsBounded pattern i j × ¬ HasByte pattern j slash)
-TokenAt mode pattern i Local j = IsRun pattern i j × IsTrue (is_path mode) × ¬ IsBounded pattern i j
-TokenAt mode pattern i Dirs j = DirsAt mode pattern i j
-TokenAt mode pattern i Nothing j = IsBroken pattern i × (j ≡ length pattern)
+abbrev pub TokenAt : Way → List ℕ → ℕ → Token → ℕ → Type 0
+TokenAt way pattern i (Byte b) j = (IsEscaped pattern i b × (j ≡ i + 2) × IsTrue (not (is_dead way b))) ⊎ (HasByte pattern i b × StandsForItself b × (j ≡ i + 1))
+TokenAt way pattern i Any j = HasByte pattern i (byte "?") × (j ≡ i + 1)
+TokenAt way pattern i (OneOf set) j = SetAt pattern i set j
+TokenAt way pattern i Free j = IsRun pattern i j × (IsTrue (is_path way) → IsBounded pattern i j × ¬ HasByte pattern j slash)
+TokenAt way pattern i Local j = IsRun pattern i j × IsTrue (is_path way) × ¬ IsBounded pattern i j
+TokenAt way pattern i Dirs j = DirsAt way pattern i j
+TokenAt way pattern i Nothing j = IsBroken way pattern i × (j ≡ length pattern)
 
 -- The tokens are spelled, one after the other, from place i up to place j.
-abbrev pub Spells : Mode → List ℕ → ℕ → List Token → ℕ → Type 0
-Spells mode pattern i [] j = i ≡ j
-Spells mode pattern i (t ∷ ts) j = (m : ℕ) × TokenAt mode pattern i t m × Spells mode pattern m ts j
+abbrev pub Spells : Way → List ℕ → ℕ → List Token → ℕ → Type 0
+Spells way pattern i [] j = i ≡ j
+Spells way pattern i (t ∷ ts) j = (m : ℕ) × TokenAt way pattern i t m × Spells way pattern m ts j
 
 -- the tokens from place i on, up to the pattern's end
-abbrev pub From : Mode → List ℕ → ℕ → List Token → Type 0
-From mode pattern i ts = Spells mode pattern i ts (length pattern)
+abbrev pub From : Way → List ℕ → ℕ → List Token → Type 0
+From way pattern i ts = Spells way pattern i ts (length pattern)
 
 -- the tokens whose spellings, joined, are the pattern
-abbrev pub Tokens : Mode → List ℕ → List Token → Type 0
-Tokens mode pattern ts = From mode pattern 0 ts
+abbrev pub Tokens : Way → List ℕ → List Token → Type 0
+Tokens way pattern ts = From way pattern 0 ts

@@ -1,6 +1,6 @@
 //! Matching of bytes against a glob pattern: the mode, and the matcher.
 ghost use Rattle.std.specs.Prelude.{◌↔◌, IsTrue};
-ghost use Rattle.glob_matcher.specs.Matching.{Splits};
+ghost use Rattle.glob_matcher.specs.Matching.{Splits, SplitsBy};
 ghost use Rattle.glob_matcher.specs.Steps.{IsBlankOf};
 
 mod any_of;
@@ -32,6 +32,7 @@ mod texts;
 mod tokens;
 mod turns;
 mod two_marks;
+mod way;
 
 pub use counted_text::CountedText;
 pub use counted_texts::CountedTexts;
@@ -42,6 +43,7 @@ use std::marker::Brand;
 use std::sync::ledger::{Blank, Ledger};
 pub use texts::{Texts, text_is_short};
 pub use two_marks::marked;
+pub use way::{Folding, Way};
 
 /// Whether `pattern` matches the whole of `value`, both as bytes of any kind, in `mode`.
 ///
@@ -50,7 +52,8 @@ pub use two_marks::marked;
 pub fn wildmatch(pattern: &[u8], value: &[u8], mode: Mode) -> bool
     ensures { IsTrue result ↔ Splits value.now pattern.now mode }
 {
-    with_new_counts::<Brand, Brand>(pattern, value, mode, (Blank::new(1), Blank::new(1)))
+    let way = mode.way();
+    with_new_counts::<Brand, Brand>(pattern, value, way, (Blank::new(1), Blank::new(1)))
 }
 
 /// The two marks, with new counts that no one asks for.
@@ -58,13 +61,13 @@ pub fn wildmatch(pattern: &[u8], value: &[u8], mode: Mode) -> bool
 fn with_new_counts<S: Ledger, L: Ledger>(
     pattern: &[u8],
     value: &[u8],
-    mode: Mode,
+    way: Way,
     blanks: (Blank, Blank),
 ) -> bool
     requires steps { IsBlankOf S.name S.parts blanks.0 }
     requires looks { IsBlankOf L.name L.parts blanks.1 }
-    ensures { IsTrue result ↔ Splits value.now pattern.now mode }
+    ensures { IsTrue result ↔ SplitsBy value.now pattern.now way }
 {
     let mut counts = Counts::<S, L>::new(blanks.0, blanks.1);
-    marked(pattern, value, mode, &mut counts)
+    marked(pattern, value, way, &mut counts)
 }

@@ -1,6 +1,7 @@
 pub mod Agreement
 pub mod BareNames
 pub mod ByteSearches
+pub mod FrontEnds
 pub mod FrontLemmas
 pub mod GitAgreement
 pub mod GitLineLemmas
@@ -16,3 +17,4 @@ pub mod ReadingEquations
 pub mod ReadingLemmas
 pub mod Shortcuts
 pub mod ShownLines
+pub mod WholeFronts

@@ -1,2 +1,3 @@
 -- Words that laws alone cite, and no call's contract: what a law says of readings, patterns and values.
+pub mod Fronts
 pub mod LiteralBytes

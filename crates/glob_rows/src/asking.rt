@@ -8,8 +8,8 @@ use crate::subjects::{
     TreeSubject,
 };
 use crate::{
-    attempts, attribute_files, attribute_states, bases, config_files, config_includes, ignore_runs,
-    index_files, lines, lists, matching, patterns, repositories, streams, trees,
+    as_git, attempts, attribute_files, attribute_states, bases, config_files, config_includes,
+    ignore_runs, index_files, lines, lists, matching, patterns, repositories, streams, trees,
 };
 use std::alloc::Global;
 
@@ -100,6 +100,9 @@ fn ask_trees(
     match subject {
         TreeSubject::Decided => trees::trees(alloc, question, answer),
         TreeSubject::Told => trees::trees_told(alloc, question, answer),
+        TreeSubject::DecidedAsGit => as_git::trees(alloc, question, answer),
+        TreeSubject::ToldAsGit => as_git::trees_told(alloc, question, answer),
+        TreeSubject::GitTold => as_git::git_told(alloc, question, answer),
         TreeSubject::Asked => trees::trees_asked(alloc, question, answer),
         TreeSubject::IgnoreRuns => ignore_runs::ignore_runs(alloc, question, answer),
     }
@@ -123,6 +126,8 @@ fn ask_attributes(
         AttributeSubject::NamesRead => attribute_files::names_read(alloc, question, answer),
         AttributeSubject::Kept => attribute_states::attributes_kept(alloc, question, answer),
         AttributeSubject::States => attribute_states::attribute_states(alloc, question, answer),
+        AttributeSubject::StatesAsGit => attribute_states::states_as_git(alloc, question, answer),
+        AttributeSubject::GitTold => as_git::git_attributes(alloc, question, answer),
         AttributeSubject::AllStates => attribute_states::all_states(alloc, question, answer),
         AttributeSubject::Streams => streams::attribute_streams(alloc, question, answer),
     }

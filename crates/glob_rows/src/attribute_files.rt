@@ -10,7 +10,7 @@ use glob_attributes::{
     Assignment, AttributeLines, AttributeNames, LineReading, State, is_name, macros_of, read_line,
     silent_lines,
 };
-use glob_lists::RepositoryPath;
+use glob_lists::{RepositoryPath, Rules};
 use std::alloc::{AllocError, Global};
 
 /// What a line gives: a pattern, or a macro's name between brackets, and a word for each assignment; the reason why it says nothing;
@@ -107,7 +107,7 @@ pub(crate) fn attribute_files(
     question: &Question,
     answer: &mut Answer,
 ) -> Result<(), RowFault> {
-    let mappings = AttributeLines.bytes_to_patterns(alloc, question.bytes(0)?, "")?;
+    let mappings = AttributeLines::default().bytes_to_patterns(alloc, question.bytes(0)?, "")?;
     let mut text = Vec::new(alloc);
     for mapping in &mappings {
         push_text(alloc, &mut text, &mapping.sequence_number)?;
@@ -161,10 +161,10 @@ fn assigned(
     path: &RepositoryPath<'_>,
     answer: &mut Answer,
 ) -> Result<(), RowFault> {
-    let mappings = AttributeLines.bytes_to_patterns(alloc, question.bytes(0)?, "")?;
+    let mappings = AttributeLines::default().bytes_to_patterns(alloc, question.bytes(0)?, "")?;
     let mut text = Vec::new(alloc);
     for mapping in &mappings {
-        if path.is_matched_by(mapping.pattern.view(), Case::Sensitive) {
+        if path.is_matched_by(mapping.pattern.view(), Rules::by_crate(Case::Sensitive)) {
             push_assignments(&mut text, &mapping.value)?;
         }
     }

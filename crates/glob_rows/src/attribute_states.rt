@@ -11,9 +11,10 @@ use gix_glob::search::pattern::List;
 use glob_attributes::{
     Assignment, AttributeLines, AttributeNames, MacroTable, PathAttributes, keep_named,
 };
-use glob_lists::{IndexError, ListIndex, RepositoryPath, bases_are_folders};
+use glob_lists::{IndexError, ListIndex, Reading, RepositoryPath, Rules, bases_are_folders};
 use glob_trees::list_in_folder;
 use std::alloc::{AllocError, Global};
+use told_paths::{LeadFault, Standpoint};
 
 /// The rank of the strongest file. No row has a folder that is as deep.
 const STRONGEST: usize = 9;
@@ -21,14 +22,20 @@ const STRONGEST: usize = 9;
 /// What files say, from the weakest to the strongest.
 #[derive(Drop)]
 pub(crate) struct Sources {
+    lines: AttributeLines,
     pub(crate) lists: Vec<List<AttributeLines>>,
     pub(crate) macros: MacroTable,
 }
 
 impl Sources {
     /// What the files of these fields say, two for each, a name and the bytes, each at the place of its kind.
-    pub(crate) fn new(alloc: Global, files: &[Field]) -> Result<Sources, RowFault> {
+    pub(crate) fn new(
+        alloc: Global,
+        reading: Reading,
+        files: &[Field],
+    ) -> Result<Sources, RowFault> {
         let mut sources = Sources {
+            lines: AttributeLines { reading },
             lists: Vec::new(alloc),
             macros: MacroTable::new(alloc)?,
         };
@@ -52,7 +59,7 @@ impl Sources {
 
     /// Adds a file after the weaker ones.
     fn add(&mut self, alloc: Global, name: &[u8], bytes: &[u8]) -> Result<(), RowFault> {
-        let list = list_of(alloc, bytes)?;
+        let list = list_of(alloc, self.lines, bytes)?;
         match name.strip_suffix(b"/.gitattributes") {
             Some(folder) => self.lists.push(list_in_folder(alloc, list, folder)?)?,
             None => {
@@ -99,7 +106,11 @@ impl Sources {
         if !bases_are_folders(&self.lists) {
             return Err(RowFault::Field("bases of folders"));
         }
-        let attributes = PathAttributes::new(alloc, &self.lists, &self.macros, &path, case)?;
+        let rules = Rules {
+            case,
+            reading: self.lines.reading,
+        };
+        let attributes = PathAttributes::new(alloc, &self.lists, &self.macros, &path, rules)?;
         let mut text = Vec::new(alloc);
         for name in names {
             push_state(&mut text, name, &attributes.state_of(name))?;
@@ -109,7 +120,7 @@ impl Sources {
 }
 
 /// The names of a field, with a space between each two.
-fn names_in(alloc: Global, words: &[u8]) -> Result<Vec<&[u8]>, AllocError> {
+pub(crate) fn names_in(alloc: Global, words: &[u8]) -> Result<Vec<&[u8]>, AllocError> {
     let mut names = Vec::new(alloc);
     for name in words.split(|byte| *byte == b' ') {
         if !name.is_empty() {
@@ -120,12 +131,16 @@ fn names_in(alloc: Global, words: &[u8]) -> Result<Vec<&[u8]>, AllocError> {
 }
 
 /// The list of a file's bytes, without a base.
-fn list_of(alloc: Global, bytes: &[u8]) -> Result<List<AttributeLines>, RowFault> {
+fn list_of(
+    alloc: Global,
+    lines: AttributeLines,
+    bytes: &[u8],
+) -> Result<List<AttributeLines>, RowFault> {
     let source = String::from_str(alloc, "attributes")?;
     if !has_file_part(source.as_str()) {
         return Err(RowFault::Field("a source with a file part"));
     }
-    Ok(List::from_bytes(alloc, bytes, source, None, AttributeLines)?)
+    Ok(List::from_bytes(alloc, bytes, source, None, lines)?)
 }
 
 /// The index of lists.
@@ -137,7 +152,7 @@ pub(crate) fn index_of<'a>(
     if !bases_are_folders(lists) {
         return Err(RowFault::Field("bases of folders"));
     }
-    match ListIndex::new(alloc, lists, case) {
+    match ListIndex::new(alloc, lists, Rules::by_crate(case)) {
         Ok(index) => Ok(index),
         Err(IndexError::Memory) => Err(RowFault::Memory),
         Err(IndexError::TooMany) => Err(RowFault::Call("ListIndex::new")),
@@ -166,8 +181,33 @@ pub(crate) fn attribute_states(
 ) -> Result<(), RowFault> {
     let (case, path) = (question.case(0)?, question.bytes(1)?);
     let names = names_in(alloc, question.bytes(2)?)?;
-    let mut sources = Sources::new(alloc, question.rest(3))?;
+    let mut sources = Sources::new(alloc, Reading::Crate, question.rest(3))?;
     let states = sources.states_either_way(alloc, path, &names, case)?;
+    Ok(answer.push(&states)?)
+}
+
+/// The same as Git reads the files, of the path to which it goes from the top.
+pub(crate) fn states_as_git(
+    alloc: Global,
+    question: &Question,
+    answer: &mut Answer,
+) -> Result<(), RowFault> {
+    let (case, told) = (question.case(0)?, question.bytes(1)?);
+    let standpoint = Standpoint {
+        top: Vec::new(alloc),
+        here: Vec::new(alloc),
+        is_inside: true,
+    };
+    let mut path = Vec::new(alloc);
+    match standpoint.lead(alloc, &mut path, told) {
+        Ok(true) => path.push(b'/')?,
+        Ok(false) => {}
+        Err(LeadFault::Memory) => return Err(RowFault::Memory),
+        Err(_nowhere) => return Err(RowFault::Field("a path of the work tree")),
+    }
+    let names = names_in(alloc, question.bytes(2)?)?;
+    let mut sources = Sources::new(alloc, Reading::Git, question.rest(3))?;
+    let states = sources.states_either_way(alloc, &path, &names, case)?;
     Ok(answer.push(&states)?)
 }
 
@@ -180,7 +220,7 @@ pub(crate) fn attributes_kept(
     let (file, names) = (question.bytes(0)?, names_in(alloc, question.bytes(1)?)?);
     let mut macros = MacroTable::new(alloc)?;
     macros.add_file(alloc, file)?;
-    let mut list = list_of(alloc, file)?;
+    let mut list = list_of(alloc, AttributeLines::default(), file)?;
     keep_named(&mut list, &names, &macros);
     let mut text = Vec::new(alloc);
     for mapping in &list.patterns {
@@ -231,8 +271,8 @@ fn text_by_files(
     stronger: &[u8],
 ) -> Result<Vec<u8>, RowFault> {
     let tables = tables_of(alloc, [weaker, stronger])?;
-    let weaker = [list_of(alloc, weaker)?];
-    let stronger = [list_of(alloc, stronger)?];
+    let weaker = [list_of(alloc, AttributeLines::default(), weaker)?];
+    let stronger = [list_of(alloc, AttributeLines::default(), stronger)?];
     text_by_lists(alloc, path, &weaker, &stronger, &tables)
 }
 

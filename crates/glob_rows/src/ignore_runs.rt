@@ -9,6 +9,7 @@ use gix_glob::pattern::Case;
 use gix_glob::search::Watched;
 use gix_glob::search::pattern::List;
 use glob_lines::IgnoreLines;
+use glob_lists::{Reading, Rules};
 use glob_trees::{FolderLists, Tree};
 use record_streams::RecordFault;
 use std::alloc::{AllocError, Global};
@@ -20,7 +21,7 @@ use tree_commands::check_ignore::{
 
 /// Why a source has no answer.
 #[derive(Debug, Drop)]
-enum SourceFault {
+pub(crate) enum SourceFault {
     /// Memory was refused.
     Memory,
     /// A folder is a link.
@@ -56,12 +57,20 @@ impl<'a> FolderLists<IgnoreLines> for Folders<'a> {
 /// What stands at paths: a line for each folder, with a slash at its end, and for each link, with an `@`. Notes each question: about a kind
 /// in brackets, about a link in parentheses.
 #[derive(Drop)]
-struct Kinds<'a> {
+pub(crate) struct Kinds<'a> {
     there: &'a [u8],
     asked: Vec<u8>,
 }
 
 impl<'a> Kinds<'a> {
+    /// What stands at paths by these lines. Nothing was asked yet.
+    pub(crate) fn new(alloc: Global, there: &'a [u8]) -> Kinds<'a> {
+        Kinds {
+            there,
+            asked: Vec::new(alloc),
+        }
+    }
+
     /// Whether a path stands there with this sign at its end.
     fn stands(&self, path: &[u8], sign: u8) -> bool {
         for line in self.there.split(|byte| *byte == b'\n') {
@@ -145,15 +154,17 @@ fn sources_of<'a>(
     alloc: Global,
     question: &'a Question,
 ) -> Result<IgnoreSources<Folders<'a>, Kinds<'a>>, RowFault> {
-    let table = Table::new(alloc, question.rest(4));
+    let table = Table::new(alloc, Reading::Git, question.rest(4));
     let fronts = Vec::new(alloc);
-    let tree = Tree::new(alloc, Folders { table }, fronts, Case::Sensitive);
+    let tree = Tree::new(
+        alloc,
+        Folders { table },
+        fronts,
+        Rules::by_git(Case::Sensitive),
+    );
     Ok(IgnoreSources {
         tree: tree.ok_or(RowFault::Call("Tree::new"))?,
-        kinds: Kinds {
-            there: question.bytes(2)?,
-            asked: Vec::new(alloc),
-        },
+        kinds: Kinds::new(alloc, question.bytes(2)?),
     })
 }
 

@@ -7,8 +7,9 @@ use crate::texts::{push_text, text_of};
 use gix_glob::search::Pattern as _;
 use gix_glob::search::pattern::Mapping;
 use glob_lines::{
-    GitLines, IgnoreLines, LabelLines, next_git_line, next_ignore_line, without_byte_order_mark,
+    IgnoreLines, LabelLines, next_git_line, next_ignore_line, without_byte_order_mark,
 };
+use glob_lists::Reading;
 use std::alloc::Global;
 
 /// The patterns of an ignore file, each as it is shown behind the number of its line.
@@ -17,7 +18,10 @@ pub(crate) fn ignore_files(
     question: &Question,
     answer: &mut Answer,
 ) -> Result<(), RowFault> {
-    let mappings = IgnoreLines.bytes_to_patterns(alloc, question.bytes(0)?, "")?;
+    let lines = IgnoreLines {
+        reading: Reading::Crate,
+    };
+    let mappings = lines.bytes_to_patterns(alloc, question.bytes(0)?, "")?;
     push_patterns(alloc, &mappings, answer)
 }
 
@@ -27,7 +31,10 @@ pub(crate) fn git_files(
     question: &Question,
     answer: &mut Answer,
 ) -> Result<(), RowFault> {
-    let mappings = GitLines.bytes_to_patterns(alloc, question.bytes(0)?, "")?;
+    let lines = IgnoreLines {
+        reading: Reading::Git,
+    };
+    let mappings = lines.bytes_to_patterns(alloc, question.bytes(0)?, "")?;
     push_patterns(alloc, &mappings, answer)
 }
 

@@ -7,6 +7,7 @@ use crate::streams::room;
 use gix_glob::search::pattern::List;
 use gix_glob::search::{Pattern as _, Watched, has_file_part};
 use glob_lines::{EngineFault, IgnoreLines, bases_are_folders, run_ignore, run_list};
+use glob_lists::Reading;
 use std::alloc::Global;
 
 /// The list of an ignore file's bytes, under a base or none.
@@ -19,7 +20,10 @@ pub(crate) fn list_of(
         return Err(RowFault::Field("the bytes of a file"));
     };
     let mut list = List::empty(alloc);
-    list.patterns = IgnoreLines.bytes_to_patterns(alloc, bytes, "")?;
+    let lines = IgnoreLines {
+        reading: Reading::Crate,
+    };
+    list.patterns = lines.bytes_to_patterns(alloc, bytes, "")?;
     if let Some(base) = base {
         list.base = Some(Vec::from_slice(alloc, base)?);
     }

@@ -2,6 +2,7 @@
 #![tactic(auto)]
 
 mod answer;
+mod as_git;
 mod asking;
 mod attempts;
 mod attribute_files;
@@ -48,8 +49,9 @@ fn main(rt: HostRuntime) -> Result<ExitCode> {
         let tally = ask_rows(&rt, file, &bytes)?;
         wrong = wrong.saturating_add(tally.wrong);
         println!(rt;
-            "{subject}: {rows} rows, {wrong} wrong",
+            "{subject}{whose}: {rows} rows, {wrong} wrong",
             subject = file.name,
+            whose = file.subject.title(),
             rows = tally.rows,
             wrong = tally.wrong
         )?;
@@ -91,7 +93,7 @@ fn ask_rows<R: Print + AllocGlobal>(rt: &R, file: RowFile, bytes: &[u8]) -> Resu
 /// What is wrong with a row; `None` where its answer is the one that the library gives.
 fn difference<R: AllocGlobal>(rt: &R, file: RowFile, line: &[u8]) -> Result<Option<String>> {
     let line = WrittenOut::new(rt.alloc(), line)?;
-    let row = row_of(rt.alloc(), line.text(), file.answers)?;
+    let row = row_of(rt.alloc(), line.text(), file.answers, file.subject.whose())?;
     match ask(rt.alloc(), file.subject, &row.question) {
         Ok(answer) if answer.text() == row.wanted => Ok(None),
         Ok(answer) => {

@@ -10,9 +10,28 @@ pub(crate) struct Row<'a> {
     pub(crate) wanted: &'a [u8],
 }
 
+/// Whose answer to a row counts, where both have one.
+#[derive(Clone, Copy, PartialEq, Eq)]
+pub(crate) enum Whose {
+    /// The project's own.
+    Own,
+    /// That of Git.
+    Git,
+}
+
 /// The row of a line that is written out, of whose last fields so many are the answer.
-pub(crate) fn row_of(alloc: Global, line: &[u8], answers: usize) -> Result<Row<'_>, AllocError> {
-    let (asked, wanted) = split_answer(without_git(line), answers);
+pub(crate) fn row_of(
+    alloc: Global,
+    line: &[u8],
+    answers: usize,
+    whose: Whose,
+) -> Result<Row<'_>, AllocError> {
+    let (line, gits) = parted_from_git(line);
+    let (asked, own) = split_answer(line, answers);
+    let wanted = match gits {
+        Some(answer) if whose == Whose::Git => answer,
+        _ => own,
+    };
     let mut fields: Vec<Field> = Vec::new(alloc);
     for text in asked.split(|byte| *byte == b'\t') {
         fields.push(field_of(alloc, text)?)?;
@@ -23,13 +42,12 @@ pub(crate) fn row_of(alloc: Global, line: &[u8], answers: usize) -> Result<Row<'
     })
 }
 
-/// A line without the last field where that has an answer of Git: only the project's answers are asked here.
-fn without_git(line: &[u8]) -> &[u8] {
+/// A line without the last field where that has an answer of Git, and this answer.
+fn parted_from_git(line: &[u8]) -> (&[u8], Option<&[u8]>) {
     let (front, last) = split_answer(line, 1);
-    if last.starts_with(b"\\G") {
-        front
-    } else {
-        line
+    match last.strip_prefix(b"\\G") {
+        Some(answer) => (front, Some(answer)),
+        None => (line, None),
     }
 }
 

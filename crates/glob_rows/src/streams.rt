@@ -7,6 +7,7 @@ use crate::question::Question;
 use gix_glob::pattern::Case;
 use gix_glob::search::Watched;
 use glob_attributes::{AttributeQuery, run_attributes};
+use glob_lists::Reading;
 use record_streams::{Answerer, RecordFault, RecordStream};
 use std::alloc::{AllocError, Global};
 
@@ -66,7 +67,7 @@ pub(crate) fn attribute_streams(
 ) -> Result<(), RowFault> {
     let (case, paths) = (question.case(0)?, question.bytes(2)?);
     let names = names_of(alloc, question.option(1)?)?;
-    let sources = Sources::new(alloc, question.rest(3))?;
+    let sources = Sources::new(alloc, Reading::Crate, question.rest(3))?;
     let written = written_by(alloc, &sources, &names, case, paths)?;
     Ok(answer.push(&written)?)
 }

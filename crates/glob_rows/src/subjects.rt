@@ -1,5 +1,7 @@
 //! The subjects of the rows: each has a file, and says what its rows ask.
 
+use crate::row::Whose;
+
 /// A file of rows.
 #[derive(Clone, Copy)]
 pub(crate) struct RowFile {
@@ -67,6 +69,9 @@ pub(crate) enum LineSubject {
 pub(crate) enum TreeSubject {
     Told,
     Decided,
+    ToldAsGit,
+    DecidedAsGit,
+    GitTold,
     Asked,
     IgnoreRuns,
 }
@@ -82,6 +87,8 @@ pub(crate) enum AttributeSubject {
     Folders,
     Kept,
     States,
+    StatesAsGit,
+    GitTold,
     Streams,
     SilentLines,
     NamesRead,
@@ -102,8 +109,27 @@ pub(crate) enum RepositorySubject {
     SafeDirectories,
 }
 
+impl Subject {
+    /// Whose answers count: where Git's reading is asked, those of Git.
+    pub(crate) fn whose(self) -> Whose {
+        match self {
+            Subject::Tree(TreeSubject::DecidedAsGit | TreeSubject::ToldAsGit)
+            | Subject::Attribute(AttributeSubject::StatesAsGit) => Whose::Git,
+            _ => Whose::Own,
+        }
+    }
+
+    /// What is printed behind the name of a file whose rows are asked again.
+    pub(crate) fn title(self) -> &'static str {
+        match self.whose() {
+            Whose::Own => "",
+            Whose::Git => ", as Git answers",
+        }
+    }
+}
+
 /// All files of rows, in the order in which they are asked: the name of each, how many fields are the answer, and what is asked.
-pub(crate) const FILES: [(&str, usize, Subject); 51] = [
+pub(crate) const FILES: [(&str, usize, Subject); 56] = [
     ("matching", 1, Subject::Pattern(PatternSubject::Matching)),
     ("starts", 1, Subject::Pattern(PatternSubject::Starts)),
     ("attempts", 1, Subject::Pattern(PatternSubject::Attempts)),
@@ -139,6 +165,9 @@ pub(crate) const FILES: [(&str, usize, Subject); 51] = [
     ("folders", 1, Subject::List(ListSubject::Folders)),
     ("trees", 1, Subject::Tree(TreeSubject::Decided)),
     ("trees_told", 1, Subject::Tree(TreeSubject::Told)),
+    ("trees", 1, Subject::Tree(TreeSubject::DecidedAsGit)),
+    ("trees_told", 1, Subject::Tree(TreeSubject::ToldAsGit)),
+    ("git_told", 1, Subject::Tree(TreeSubject::GitTold)),
     ("trees_asked", 2, Subject::Tree(TreeSubject::Asked)),
     ("ignore_runs", 3, Subject::Tree(TreeSubject::IgnoreRuns)),
     (
@@ -180,6 +209,16 @@ pub(crate) const FILES: [(&str, usize, Subject); 51] = [
         "attribute_states",
         1,
         Subject::Attribute(AttributeSubject::States),
+    ),
+    (
+        "attribute_states",
+        1,
+        Subject::Attribute(AttributeSubject::StatesAsGit),
+    ),
+    (
+        "git_attributes",
+        1,
+        Subject::Attribute(AttributeSubject::GitTold),
     ),
     (
         "attribute_streams",

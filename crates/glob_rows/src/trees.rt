@@ -9,7 +9,7 @@ use gix_glob::pattern::Case;
 use gix_glob::search::Pattern as _;
 use gix_glob::search::pattern::List;
 use glob_lines::{IgnoreLines, bases_are_folders};
-use glob_lists::RepositoryPath;
+use glob_lists::{Reading, RepositoryPath, Rules};
 use glob_trees::{FolderLists, Tree, decide_in_tree, list_in_folder};
 use std::alloc::{AllocError, Global};
 
@@ -63,15 +63,17 @@ fn decision(
 #[derive(Drop)]
 pub(crate) struct Table<'a> {
     alloc: Global,
+    lines: IgnoreLines,
     folders: &'a [Field],
     asked: Vec<u8>,
 }
 
 impl<'a> Table<'a> {
-    /// A table of folders, each with the bytes of its ignore file behind it. None was asked for yet.
-    pub(crate) fn new(alloc: Global, folders: &'a [Field]) -> Table<'a> {
+    /// A table of folders, each with the bytes of its ignore file behind it, whose lines are read so. None was asked for yet.
+    pub(crate) fn new(alloc: Global, reading: Reading, folders: &'a [Field]) -> Table<'a> {
         Table {
             alloc,
+            lines: IgnoreLines { reading },
             folders,
             asked: Vec::new(alloc),
         }
@@ -102,7 +104,9 @@ impl<'a> FolderLists<IgnoreLines> for Table<'a> {
         self.asked.extend_from_slice(folder)?;
         self.asked.push(b'>')?;
         let mut list = List::empty(self.alloc);
-        list.patterns = IgnoreLines.bytes_to_patterns(self.alloc, self.bytes_of(folder), "")?;
+        list.patterns = self
+            .lines
+            .bytes_to_patterns(self.alloc, self.bytes_of(folder), "")?;
         list_in_folder(self.alloc, list, folder)
     }
 
@@ -115,8 +119,13 @@ pub(crate) fn trees_asked(
     question: &Question,
     answer: &mut Answer,
 ) -> Result<(), RowFault> {
-    let source = Table::new(alloc, question.rest(1));
-    let tree = Tree::new(alloc, source, Vec::new(alloc), Case::Sensitive);
+    let source = Table::new(alloc, Reading::Crate, question.rest(1));
+    let tree = Tree::new(
+        alloc,
+        source,
+        Vec::new(alloc),
+        Rules::by_crate(Case::Sensitive),
+    );
     let mut tree = tree.ok_or(RowFault::Call("Tree::new"))?;
     let decisions = decisions_of(alloc, &mut tree, question.bytes(0)?)?;
     answer.push(&decisions)?;

@@ -1,6 +1,6 @@
 -- What contracts see of a tree.
 use Rattle.std.specs.Prelude.{◌≡◌, ℕ, List, Some, slice_get}
-use Rattle.gix_glob.specs.declared.pattern.Case.{Case}
+use Rattle.glob_lists.specs.declared.rules.Rules.{Rules}
 use Rattle.gix_glob.specs.declared.search.pattern.list.List as patterns
 use Rattle.gix_glob.specs.declared.search.pattern.mapping.Mapping.{Mapping}
 
@@ -10,7 +10,7 @@ pub record TreeParts (S T X : Type 0) : Type 0 where
   pub source : S
   pub front_count : ℕ
   pub lists : List (patterns.List T X)
-  pub case : Case
+  pub rules : Rules
 
 -- the list stands at the first place of the pair, and the mapping in it at the second one
 pub record StandAt {T X : Type 0} (lists : List (patterns.List T X)) (pair : ℕ × ℕ) (list : patterns.List T X) (mapping : Mapping X) : Type 0 where

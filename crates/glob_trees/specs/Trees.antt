@@ -1,6 +1,6 @@
 -- What Git says of a path in a work tree: what lies below an ignored folder is ignored with it.
 use Rattle.std.specs.Prelude.{◌≡◌, ◌⊎◌, ℕ, Bool, true, false, List, ◌∷◌, ◌++◌, Option, Some, slice_get}
-use Rattle.gix_glob.specs.declared.pattern.Case.{Case}
+use Rattle.glob_lists.specs.declared.rules.Rules.{Rules}
 use Rattle.gix_glob.specs.Bytes.{slash}
 use Rattle.gix_glob.specs.Entries.{Entry}
 use Rattle.gix_glob.specs.EntryLists.{EntryList}
@@ -20,23 +20,23 @@ pub record IsPositiveAt {V : Type 0} (lists : List (EntryList V)) (pair : ℕ ×
   pub positive : is_negative entry.mode ≡ false
 
 -- the pattern at this pair ignores the folder: it decides about it, as a directory, and isn't negative
-abbrev pub Ignores : {V : Type 0} → List (EntryList V) → Case → List ℕ → (ℕ × ℕ) → Type 0
-Ignores lists case folder pair = Decides lists folder true case (Some pair) × IsPositiveAt lists pair
+abbrev pub Ignores : {V : Type 0} → List (EntryList V) → Rules → List ℕ → (ℕ × ℕ) → Type 0
+Ignores lists rules folder pair = Decides lists folder true rules (Some pair) × IsPositiveAt lists pair
 
 -- no folder above the path is ignored
-abbrev pub HasNoneIgnored : {V : Type 0} → List (EntryList V) → Case → List ℕ → Type 0
-HasNoneIgnored lists case path = (folder : List ℕ) (pair : ℕ × ℕ) → IsAbove folder path → ¬ Ignores lists case folder pair
+abbrev pub HasNoneIgnored : {V : Type 0} → List (EntryList V) → Rules → List ℕ → Type 0
+HasNoneIgnored lists rules path = (folder : List ℕ) (pair : ℕ × ℕ) → IsAbove folder path → ¬ Ignores lists rules folder pair
 
 -- the pattern at this pair ignores the topmost ignored folder above the path
-pub record IsBelowIgnored {V : Type 0} (lists : List (EntryList V)) (case : Case) (path : List ℕ) (pair : ℕ × ℕ) : Type 0 where
+pub record IsBelowIgnored {V : Type 0} (lists : List (EntryList V)) (rules : Rules) (path : List ℕ) (pair : ℕ × ℕ) : Type 0 where
   pub folder : List ℕ
   pub above : IsAbove folder path
-  pub ignored : Ignores lists case folder pair
-  pub topmost : HasNoneIgnored lists case folder
+  pub ignored : Ignores lists rules folder pair
+  pub topmost : HasNoneIgnored lists rules folder
 
 -- The pair that decides about a path in a work tree: the one that ignores the topmost ignored folder above it, and where none is
 -- ignored, the one that decides about the path by itself.
-abbrev pub DecidesInTree : {V : Type 0} → List (EntryList V) → List ℕ → Bool → Case → Option (ℕ × ℕ) → Type 0
-DecidesInTree lists path is_dir case pair =
-    ((by : ℕ × ℕ) × IsBelowIgnored lists case path by × (pair ≡ Some by))
-    ⊎ (HasNoneIgnored lists case path × Decides lists path is_dir case pair)
+abbrev pub DecidesInTree : {V : Type 0} → List (EntryList V) → List ℕ → Bool → Rules → Option (ℕ × ℕ) → Type 0
+DecidesInTree lists path is_dir rules pair =
+    ((by : ℕ × ℕ) × IsBelowIgnored lists rules path by × (pair ≡ Some by))
+    ⊎ (HasNoneIgnored lists rules path × Decides lists path is_dir rules pair)

@@ -1,7 +1,7 @@
 -- The folders on the way to a path, and their lists.
 use Rattle.std.specs.Prelude.{◌≡◌, ◌⊎◌, ℕ, ◌==◌, if◌then◌else◌, List, [], ◌∷◌, ◌++◌, drop, Option, None, Some}
 use Rattle.std.specs.List.{AllZip, Contains}
-use Rattle.gix_glob.specs.declared.pattern.Case.{Case}
+use Rattle.glob_lists.specs.declared.rules.Rules.{Rules}
 use Rattle.gix_glob.specs.Bytes.{slash}
 use Rattle.gix_glob.specs.Entries.{Entry}
 use Rattle.gix_glob.specs.EntryLists.{EntryList}
@@ -62,13 +62,13 @@ abbrev pub GivesOnly : (Folder → Type 0) → (Folder → Type 0) → (Folder �
 GivesOnly Allowed old new = (folder : Folder) → new folder → old folder ⊎ Allowed folder
 
 -- a folder that a path asks for: the top, or one above the path that isn't ignored, and lies below none that is
-abbrev pub IsAskedFor : {V : Type 0} → List (EntryList V) → Case → List ℕ → Folder → Type 0
-IsAskedFor lists case path folder = (folder ≡ []) ⊎ (IsAbove folder path × HasNoneIgnored lists case (folder ++ slash ∷ []))
+abbrev pub IsAskedFor : {V : Type 0} → List (EntryList V) → Rules → List ℕ → Folder → Type 0
+IsAskedFor lists rules path folder = (folder ≡ []) ⊎ (IsAbove folder path × HasNoneIgnored lists rules (folder ++ slash ∷ []))
 
 -- The lists past the first `front_count` are those of the folders on the way to a path that have entries, from the top down as far
 -- as the first folder that is ignored, by these lists: none of those that were entered is, and what lies in that one, and in each
 -- further folder, is below an ignored folder. Each folder that was entered has a list of its own, be it without entries.
-pub record AreOnTheWay {V : Type 0} (shows : List ℕ → EntryList V → Type 0) (front_count : ℕ) (lists : List (EntryList V)) (case : Case) (path : List ℕ) : Type 0 where
+pub record AreOnTheWay {V : Type 0} (shows : List ℕ → EntryList V → Type 0) (front_count : ℕ) (lists : List (EntryList V)) (rules : Rules) (path : List ℕ) : Type 0 where
   pub entered : List (List ℕ)
   pub further : List (List ℕ)
   pub joined : folders_to path ≡ entered ++ further
@@ -76,5 +76,5 @@ pub record AreOnTheWay {V : Type 0} (shows : List ℕ → EntryList V → Type 0
   pub own : List (EntryList V)
   pub shown : AllZip (IsListOf shows) entered own
   pub standing : drop front_count lists ≡ with_entries own
-  pub unignored : (folder : List ℕ) → Contains entered folder → IsAskedFor lists case path folder
-  pub ends : (folder : List ℕ) (below : List (List ℕ)) → further ≡ folder ∷ below → (pair : ℕ × ℕ) × IsBelowIgnored lists case (folder ++ slash ∷ []) pair
+  pub unignored : (folder : List ℕ) → Contains entered folder → IsAskedFor lists rules path folder
+  pub ends : (folder : List ℕ) (below : List (List ℕ)) → further ≡ folder ∷ below → (pair : ℕ × ℕ) × IsBelowIgnored lists rules (folder ++ slash ∷ []) pair

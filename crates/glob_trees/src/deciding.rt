@@ -2,12 +2,13 @@
 ghost use Rattle.std.specs.Prelude.{◌≡◌, ℕ, IfSome, MatchOption, map, true};
 ghost use Rattle.gix_glob.specs.EntryLists.{entry_list_of};
 ghost use Rattle.glob_lists.specs.Deciding.{BasesAreFolders, HasEntryAt};
+ghost use Rattle.glob_lists.specs.Rules.{by_crate};
 ghost use Rattle.glob_trees.specs.Trees.{DecidesInTree, HasNoneIgnored, Ignores, IsBelowIgnored};
 
 use gix_glob::pattern::Case;
 use gix_glob::search;
 use gix_glob::search::pattern::List;
-use glob_lists::{ListStack, RepositoryPath};
+use glob_lists::{ListStack, RepositoryPath, Rules};
 
 /// Which pattern decides about a path in a work tree, as Git says it. A folder above a path is what stands before one of its
 /// slashes. The topmost folder above the path that is ignored decides about the path: by the pattern that decides about the
@@ -22,24 +23,24 @@ pub fn decide_in_tree<T: search::Pattern>(
     case: Case,
 ) -> Option<(usize, usize)>
     requires folders { BasesAreFolders (map (entry_list_of T.seen) lists.now) }
-    ensures { DecidesInTree (map (entry_list_of T.seen) lists.now) path.now.bytes path.now.is_dir case result }
+    ensures { DecidesInTree (map (entry_list_of T.seen) lists.now) path.now.bytes path.now.is_dir (by_crate case) result }
 {
-    decide_in_tree_by(&lists, path, case)
+    decide_in_tree_by(&lists, path, Rules::by_crate(case))
 }
 
-/// Which pattern decides about a path in a work tree, as [`decide_in_tree`] answers it, by whatever answers for lists.
+/// Which pattern decides about a path in a work tree, as [`decide_in_tree`] answers it, by whatever answers for lists, and by these rules.
 pub fn decide_in_tree_by<L: ListStack>(
     lists: &L,
     path: &RepositoryPath<'_>,
-    case: Case,
+    rules: Rules,
 ) -> Option<(usize, usize)>
     requires { L.can_decide lists.now }
     ensures inside { IfSome result (HasEntryAt (L.lists lists.now)) }
-    ensures exact { L.is_lawful lists.now → DecidesInTree (L.lists lists.now) path.now.bytes path.now.is_dir case result }
+    ensures exact { L.is_lawful lists.now → DecidesInTree (L.lists lists.now) path.now.bytes path.now.is_dir rules result }
 {
-    match ignoring_folder(lists, path, case) {
+    match ignoring_folder(lists, path, rules) {
         Some(pair) => Some(pair),
-        None => lists.decide(path, case),
+        None => lists.decide(path, rules),
     }
 }
 
@@ -47,20 +48,20 @@ pub fn decide_in_tree_by<L: ListStack>(
 fn ignoring_folder<L: ListStack>(
     lists: &L,
     path: &RepositoryPath<'_>,
-    case: Case,
+    rules: Rules,
 ) -> Option<(usize, usize)>
     requires { L.can_decide lists.now }
     ensures inside { IfSome result (HasEntryAt (L.lists lists.now)) }
     ensures exact { L.is_lawful lists.now → MatchOption result
-        (HasNoneIgnored (L.lists lists.now) case path.now.bytes)
-        (IsBelowIgnored (L.lists lists.now) case path.now.bytes) }
+        (HasNoneIgnored (L.lists lists.now) rules path.now.bytes)
+        (IsBelowIgnored (L.lists lists.now) rules path.now.bytes) }
 {
     let bytes = path.bytes();
     for place in 0..bytes.len() {
         if bytes[place] != b'/' {
             continue;
         }
-        if let Some(pair) = ignoring(lists, &path.folder_before(place), case) {
+        if let Some(pair) = ignoring(lists, &path.folder_before(place), rules) {
             return Some(pair);
         }
     }
@@ -71,16 +72,16 @@ fn ignoring_folder<L: ListStack>(
 pub(crate) fn ignoring<L: ListStack>(
     lists: &L,
     folder: &RepositoryPath<'_>,
-    case: Case,
+    rules: Rules,
 ) -> Option<(usize, usize)>
     requires can { L.can_decide lists.now }
     requires dir { folder.now.is_dir ≡ true }
     ensures inside { IfSome result (HasEntryAt (L.lists lists.now)) }
     ensures exact { L.is_lawful lists.now → MatchOption result
-        ((pair : ℕ × ℕ) → ¬ Ignores (L.lists lists.now) case folder.now.bytes pair)
-        (Ignores (L.lists lists.now) case folder.now.bytes) }
+        ((pair : ℕ × ℕ) → ¬ Ignores (L.lists lists.now) rules folder.now.bytes pair)
+        (Ignores (L.lists lists.now) rules folder.now.bytes) }
 {
-    let Some(pair) = lists.decide(folder, case) else {
+    let Some(pair) = lists.decide(folder, rules) else {
         return None;
     };
     if lists.is_negative(pair) {

@@ -13,10 +13,9 @@ use crate::folders::FolderLists;
 use crate::keeping::{bytes_of, keep_last, prepared_if_any, put_known_on_way, put_on_way};
 use crate::known::KnownFolders;
 use crate::on_way::{FolderOnWay, common_length};
-use gix_glob::pattern::Case;
 use gix_glob::search;
 use gix_glob::search::pattern::List;
-use glob_lists::{PreparedList, RepositoryPath, decide_prepared};
+use glob_lists::{PreparedList, RepositoryPath, Rules, decide_prepared};
 use std::alloc::{AllocError, Global};
 
 /// A source of lists, the folders on the way, and what is kept of those that are known.
@@ -24,7 +23,7 @@ use std::alloc::{AllocError, Global};
 pub(crate) struct Entered<T: search::Pattern, S: FolderLists<T>> {
     pub(crate) alloc: Global,
     pub(crate) source: S,
-    pub(crate) case: Case,
+    pub(crate) rules: Rules,
     /// How many lists stand before those of all folders.
     pub(crate) front_count: usize,
     /// The lists that stand before those of all folders, then those with patterns of the folders on the way, from the top down.
@@ -51,15 +50,15 @@ impl<T: search::Pattern, S: FolderLists<T>> Entered<T, S> {
         path: &RepositoryPath<'_>,
     ) -> Result<Option<(usize, usize)>, TreeFault<S::Fault>>
         requires ready { IsReady (S.shows T.Seen) S.gave T.seen self.old }
-        ensures decides { IfOk result (λ pair. DecidesInTree (map (entry_list_of T.seen) self.new.lists.items) path.now.bytes path.now.is_dir self.new.case pair) }
-        ensures way { OnOk result (AreOnTheWay (S.shows T.Seen self.new.source) self.new.front_count (map (entry_list_of T.seen) self.new.lists.items) self.new.case path.now.bytes) }
+        ensures decides { IfOk result (λ pair. DecidesInTree (map (entry_list_of T.seen) self.new.lists.items) path.now.bytes path.now.is_dir self.new.rules pair) }
+        ensures way { OnOk result (AreOnTheWay (S.shows T.Seen self.new.source) self.new.front_count (map (entry_list_of T.seen) self.new.lists.items) self.new.rules path.now.bytes) }
         ensures ready { IsReady (S.shows T.Seen) S.gave T.seen self.new }
         ensures keeps { KeepsOn (S.shows T.Seen) self.old self.new }
-        ensures asks { GivesOnly (IsAskedFor (map (entry_list_of T.seen) self.new.lists.items) self.new.case path.now.bytes) (S.gave self.old.source) (S.gave self.new.source) }
+        ensures asks { GivesOnly (IsAskedFor (map (entry_list_of T.seen) self.new.lists.items) self.new.rules path.now.bytes) (S.gave self.old.source) (S.gave self.new.source) }
     {
         // most paths lie in the folder of the one before, and the way of these is kept short
         if self.is_in_folder_of(path) {
-            return Ok(decide_prepared(&self.lists, path, self.case));
+            return Ok(decide_prepared(&self.lists, path, self.rules));
         }
         self.find_elsewhere(path)
     }
@@ -89,11 +88,11 @@ impl<T: search::Pattern, S: FolderLists<T>> Entered<T, S> {
         path: &RepositoryPath<'_>,
     ) -> Result<Option<(usize, usize)>, TreeFault<S::Fault>>
         requires ready { IsReady (S.shows T.Seen) S.gave T.seen self.old }
-        ensures decides { IfOk result (λ pair. DecidesInTree (map (entry_list_of T.seen) self.new.lists.items) path.now.bytes path.now.is_dir self.new.case pair) }
-        ensures way { OnOk result (AreOnTheWay (S.shows T.Seen self.new.source) self.new.front_count (map (entry_list_of T.seen) self.new.lists.items) self.new.case path.now.bytes) }
+        ensures decides { IfOk result (λ pair. DecidesInTree (map (entry_list_of T.seen) self.new.lists.items) path.now.bytes path.now.is_dir self.new.rules pair) }
+        ensures way { OnOk result (AreOnTheWay (S.shows T.Seen self.new.source) self.new.front_count (map (entry_list_of T.seen) self.new.lists.items) self.new.rules path.now.bytes) }
         ensures ready { IsReady (S.shows T.Seen) S.gave T.seen self.new }
         ensures keeps { KeepsOn (S.shows T.Seen) self.old self.new }
-        ensures asks { GivesOnly (IsAskedFor (map (entry_list_of T.seen) self.new.lists.items) self.new.case path.now.bytes) (S.gave self.old.source) (S.gave self.new.source) }
+        ensures asks { GivesOnly (IsAskedFor (map (entry_list_of T.seen) self.new.lists.items) self.new.rules path.now.bytes) (S.gave self.old.source) (S.gave self.new.source) }
     {
         self.keep_to_bound();
         self.enter_top()?;
@@ -109,12 +108,12 @@ impl<T: search::Pattern, S: FolderLists<T>> Entered<T, S> {
                 continue;
             }
             let folder = path.folder_before(place);
-            if let Some(pair) = ignoring(&self.lists.as_slice(), &folder, self.case) {
+            if let Some(pair) = ignoring(&self.lists.as_slice(), &folder, self.rules) {
                 return Ok(Some(pair));
             }
             self.enter(bytes, place)?;
         }
-        Ok(decide_prepared(&self.lists, path, self.case))
+        Ok(decide_prepared(&self.lists, path, self.rules))
     }
 
     /// Forgets all folders where what is kept of them has grown beyond the bound. No path lies in any of them between two calls.
@@ -289,7 +288,7 @@ impl<T: search::Pattern, S: FolderLists<T>> Entered<T, S> {
     fn enter(&mut self, path: &[u8], place: usize) -> Result<(), TreeFault<S::Fault>>
         requires slash { HasByte path.now place slash }
         requires under { IsUnderWay (S.shows T.Seen) S.gave T.seen self.old (take place path.now) }
-        requires kept { (pair : ℕ × ℕ) → ¬ Ignores (map (entry_list_of T.seen) self.old.lists.items) self.old.case (take place path.now) pair }
+        requires kept { (pair : ℕ × ℕ) → ¬ Ignores (map (entry_list_of T.seen) self.old.lists.items) self.old.rules (take place path.now) pair }
         requires none { ¬ (place ≡ 0) → IsNamed self.old path.now place None }
         ensures entered { OnOk result (IsUnderWay (S.shows T.Seen) S.gave T.seen self.new (take (place + 1) path.now)) }
         ensures ready { OnErr result (IsFresh (S.shows T.Seen) S.gave T.seen self.new ⊎ IsUnderWay (S.shows T.Seen) S.gave T.seen self.new (take place path.now)) }
@@ -321,7 +320,7 @@ impl<T: search::Pattern, S: FolderLists<T>> Entered<T, S> {
         requires slash { HasByte path.now place slash }
         requires deep { ¬ (place ≡ 0) }
         requires under { IsUnderWay (S.shows T.Seen) (gave_but S.gave (take place path.now)) T.seen self.old (take place path.now) }
-        requires kept { (pair : ℕ × ℕ) → ¬ Ignores (map (entry_list_of T.seen) self.old.lists.items) self.old.case (take place path.now) pair }
+        requires kept { (pair : ℕ × ℕ) → ¬ Ignores (map (entry_list_of T.seen) self.old.lists.items) self.old.rules (take place path.now) pair }
         requires none { IsNamed self.old path.now place None }
         requires of { IsListOf (S.shows T.Seen self.old.source) (take place path.now) (entry_list_of T.seen list) }
         ensures entered { OnOk result (IsUnderWay (S.shows T.Seen) S.gave T.seen self.new (take (place + 1) path.now)) }

@@ -10,10 +10,9 @@ use crate::entered::Entered;
 use crate::fault::TreeFault;
 use crate::folders::FolderLists;
 use crate::known::KnownFolders;
-use gix_glob::pattern::Case;
 use gix_glob::search;
 use gix_glob::search::pattern::{List, Mapping};
-use glob_lists::{PreparedList, RepositoryPath};
+use glob_lists::{PreparedList, RepositoryPath, Rules};
 use std::alloc::Global;
 use std::marker::Model;
 
@@ -38,7 +37,7 @@ impl<T: search::Pattern, S: FolderLists<T>> Model for Tree<T, S> {
       source = tree.entered.source;
       front_count = tree.entered.front_count;
       lists = tree.entered.lists.items;
-      case = tree.entered.case;
+      rules = tree.entered.rules;
     } };
 
     ghost invariant = { λ tree. IsReady (S.shows T.Seen) S.gave T.seen tree.entered };
@@ -60,12 +59,12 @@ impl<T: search::Pattern, S: FolderLists<T> + Drop> Tree<T, S> {
         alloc: Global,
         source: S,
         fronts: Vec<PreparedList<T>>,
-        case: Case,
+        rules: Rules,
     ) -> Option<Tree<T, S>>
         requires fresh { (folder : Folder) → ¬ S.gave source folder }
         ensures { MatchOption result
             (¬ BasesAreFolders (map (entry_list_of T.seen) fronts.items))
-            (λ tree. tree ≡ record { source = source; front_count = length fronts.items; lists = fronts.items; case = case }) }
+            (λ tree. tree ≡ record { source = source; front_count = length fronts.items; lists = fronts.items; rules = rules }) }
     {
         if !are_of_folders(&fronts) {
             return None;
@@ -73,7 +72,7 @@ impl<T: search::Pattern, S: FolderLists<T> + Drop> Tree<T, S> {
         let entered = Entered {
             alloc,
             source,
-            case,
+            rules,
             front_count: fronts.len(),
             lists: fronts,
             folder: Vec::new(alloc),
@@ -110,14 +109,14 @@ impl<T: search::Pattern, S: FolderLists<T> + Drop> Tree<T, S> {
         &mut self,
         path: &RepositoryPath<'_>,
     ) -> Result<Option<(usize, usize)>, TreeFault<S::Fault>>
-        ensures decides { IfOk result (λ pair. DecidesInTree (map (entry_list_of T.seen) self.new.lists) path.now.bytes path.now.is_dir self.new.case pair) }
-        ensures way { OnOk result (AreOnTheWay (S.shows T.Seen self.new.source) self.new.front_count (map (entry_list_of T.seen) self.new.lists) self.new.case path.now.bytes) }
+        ensures decides { IfOk result (λ pair. DecidesInTree (map (entry_list_of T.seen) self.new.lists) path.now.bytes path.now.is_dir self.new.rules pair) }
+        ensures way { OnOk result (AreOnTheWay (S.shows T.Seen self.new.source) self.new.front_count (map (entry_list_of T.seen) self.new.lists) self.new.rules path.now.bytes) }
         ensures fronts { take self.old.front_count self.new.lists ≡ take self.old.front_count self.old.lists }
         ensures front_count { self.new.front_count ≡ self.old.front_count }
-        ensures case { self.new.case ≡ self.old.case }
+        ensures rules { self.new.rules ≡ self.old.rules }
         ensures goes_on { GoesOn (S.shows T.Seen) self.old.source self.new.source }
         // Each folder that the source is asked for is on the way, and neither ignored nor below an ignored one.
-        ensures asks { GivesOnly (IsAskedFor (map (entry_list_of T.seen) self.new.lists) self.new.case path.now.bytes) (S.gave self.old.source) (S.gave self.new.source) }
+        ensures asks { GivesOnly (IsAskedFor (map (entry_list_of T.seen) self.new.lists) self.new.rules path.now.bytes) (S.gave self.old.source) (S.gave self.new.source) }
     {
         self.entered.find(path)
     }
@@ -146,6 +145,13 @@ impl<T: search::Pattern, S: FolderLists<T> + Drop> Tree<T, S> {
     /// is the top, or none was entered.
     pub fn folder(&self) -> &[u8] {
         &self.entered.folder
+    }
+
+    /// The rules by which patterns are matched.
+    pub fn rules(&self) -> Rules
+        ensures { result ≡ self.now.rules }
+    {
+        self.entered.rules
     }
 
     /// The source.

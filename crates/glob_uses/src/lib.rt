@@ -4,6 +4,7 @@
 
 ghost use Rattle.std.specs.Prelude.{◌≡◌, ◌↔◌, true, false, map, IfOk, IsTrue};
 ghost use Rattle.gix_glob.specs.declared.pattern.Case.{Case};
+ghost use Rattle.glob_lists.specs.Rules.{by_crate};
 ghost use Rattle.glob_lists.specs.Deciding.{AnswersFor, BasesAreFolders, Decides};
 ghost use Rattle.gix_glob.specs.Entries.{Entry, entry_of};
 ghost use Rattle.gix_glob.specs.EntryLists.{entry_list_of};
@@ -17,7 +18,7 @@ use gix_glob::laws::line_has_one_reading;
 use gix_glob::pattern::{Case, PatternView};
 use gix_glob::search::pattern::List;
 use glob_lines::{IgnoreLines, bases_are_folders, decide, laws, plain_path};
-use glob_lists::RepositoryPath;
+use glob_lists::{Reading, RepositoryPath, Rules};
 pub use own_parser::{Whole, whole_entries_are_these};
 use std::alloc::{AllocError, Global};
 
@@ -25,7 +26,7 @@ use std::alloc::{AllocError, Global};
 pub fn matches_line(line: &[u8], path: &[u8]) -> bool
     ensures blank { ¬ HasReading line.now true → result ≡ false }
     ensures answers { (entry : Entry (Unit {0})) → Reads line.now true entry.text entry.mode entry.place
-        → IsPlainPath path.now → IsTrue result ↔ AnswersFor entry.text entry.mode path.now false Case.Sensitive }
+        → IsPlainPath path.now → IsTrue result ↔ AnswersFor entry.text entry.mode path.now false (by_crate Case.Sensitive) }
 {
     line_has_one_reading();
     let (Some(pattern), Some(path)) = (
@@ -34,7 +35,7 @@ pub fn matches_line(line: &[u8], path: &[u8]) -> bool
     ) else {
         return false;
     };
-    path.is_matched_by(pattern, Case::Sensitive)
+    path.is_matched_by(pattern, Rules::by_crate(Case::Sensitive))
 }
 
 /// The rules of an ignore file's bytes, for the paths of the folder that it stands in.
@@ -42,7 +43,10 @@ pub fn rules(alloc: Global, file: &[u8], name: &str) -> Result<List<IgnoreLines>
     ensures { IfOk result (λ list. Ignore file.now (map (entry_of (λ _. tt)) list.patterns.items)) }
 {
     let name = String::from_str(alloc, name)?;
-    let list = List::from_bytes(alloc, file, name, None, IgnoreLines)?;
+    let parser = IgnoreLines {
+        reading: Reading::Crate,
+    };
+    let list = List::from_bytes(alloc, file, name, None, parser)?;
     // a law does nothing: it is called for what it ensures
     laws::ignore_entries_are_these();
     Ok(list)
@@ -52,7 +56,7 @@ pub fn rules(alloc: Global, file: &[u8], name: &str) -> Result<List<IgnoreLines>
 /// from 0. `None` where none matches, where the path is no path of a repository, and where a base is that of no folder.
 pub fn last_rule(lists: &[List<IgnoreLines>], path: &[u8], is_dir: bool) -> Option<(usize, usize)>
     ensures { IsPlainPath path.now → BasesAreFolders (map (entry_list_of {V = Unit {0}} (λ _. tt)) lists.now)
-        → Decides (map (entry_list_of {V = Unit {0}} (λ _. tt)) lists.now) path.now is_dir Case.Sensitive result }
+        → Decides (map (entry_list_of {V = Unit {0}} (λ _. tt)) lists.now) path.now is_dir (by_crate Case.Sensitive) result }
 {
     if !plain_path(path) {
         return None;

@@ -11,6 +11,7 @@ use crate::fault::CheckFault;
 use crate::outer_attributes::{OuterAttributes, outer_attributes};
 use crate::running::{ANSWERED, WRONG_WORDS};
 use crate::telling::{tell_line, tell_usage};
+use crate::work_tree::case_of;
 use anyhow::{Context, Result};
 use gix_glob::search::Watched;
 use glob_attributes::is_name;
@@ -71,7 +72,7 @@ pub(crate) fn check_attr<R: Files + Env + Eprint + AllocGlobal, I: Read, O: Writ
     }
     let asked_names = bytes_of(alloc, names)?;
     let told = bytes_of(alloc, paths)?;
-    let question = question_of(&outer, &asked_names, flags);
+    let question = question_of(&outer, &asked_names, options, flags);
     let source = AttributeFiles { rt, alloc };
     let outcome = if flags.stdin {
         run_check_attr(alloc, &question, source, input, output)
@@ -85,24 +86,27 @@ pub(crate) fn check_attr<R: Files + Env + Eprint + AllocGlobal, I: Read, O: Writ
     }
 }
 
-/// What is asked of each path, by the flags.
+/// What is asked of each path, by the options and the flags.
 fn question_of<'a>(
     outer: &'a OuterAttributes,
     names: &'a [&'a [u8]],
+    options: Options<'_>,
     flags: CheckAttrFlags,
 ) -> AttributeQuestion<'a>
     ensures form { result.form ≡ form_by flags.nul }
     ensures asks { result.asked ≡ (if flags.all then all else named (map (λ (name : Bor (List ℕ)). name.now) names.now)) }
 {
-    let form = Form::ended_by(flags.nul);
-    if flags.all {
-        return AttributeQuestion::new(outer.files(), AskedAttributes::All, &outer.standpoint, form);
-    }
+    let asked = if flags.all {
+        AskedAttributes::All
+    } else {
+        AskedAttributes::Names(names)
+    };
     AttributeQuestion::new(
         outer.files(),
-        AskedAttributes::Names(names),
+        asked,
+        case_of(options),
         &outer.standpoint,
-        form,
+        Form::ended_by(flags.nul),
     )
 }
 

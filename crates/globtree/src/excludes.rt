@@ -3,11 +3,16 @@ use crate::seen_files::{file_list, named_list};
 use anyhow::{Context, Result};
 use gix_glob::search::pattern::List;
 use glob_lines::IgnoreLines;
-use glob_lists::PreparedList;
+use glob_lists::{PreparedList, Reading};
 use std::alloc::Global;
 use std::env;
 use std::env::VarError;
 use std::rt::{Env, Files};
+
+/// The parser of each ignore file: Git's reading counts.
+pub(crate) const BY_GIT: IgnoreLines = IgnoreLines {
+    reading: Reading::Git,
+};
 
 /// Pushes the list of the file of excludes: the one that was named, or the user's own, which may be missing.
 pub(crate) fn push_excludes<R: Files + Env + Eprint + AllocGlobal>(
@@ -20,12 +25,12 @@ pub(crate) fn push_excludes<R: Files + Env + Eprint + AllocGlobal>(
     let list = match named {
         Some(name) => {
             let source = String::from_str(alloc, name)?;
-            named_list(rt, alloc, source, &mut bytes, IgnoreLines)
+            named_list(rt, alloc, source, &mut bytes, BY_GIT)
                 .context(format_args!("'{name}'"))?
                 .context(format_args!("'{name}' is no file"))?
         }
         None => match users_file(rt, "ignore")? {
-            Some(source) => file_list(rt, alloc, source, &mut bytes, IgnoreLines)?,
+            Some(source) => file_list(rt, alloc, source, &mut bytes, BY_GIT)?,
             None => List::empty(alloc),
         },
     };
@@ -41,7 +46,7 @@ pub(crate) fn push_info<R: Files + Eprint>(
 ) -> Result<()> {
     let mut bytes = Vec::new(alloc);
     let source = String::from_str(alloc, ".git/info/exclude")?;
-    let list = file_list(rt, alloc, source, &mut bytes, IgnoreLines)?;
+    let list = file_list(rt, alloc, source, &mut bytes, BY_GIT)?;
     lists.push(PreparedList::new(alloc, list))?;
     Ok(())
 }

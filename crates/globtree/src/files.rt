@@ -1,5 +1,6 @@
 //! What a real work tree tells `files`: the names in its folders, what stands there, and their ignore files. What can't be looked at is told.
 
+use crate::excludes::BY_GIT;
 use crate::fault::CheckFault;
 use crate::folder_names::NameReader;
 use crate::seen_files::{Sight, seen_file_list};
@@ -105,14 +106,7 @@ impl<'a, R: Files + Eprint> TreeFiles<'a, R> {
             return Ok(List::empty(self.alloc));
         };
         let seen = Sight::of(&found);
-        seen_file_list(
-            self.rt,
-            self.alloc,
-            file,
-            &seen,
-            &mut self.bytes,
-            IgnoreLines,
-        )
+        seen_file_list(self.rt, self.alloc, file, &seen, &mut self.bytes, BY_GIT)
     }
 
     /// Tells the error by which a path isn't listed, or not all of a folder. Want of memory is a fault.

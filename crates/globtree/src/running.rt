@@ -37,7 +37,7 @@ options:
   -C DIR             go to DIR first
   --top DIR          the top of the work tree; else the nearest folder upward that has .git
   --excludes FILE    a file of excludes; else git/ignore in the user's configuration folder
-  --ignore-case      the case of letters doesn't count in ignore files
+  --ignore-case      the case of letters doesn't count in patterns
   --system FILE      the system's attribute file; else there is none
   --attributes FILE  the user's attribute file; else git/attributes in the user's configuration folder
 ";

@@ -204,7 +204,7 @@ impl<'a, R: Files + Env + AllocGlobal> Signs<'a, R> {
         match key {
             Key::ExcludesFile => !are_attributes && self.options.excludes.is_none(),
             Key::AttributesFile => are_attributes && self.options.attributes.is_none(),
-            Key::IgnoreCase => are_attributes || !self.options.ignore_case,
+            Key::IgnoreCase => !self.options.ignore_case,
             Key::QuotePath => !self.concerns.is_nul,
             Key::WorkTree | Key::Bare | Key::Version | Key::Extensions => is_own,
             Key::Include | Key::IncludeIf => true,
@@ -216,7 +216,7 @@ impl<'a, R: Files + Env + AllocGlobal> Signs<'a, R> {
         match key {
             Key::ExcludesFile => " (--excludes FILE stands for it)",
             Key::AttributesFile => " (--attributes FILE stands for it)",
-            Key::IgnoreCase if !self.concerns.are_attributes => " (--ignore-case stands for it)",
+            Key::IgnoreCase => " (--ignore-case stands for it)",
             _ => "",
         }
     }

@@ -1,6 +1,7 @@
 //! The ignore files of folders.
 
 use crate::closed_folders::ClosedFolders;
+use crate::excludes::BY_GIT;
 use crate::fault::CheckFault;
 use crate::seen_files::{Sight, seen_file_list};
 use crate::standing::{OwnFile, Standing, file_in, folder_text, own_file, what_stands};
@@ -56,14 +57,7 @@ impl<'a, R: Files + Eprint> FolderFiles<'a, R> {
         match own_file(self.rt, self.alloc, file.as_str())? {
             OwnFile::Found(found) => {
                 let seen = Sight::of(&found);
-                seen_file_list(
-                    self.rt,
-                    self.alloc,
-                    file,
-                    &seen,
-                    &mut self.bytes,
-                    IgnoreLines,
-                )
+                seen_file_list(self.rt, self.alloc, file, &seen, &mut self.bytes, BY_GIT)
             }
             OwnFile::Nothing => Ok(List::empty(self.alloc)),
             OwnFile::Shut => {

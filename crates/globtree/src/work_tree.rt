@@ -9,7 +9,7 @@ use crate::sources::FolderFiles;
 use anyhow::{Context, Result};
 use gix_glob::pattern::Case;
 use glob_lines::IgnoreLines;
-use glob_lists::PreparedList;
+use glob_lists::{PreparedList, Rules};
 use glob_trees::Tree;
 use std::alloc::Global;
 use std::rt::{Env, Files};
@@ -28,8 +28,8 @@ pub(crate) fn tree_of<'a, R: Files + Env + Eprint + AllocGlobal>(
 ) -> Result<(Standpoint, Tree<IgnoreLines, FolderFiles<'a, R>>)> {
     let (standpoint, fronts) = fronts_of(rt, alloc, options, concerns)?;
     let source = FolderFiles::new(rt, alloc);
-    let case = case_of(options);
-    let mut tree = Tree::new(alloc, source, fronts, case).context("the bases of lists")?;
+    let rules = Rules::by_git(case_of(options));
+    let mut tree = Tree::new(alloc, source, fronts, rules).context("the bases of lists")?;
     tree.keep_at_most(MOST_BYTES);
     Ok((standpoint, tree))
 }

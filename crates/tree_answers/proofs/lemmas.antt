@@ -1,3 +1,4 @@
+pub mod GitPatternLines
 pub mod PatternLines
 pub mod RecordLemmas
 pub mod ZeroLemmas

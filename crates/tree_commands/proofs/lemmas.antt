@@ -29,4 +29,5 @@ pub mod RunLemmas
 pub mod SourceLemmas
 pub mod StackLemmas
 pub mod StartLemmas
+pub mod TopLemmas
 pub mod VisitLemmas

@@ -1,9 +1,12 @@
 -- What is written about the attributes of told paths: which files count for a path, in which order, and which of them define macros.
-use Rattle.std.specs.Prelude.{◌≡◌, ◌⊎◌, ◌↔◌, ℕ, false, true, List, [], ◌∷◌, ◌++◌, Option, None, Some, codes, map}
+use Rattle.std.specs.Prelude.{◌≡◌, ◌≢◌, ◌⊎◌, ◌↔◌, ℕ, false, true, List, [], ◌∷◌, ◌++◌, Option, None, Some, codes, filter, map}
 use Rattle.std.specs.List.{AllByRecursion, Contains, flat_map}
-use Rattle.gix_glob.specs.declared.pattern.Case.TheVariants.{Sensitive}
+use Rattle.gix_glob.specs.declared.pattern.Case.{Case}
 use Rattle.gix_glob.specs.EntryLists.{EntryList}
+use Rattle.gix_glob.specs.Patterns.{looks_at_name}
+use Rattle.glob_lists.specs.declared.rules.Reading.TheVariants.{Git}
 use Rattle.glob_lists.specs.Paths.{IsPlainPath}
+use Rattle.glob_lists.specs.Rules.{by_git}
 use Rattle.glob_trees.specs.Ways.{Folder, base_of_folder, folders_to}
 use Rattle.glob_attributes.specs.Equations.Files.{attributes_of}
 use Rattle.glob_attributes.specs.Macros.{Definition, macros_of}
@@ -34,13 +37,21 @@ FolderFile = Folder × List ℕ
 
 -- the list of a file, for the paths in a folder: for all paths where that is the top, which is named by no bytes
 abbrev pub list_in : Folder → List ℕ → EntryList (List Assigned)
-list_in folder bytes = record { entries = attributes_of bytes; source = None; base = base_of_folder folder }
+list_in folder bytes = record { entries = attributes_of Git bytes; source = None; base = base_of_folder folder }
 
 -- The lists that count for a path, the weakest first: the system's, the user's, the top's, those of the folders on the way to it, and the
 -- repository's own.
 abbrev pub lists_to : Files → List FolderFile → Lists
 lists_to files way =
     list_in [] files.system ∷ list_in [] files.user ∷ list_in [] files.top ∷ (map (λ at. list_in at.0 at.1) way ++ list_in [] files.info ∷ [])
+
+-- the list with its entries for names alone
+abbrev pub names_alone : EntryList (List Assigned) → EntryList (List Assigned)
+names_alone list = record { entries = filter (λ entry. looks_at_name entry.mode) list.entries; source = list.source; base = list.base }
+
+-- the lists that count for the top, the weakest first, with their entries for names alone: no other matches it
+abbrev pub lists_for_top : Files → Lists
+lists_for_top files = map (λ bytes. names_alone (list_in [] bytes)) (files_of files)
 
 -- the line that is built in
 abbrev pub built_in : List ℕ
@@ -85,10 +96,11 @@ told_states all read filled = states_in filled read
 abbrev pub states_text : Form → List ℕ → List Assigned → List ℕ
 states_text form told states = flat_map (λ each. answer_text form (name_text form told) (label_text form each.name) each.state) states
 
--- what is asked, of which files, from where, and how it is written
+-- what is asked, of which files, whether the case of letters counts, from where, and how it is written
 pub record Query : Type 0 where
   pub files : Files
   pub asked : Asked
+  pub case : Case
   pub standpoint : Standpoint
   pub form : Form
 
@@ -97,11 +109,13 @@ abbrev pub or_dot : List ℕ → List ℕ
 or_dot [] = codes "."
 or_dot (b ∷ told) = b ∷ told
 
--- What is assigned to the path that was told: nothing to the top.
+-- What is assigned to the path that was told, as Git reads and matches patterns: nothing to what is no path of a repository. The top isn't
+-- said to be a folder.
 abbrev pub IsAssignedTo : Query → List ℕ → List ℕ → List FolderFile → List Assigned → Type 0
 IsAssignedTo query told path way filled =
-    (¬ IsPlainPath path × (filled ≡ []))
-    ⊎ (IsPlainPath path × IsAssigned (lists_to query.files way) (macros_for query.files) (record { bytes = path; is_dir = names_folder false (parts_of (or_dot told)) }) Sensitive filled)
+    ((path ≡ []) × IsAssigned (lists_for_top query.files) (macros_for query.files) (record { bytes = []; is_dir = false }) (by_git query.case) filled)
+    ⊎ ((path ≢ []) × (¬ IsPlainPath path) × (filled ≡ []))
+    ⊎ (IsPlainPath path × IsAssigned (lists_to query.files way) (macros_for query.files) (record { bytes = path; is_dir = names_folder false (parts_of (or_dot told)) }) (by_git query.case) filled)
 
 -- The text about a path as it was told. What is assigned to a path is one list, by laws of `glob_attributes`.
 pub record IsStatesText (query : Query) (shows : Folder → Option (List ℕ) → Type 0) (told text : List ℕ) : Type 0 where

@@ -1,11 +1,12 @@
 -- Which line decides about a told path, and what `check-ignore` writes about it.
-use Rattle.std.specs.Prelude.{◌≡◌, ◌⊎◌, ℕ, Bool, true, false, ◌&&◌, ◌||◌, not, if◌then◌else◌, List, [], map, slice_get, take, Option, None, Some, IfSome, MatchOption, is_some}
+use Rattle.std.specs.Prelude.{◌≡◌, ◌≢◌, ◌⊎◌, ℕ, Bool, false, ◌&&◌, ◌||◌, not, if◌then◌else◌, List, [], ◌∷◌, ◌++◌, map, slice_get, take, Option, None, Some, IfSome, MatchOption, is_some}
 use Rattle.std.specs.List.{AllZip, list_any}
 use Rattle.std.specs.Option.{unwrap_or}
-use Rattle.gix_glob.specs.declared.pattern.Case.{Case}
+use Rattle.gix_glob.specs.Bytes.{slash}
 use Rattle.gix_glob.specs.Entries.{Entry}
 use Rattle.gix_glob.specs.EntryLists.{EntryList, entry_list_of}
 use Rattle.gix_glob.specs.Patterns.{is_negative}
+use Rattle.glob_lists.specs.declared.rules.Rules.{Rules}
 use Rattle.glob_lists.specs.Paths.{IsPlainPath}
 use Rattle.glob_trees.specs.TreeParts.{TreeParts}
 use Rattle.glob_trees.specs.Trees.{DecidesInTree}
@@ -17,21 +18,22 @@ use Rattle.tree_answers.specs.Lines.{Decision, line_text}
 use Rattle.tree_commands.specs.declared.check_ignore.fault.IgnoreFault.{IgnoreFault}
 use Rattle.tree_commands.specs.declared.check_ignore.fault.IgnoreFault.TheVariants.{Empty, Outside}
 use Rattle.tree_commands.specs.declared.check_ignore.flags.IgnoreFlags.{IgnoreFlags}
+use Rattle.tree_commands.specs.Tops.{DecidesForTop}
 
 -- What is asked of each told path: where it leads from the top; whether a folder stands there, as far as it is known; the lists that
--- stand before those of all folders, and how many; whether the case of letters counts; and what is written.
+-- stand before those of all folders, and how many; the rules by which patterns are matched; and what is written.
 pub record Question : Type 0 where
   pub leads : List ℕ → Option (List ℕ)
   pub kind_of : List ℕ → Option Bool
   pub front_count : ℕ
   pub fronts : List (EntryList (Unit {0}))
-  pub case : Case
+  pub rules : Rules
   pub flags : IgnoreFlags
 
 -- what is asked from a standpoint of a tree, where the kinds of paths are known so far
 abbrev pub question_of : {S T X : Type 0} → Standpoint → IgnoreFlags → TreeParts S T X → (List ℕ → Option Bool) → Question
 question_of standpoint flags tree kind_of =
-    record { leads = led standpoint; kind_of = kind_of; front_count = tree.front_count; fronts = take tree.front_count (map (entry_list_of {V = Unit {0}} (λ _. tt)) tree.lists); case = tree.case; flags = flags }
+    record { leads = led standpoint; kind_of = kind_of; front_count = tree.front_count; fronts = take tree.front_count (map (entry_list_of {V = Unit {0}} (λ _. tt)) tree.lists); rules = tree.rules; flags = flags }
 
 -- the line at a pair of places, and none for none
 abbrev pub IsLineAt : List (EntryList (Unit {0})) → Option (ℕ × ℕ) → Option Decision → Type 0
@@ -44,20 +46,40 @@ IsLineAt lists pair line = MatchOption pair (line ≡ None)
 pub record IsDeciding (question : Question) (shows : Folder → EntryList (Unit {0}) → Type 0) (path : List ℕ) (known : Option Bool) (line : Option Decision) : Type 0 where
   pub lists : List (EntryList (Unit {0}))
   pub fronts : take question.front_count lists ≡ question.fronts
-  pub on_way : AreOnTheWay shows question.front_count lists question.case path
+  pub on_way : AreOnTheWay shows question.front_count lists question.rules path
   pub is_dir : Bool
   pub kind : IfSome known (λ is_folder. is_dir ≡ is_folder)
   pub pair : Option (ℕ × ℕ)
-  pub decides : DecidesInTree lists path is_dir question.case pair
+  pub decides : DecidesInTree lists path is_dir question.rules pair
   pub there : IsLineAt lists pair line
 
--- The line that decides about a told path: none about one that leads to the top itself, or to what else is no path of a repository. A
--- path is known to be a folder's where it is told as one.
+-- the line that decides about the top, in the same way
+pub record IsDecidingForTop (question : Question) (shows : Folder → EntryList (Unit {0}) → Type 0) (line : Option Decision) : Type 0 where
+  pub lists : List (EntryList (Unit {0}))
+  pub fronts : take question.front_count lists ≡ question.fronts
+  pub on_way : AreOnTheWay shows question.front_count lists question.rules []
+  pub pair : Option (ℕ × ℕ)
+  pub decides : DecidesForTop lists question.rules pair
+  pub there : IsLineAt lists pair line
+
+-- the path that is asked about: the one to which a told path leads, with a slash at its end where it is told as a folder's. So its own
+-- folder is above it, and its last part has no bytes. The top has no slash.
+abbrev pub asked_path : Bool → List ℕ → List ℕ
+asked_path is_told [] = []
+asked_path is_told (b ∷ path) = (b ∷ path) ++ (if is_told then slash ∷ [] else [])
+
+-- the line that decides about what is asked: none about what is no path of a repository
+abbrev pub IsLineOf : Question → (Folder → EntryList (Unit {0}) → Type 0) → List ℕ → Option Bool → Option Decision → Type 0
+IsLineOf question shows asked known line =
+    ((asked ≡ []) × IsDecidingForTop question shows line)
+    ⊎ ((asked ≢ []) × (¬ IsPlainPath asked) × (line ≡ None))
+    ⊎ (IsPlainPath asked × IsDeciding question shows asked known line)
+
+-- The line that decides about a told path. Whether it is a folder's, what stands there tells, and not how it is told.
 pub record IsLineFor (question : Question) (shows : Folder → EntryList (Unit {0}) → Type 0) (told : List ℕ) (line : Option Decision) : Type 0 where
   pub path : List ℕ
   pub leads : question.leads told ≡ Some path
-  pub decided : (¬ IsPlainPath path × (line ≡ None))
-      ⊎ (IsPlainPath path × IsDeciding question shows path (if names_folder false (parts_of told) then Some true else question.kind_of path) line)
+  pub decided : IsLineOf question shows (asked_path (names_folder false (parts_of told)) path) (question.kind_of path) line
 
 -- the line, where it counts: a negative one only where lines are written
 abbrev pub counted : Bool → Option Decision → Option Decision

@@ -5,3 +5,4 @@ pub mod Files
 pub mod FileTrees
 pub mod Ignoring
 pub mod Private
+pub mod Tops

@@ -8,4 +8,5 @@ pub mod Finding
 pub mod Ignoring
 pub mod Listing
 pub mod ListingFaults
+pub mod Tops
 pub mod UnderWay

@@ -6,6 +6,7 @@ mod finding;
 mod flags;
 mod kinds;
 mod running;
+mod top;
 mod unlinked;
 
 pub use fault::IgnoreFault;

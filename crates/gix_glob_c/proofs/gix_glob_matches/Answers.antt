@@ -9,7 +9,7 @@ use Rattle.gix_glob_c.proofs.gix_glob_matches.Goals as goal
 
 pub returns : goal.returns
 returns c = λ lawful.
-    let parts : GlobPattern = record { text = c.args.text; first_wildcard_pos = c.args.first_wildcard_pos; mode = c.args.pattern_mode } in
+    let parts : GlobPattern = record { text = c.args.text; first_wildcard_pos = c.args.first_wildcard_pos; mode = c.args.pattern_mode; reading = 0 } in
     let view = c.view-view.result in
     let held = view_is_lawful parts view.text.now view.mode view.first_wildcard_pos c.view-view.ensures.text c.view-view.ensures.mode c.view-view.ensures.place lawful in
     let mode = match_mode_of c.from_bits_retain.result c.args.mode (c.from_bits_retain.ensures tt) in

@@ -6,7 +6,7 @@ use Rattle.std.specs.Option.{option_and_then, option_map_or}
 use Rattle.std.proofs.lemmas.Grind.{flat_map-append}
 use Rattle.std.proofs.lemmas.List.{append-nil, length-map}
 use Rattle.std.proofs.lemmas.Option.{slice_get-get_or, slice_get-map, slice_get_within}
-use Rattle.gix_glob.specs.declared.pattern.Case.{Case}
+use Rattle.glob_lists.specs.declared.rules.Rules.{Rules}
 use Rattle.gix_glob.specs.Entries.{Entry}
 use Rattle.gix_glob.specs.EntryLists.{EntryList}
 use Rattle.gix_glob.specs.Stripping.{Rest}
@@ -26,7 +26,7 @@ use Rattle.gix_glob_c.specs.declared.attributes.GlobAttributeList.{GlobAttribute
 -- what the reading of a line and of a list takes where there is none
 abbrev pub blank_line : GlobAttributeLine
 blank_line = record {
-  pattern = record { text = record { ref_ptr = (0, 0); now = [] }; first_wildcard_pos = 0; mode = 0 };
+  pattern = record { text = record { ref_ptr = (0, 0); now = [] }; first_wildcard_pos = 0; mode = 0; reading = 0 };
   words = record { ref_ptr = (0, 0); now = [] };
 }
 
@@ -52,52 +52,52 @@ one_more lists i m list entry there here =
     ap (λ (o : Option (EntryList (List Assigned))). option_map_or (λ (e : Entry (List Assigned)). e.value) (option_and_then (λ (l : EntryList (List Assigned)). slice_get l.entries m) o) []) there
     ∙ ap (λ (o : Option (Entry (List Assigned))). option_map_or (λ (e : Entry (List Assigned)). e.value) o []) here
 
-module _ (lists : List GlobAttributeList) (path : Path) (case : Case) (i : ℕ) (list : GlobAttributeList) (there : slice_get (map attribute_list lists) i ≡ Some (attribute_list list)) where
+module _ (lists : List GlobAttributeList) (path : Path) (rules : Rules) (i : ℕ) (list : GlobAttributeList) (there : slice_get (map attribute_list lists) i ≡ Some (attribute_list list)) where
   abbrev answers : ℕ → Type 0
-  answers m = PairAnswers (map attribute_list lists) path.bytes path.is_dir case i m
+  answers m = PairAnswers (map attribute_list lists) path.bytes path.is_dir rules i m
 
   -- the next list begins where no line of this one is left that matches
-  pub found-list : (n : ℕ) (row : List Assigned) → ((m : ℕ) → answers m → m < n) → IsFoundUpTo lists path case i n row → IsFoundUpTo lists path case (i + 1) 0 row
-  found-list n row most h = record { pairs = h.pairs; found = matches_of_list (map attribute_list lists) path.bytes path.is_dir case i n h.pairs most h.found; same = h.same }
+  pub found-list : (n : ℕ) (row : List Assigned) → ((m : ℕ) → answers m → m < n) → IsFoundUpTo lists path rules i n row → IsFoundUpTo lists path rules (i + 1) 0 row
+  found-list n row most h = record { pairs = h.pairs; found = matches_of_list (map attribute_list lists) path.bytes path.is_dir rules i n h.pairs most h.found; same = h.same }
 
   pub answers-within : (m : ℕ) → answers m → m < length list.lines.now
   answers-within m h =
-      let at = PairAnswers-only (map attribute_list lists) path.bytes path.is_dir case i m (attribute_list list) there h in
+      let at = PairAnswers-only (map attribute_list lists) path.bytes path.is_dir rules i m (attribute_list list) there h in
       let inside = slice_get_within (map entry_of_line list.lines.now) m at.entry at.there in
       omega (arith, inside, length-map list.lines.now entry_of_line)
 
   module _ (m : ℕ) (line : GlobAttributeLine) (here : slice_get (map entry_of_line list.lines.now) m ≡ Some (entry_of_line line)) where
-    pub found-skip : (row : List Assigned) → ¬ answers m → IsFoundUpTo lists path case i m row → IsFoundUpTo lists path case i (m + 1) row
-    found-skip row not h = record { pairs = h.pairs; found = matches_skip (map attribute_list lists) path.bytes path.is_dir case i m h.pairs not h.found; same = h.same }
+    pub found-skip : (row : List Assigned) → ¬ answers m → IsFoundUpTo lists path rules i m row → IsFoundUpTo lists path rules i (m + 1) row
+    found-skip row not h = record { pairs = h.pairs; found = matches_skip (map attribute_list lists) path.bytes path.is_dir rules i m h.pairs not h.found; same = h.same }
 
-    pub found-more : (row : List Assigned) → answers m → IsFoundUpTo lists path case i m row → IsFoundUpTo lists path case i (m + 1) (row ++ assigned_by line.words.now)
+    pub found-more : (row : List Assigned) → answers m → IsFoundUpTo lists path rules i m row → IsFoundUpTo lists path rules i (m + 1) (row ++ assigned_by line.words.now)
     found-more row answered h = record {
       pairs = h.pairs ++ (i, m) ∷ [];
-      found = matches_more (map attribute_list lists) path.bytes path.is_dir case i m h.pairs answered h.found;
+      found = matches_more (map attribute_list lists) path.bytes path.is_dir rules i m h.pairs answered h.found;
       same = ap (λ l. l ++ assigned_by line.words.now) h.same
           ∙ ap (λ l. flat_map (assigned_at (map attribute_list lists)) h.pairs ++ l) (sym (one_more (map attribute_list lists) i m (attribute_list list) (entry_of_line line) there here) ∙ sym (append-nil _))
           ∙ sym (flat_map-append (assigned_at (map attribute_list lists)) h.pairs ((i, m) ∷ []));
     }
 
-    module _ (rest : List ℕ) (left : Rest case list.base.now path.bytes rest) where
-      pub answers-yes : AnswersUnder None (entry_of_parts line.pattern) rest path.is_dir case → answers m
+    module _ (rest : List ℕ) (left : Rest rules.case list.base.now path.bytes rest) where
+      pub answers-yes : AnswersUnder None (entry_of_parts line.pattern) rest path.is_dir rules → answers m
       answers-yes h = record {
         list = attribute_list list;
         there = there;
         answers = record {
           entry = entry_of_line line;
           there = here;
-          answers = record { rest = rest; left = left; answers = subst (λ r. AnswersFor (entry_of_line line).text (entry_of_line line).mode r path.is_dir case) h.left h.answers };
+          answers = record { rest = rest; left = left; answers = subst (λ r. AnswersFor (entry_of_line line).text (entry_of_line line).mode r path.is_dir rules) h.left h.answers };
         };
       }
 
-      pub answers-only : answers m → AnswersUnder None (entry_of_parts line.pattern) rest path.is_dir case
+      pub answers-only : answers m → AnswersUnder None (entry_of_parts line.pattern) rest path.is_dir rules
       answers-only h =
-          let at = PairAnswers-only (map attribute_list lists) path.bytes path.is_dir case i m (attribute_list list) there h in
-          let under = AnswersAt-only (attribute_list list) path.bytes path.is_dir case m (entry_of_line line) here at in
-          record { rest = rest; left = refl; answers = AnswersUnder-only (Some list.base.now) path.bytes path.is_dir case (entry_of_line line) rest left under }
+          let at = PairAnswers-only (map attribute_list lists) path.bytes path.is_dir rules i m (attribute_list list) there h in
+          let under = AnswersAt-only (attribute_list list) path.bytes path.is_dir rules m (entry_of_line line) here at in
+          record { rest = rest; left = refl; answers = AnswersUnder-only (Some list.base.now) path.bytes path.is_dir rules (entry_of_line line) rest left under }
 
 -- all lists were gone through
-pub found-all : (lists : List GlobAttributeList) (path : Path) (case : Case) (i : ℕ) (row : List Assigned) → length (map attribute_list lists) ≤ i → IsFoundUpTo lists path case i 0 row
-    → (pairs : List (ℕ × ℕ)) × AreMatches (map attribute_list lists) path.bytes path.is_dir case pairs × (row ≡ flat_map (assigned_at (map attribute_list lists)) pairs)
-found-all lists path case i row all h = (h.pairs, matches_all (map attribute_list lists) path.bytes path.is_dir case i h.pairs all h.found, h.same)
+pub found-all : (lists : List GlobAttributeList) (path : Path) (rules : Rules) (i : ℕ) (row : List Assigned) → length (map attribute_list lists) ≤ i → IsFoundUpTo lists path rules i 0 row
+    → (pairs : List (ℕ × ℕ)) × AreMatches (map attribute_list lists) path.bytes path.is_dir rules pairs × (row ≡ flat_map (assigned_at (map attribute_list lists)) pairs)
+found-all lists path rules i row all h = (h.pairs, matches_all (map attribute_list lists) path.bytes path.is_dir rules i h.pairs all h.found, h.same)

@@ -2,7 +2,7 @@
 use Rattle.std.proofs.Common.{◌≡◌, ⊎_elim, ℕ, ◌<◌, ◌≤◌, Bool, List, [], ◌∷◌, length, map, option_map, Option, None, Some, refl, sym, ap, subst, ◌∙◌, slice_index_or, arith}
 use Rattle.std.specs.Prelude.{slice_get}
 use Rattle.std.proofs.lemmas.Option.{same_Some, slice_get-get_or, slice_get-map}
-use Rattle.gix_glob.specs.declared.pattern.Case.{Case}
+use Rattle.glob_lists.specs.declared.rules.Rules.{Rules}
 use Rattle.gix_glob.specs.Stripping.{NothingLeft, Rest}
 use Rattle.gix_glob.specs.Entries.{Entry}
 use Rattle.gix_glob.specs.EntryLists.{EntryList}
@@ -57,36 +57,36 @@ has_pattern lists pair h = record {
   of_list = pattern_within lists pair h.0 h.1;
 }
 
-pub nothing_under : (list : GlobList) (path : List ℕ) (is_dir : Bool) (case : Case) → NothingLeft case (Some list.base.now) path → (m : ℕ) → ¬ AnswersAt (entry_list list) path is_dir case m
-nothing_under list path is_dir case none m h = none h.answers.rest h.answers.left
+pub nothing_under : (list : GlobList) (path : List ℕ) (is_dir : Bool) (rules : Rules) → NothingLeft rules.case (Some list.base.now) path → (m : ℕ) → ¬ AnswersAt (entry_list list) path is_dir rules m
+nothing_under list path is_dir rules none m h = none h.answers.rest h.answers.left
 
-module _ (list : GlobList) (path rest : List ℕ) (is_dir : Bool) (case : Case) (left : Rest case list.base.now path rest) where
+module _ (list : GlobList) (path rest : List ℕ) (is_dir : Bool) (rules : Rules) (left : Rest rules.case list.base.now path rest) where
   -- what answers for the rest answers under the base
-  below : (m : ℕ) → AnswersAt (list_of list.patterns.now) rest is_dir case m → AnswersAt (entry_list list) path is_dir case m
+  below : (m : ℕ) → AnswersAt (list_of list.patterns.now) rest is_dir rules m → AnswersAt (entry_list list) path is_dir rules m
   below m h = record {
     entry = h.entry;
     there = h.there;
     answers = record {
       rest = rest;
       left = left;
-      answers = subst (λ r. AnswersFor h.entry.text h.entry.mode r is_dir case) h.answers.left h.answers.answers;
+      answers = subst (λ r. AnswersFor h.entry.text h.entry.mode r is_dir rules) h.answers.left h.answers.answers;
     };
   }
 
-  whole : (m : ℕ) → AnswersAt (entry_list list) path is_dir case m → AnswersAt (list_of list.patterns.now) rest is_dir case m
+  whole : (m : ℕ) → AnswersAt (entry_list list) path is_dir rules m → AnswersAt (list_of list.patterns.now) rest is_dir rules m
   whole m h = record {
     entry = h.entry;
     there = h.there;
-    answers = record { rest = rest; left = refl; answers = AnswersUnder-only (Some list.base.now) path is_dir case h.entry rest left h.answers };
+    answers = record { rest = rest; left = refl; answers = AnswersUnder-only (Some list.base.now) path is_dir rules h.entry rest left h.answers };
   }
 
-  pub last_under : (found : Option ℕ) → Decides (list_of list.patterns.now ∷ []) rest is_dir case (option_map (λ (index : ℕ). (0, index)) found)
-      → LastOf (entry_list list) path is_dir case found
-  last_under None h = λ m answers. h 0 m (PairAnswers-yes (list_of list.patterns.now ∷ []) rest is_dir case 0 m (list_of list.patterns.now) refl (whole m answers))
+  pub last_under : (found : Option ℕ) → Decides (list_of list.patterns.now ∷ []) rest is_dir rules (option_map (λ (index : ℕ). (0, index)) found)
+      → LastOf (entry_list list) path is_dir rules found
+  last_under None h = λ m answers. h 0 m (PairAnswers-yes (list_of list.patterns.now ∷ []) rest is_dir rules 0 m (list_of list.patterns.now) refl (whole m answers))
   last_under (Some k) h = (
-    below k (PairAnswers-only (list_of list.patterns.now ∷ []) rest is_dir case 0 k (list_of list.patterns.now) refl h.answers),
+    below k (PairAnswers-only (list_of list.patterns.now ∷ []) rest is_dir rules 0 k (list_of list.patterns.now) refl h.answers),
     λ m answers. ⊎_elim
         (λ (before : 0 < 0). absurd (omega arith))
         (λ (level : (0 ≡ 0) × (m ≤ k)). level.1)
-        (h.last 0 m (PairAnswers-yes (list_of list.patterns.now ∷ []) rest is_dir case 0 m (list_of list.patterns.now) refl (whole m answers))),
+        (h.last 0 m (PairAnswers-yes (list_of list.patterns.now ∷ []) rest is_dir rules 0 m (list_of list.patterns.now) refl (whole m answers))),
   )

@@ -2,7 +2,7 @@
 use Rattle.std.specs.Prelude.{◌≡◌, ℕ, List, length, map, slice_get}
 use Rattle.std.specs.List.{flat_map}
 use Rattle.std.specs.Option.{option_map_or}
-use Rattle.gix_glob.specs.declared.pattern.Case.{Case}
+use Rattle.glob_lists.specs.declared.rules.Rules.{Rules}
 use Rattle.glob_lists.specs.Paths.{Path}
 use Rattle.glob_lists.specs.Private.Matching.{AreMatchesUpTo}
 use Rattle.glob_attributes.specs.States.{Assigned, assigned_at}
@@ -10,9 +10,9 @@ use Rattle.gix_glob_c.specs.declared.attributes.GlobAttributeList.{GlobAttribute
 use Rattle.gix_glob_c.specs.Attributes.{attribute_list}
 
 -- the row is what the lines before (j, n) assign that match the path
-pub record IsFoundUpTo (lists : List GlobAttributeList) (path : Path) (case : Case) (j n : ℕ) (row : List Assigned) : Type 0 where
+pub record IsFoundUpTo (lists : List GlobAttributeList) (path : Path) (rules : Rules) (j n : ℕ) (row : List Assigned) : Type 0 where
   pub pairs : List (ℕ × ℕ)
-  pub found : AreMatchesUpTo (map attribute_list lists) path.bytes path.is_dir case j n pairs
+  pub found : AreMatchesUpTo (map attribute_list lists) path.bytes path.is_dir rules j n pairs
   pub same : row ≡ flat_map (assigned_at (map attribute_list lists)) pairs
 
 -- how many lines the list at a place has

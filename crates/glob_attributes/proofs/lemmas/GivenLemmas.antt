@@ -4,7 +4,7 @@ use Rattle.std.specs.Prelude.{slice_get}
 use Rattle.std.specs.List.{flat_map}
 use Rattle.std.specs.Option.{option_and_then, option_map_or}
 use Rattle.std.proofs.lemmas.Option.{none-some, same_Some}
-use Rattle.gix_glob.specs.declared.pattern.Case.{Case}
+use Rattle.glob_lists.specs.declared.rules.Rules.{Rules}
 use Rattle.gix_glob.specs.Entries.{Entry}
 use Rattle.gix_glob.specs.EntryLists.{EntryList}
 use Rattle.glob_lists.specs.Deciding.{AnswersUnder, PairAnswers}
@@ -12,13 +12,13 @@ use Rattle.glob_lists.specs.Paths.{Path}
 use Rattle.glob_attributes.specs.States.{Assigned, IsRow, Lists, assigned_at}
 use Rattle.glob_attributes.proofs.lemmas.WalkLemmas.{AreFrom, ended, first_answers, from_start, is_here, none_left, none_yet, passed, put, taken_at, unended, unpassed}
 
-module _ (path : Path) (case : Case) where
+module _ (path : Path) (rules : Rules) where
   -- what entries assign under a base, and what lists assign
   abbrev pub EntriesGive : Option (List ℕ) → List (Entry (List Assigned)) → List Assigned → Type 0
   EntriesGive base [] given = given ≡ []
   EntriesGive base (entry ∷ entries) given =
-      (AnswersUnder base entry path.bytes path.is_dir case × ((more : List Assigned) × (given ≡ entry.value ++ more) × EntriesGive base entries more))
-      ⊎ ((AnswersUnder base entry path.bytes path.is_dir case → ⊥) × EntriesGive base entries given)
+      (AnswersUnder base entry path.bytes path.is_dir rules × ((more : List Assigned) × (given ≡ entry.value ++ more) × EntriesGive base entries more))
+      ⊎ ((AnswersUnder base entry path.bytes path.is_dir rules → ⊥) × EntriesGive base entries given)
 
   abbrev pub ListsGive : Lists → List Assigned → Type 0
   ListsGive [] given = given ≡ []
@@ -42,26 +42,26 @@ rest-none : {X : Type 0} (xs : List X) (m n : ℕ) (x : X) → IsRest xs m [] �
 rest-none xs m n x is le at =
     none-some x (sym (is (n - m)) ∙ ap (slice_get xs) (let e : m + (n - m) ≡ n = omega (arith, le) in e) ∙ at)
 
-module _ (lists : Lists) (path : Path) (case : Case) where
+module _ (lists : Lists) (path : Path) (rules : Rules) where
   abbrev Answer : ℕ → ℕ → Type 0
-  Answer i m = PairAnswers lists path.bytes path.is_dir case i m
+  Answer i m = PairAnswers lists path.bytes path.is_dir rules i m
 
   abbrev gives : List (ℕ × ℕ) → List Assigned
   gives found = flat_map (assigned_at lists) found
 
   module _ (list : EntryList (List Assigned)) (i : ℕ) (there : slice_get lists i ≡ Some list) where
     answers_here : (m : ℕ) (entry : Entry (List Assigned)) → slice_get list.entries m ≡ Some entry
-        → AnswersUnder list.base entry path.bytes path.is_dir case → Answer i m
+        → AnswersUnder list.base entry path.bytes path.is_dir rules → Answer i m
     answers_here m entry at h = record { list = list; there = there; answers = record { entry = entry; there = at; answers = h } }
 
     answers_by : (m : ℕ) (entry : Entry (List Assigned)) → slice_get list.entries m ≡ Some entry
-        → Answer i m → AnswersUnder list.base entry path.bytes path.is_dir case
+        → Answer i m → AnswersUnder list.base entry path.bytes path.is_dir rules
     answers_by m entry at h =
         let same : h.list ≡ list = same_Some h.list list (sym h.there ∙ there) in
         let its : h.answers.entry ≡ entry =
         same_Some h.answers.entry entry (sym h.answers.there ∙ ap (λ (l : EntryList (List Assigned)). slice_get l.entries m) same ∙ at) in
-        subst (λ e. AnswersUnder list.base e path.bytes path.is_dir case) its
-        (subst (λ (l : EntryList (List Assigned)). AnswersUnder l.base h.answers.entry path.bytes path.is_dir case) same h.answers.answers)
+        subst (λ e. AnswersUnder list.base e path.bytes path.is_dir rules) its
+        (subst (λ (l : EntryList (List Assigned)). AnswersUnder l.base h.answers.entry path.bytes path.is_dir rules) same h.answers.answers)
 
     none_here : (m : ℕ) → IsRest list.entries m [] → (n : ℕ) → m ≤ n → Answer i n → ⊥
     none_here m rest n le h =
@@ -83,7 +83,7 @@ module _ (lists : Lists) (path : Path) (case : Case) where
     record Down (m : ℕ) (entries : List (Entry (List Assigned))) (found : List (ℕ × ℕ)) : Type 0 where
       pub own : List Assigned
       pub rest : List (ℕ × ℕ)
-      pub given : EntriesGive path case list.base entries own
+      pub given : EntriesGive path rules list.base entries own
       pub from : AreFrom Answer (suc i) 0 rest
       pub is : gives found ≡ own ++ gives rest
 
@@ -121,7 +121,7 @@ module _ (lists : Lists) (path : Path) (case : Case) where
       pub from : AreFrom Answer i m found
       pub is : gives found ≡ own ++ gives rest
 
-    up : (entries : List (Entry (List Assigned))) (m : ℕ) → IsRest list.entries m entries → (own : List Assigned) → EntriesGive path case list.base entries own
+    up : (entries : List (Entry (List Assigned))) (m : ℕ) → IsRest list.entries m entries → (own : List Assigned) → EntriesGive path rules list.base entries own
         → (rest : List (ℕ × ℕ)) → AreFrom Answer (suc i) 0 rest → Up m own rest
     up [] m is own given rest h = record {
       found = rest;
@@ -150,7 +150,7 @@ module _ (lists : Lists) (path : Path) (case : Case) where
   none_from : (i : ℕ) → IsRest lists i [] → (j n : ℕ) → i ≤ j → Answer j n → ⊥
   none_from i rest j n le h = rest-none lists i j h.list rest le h.there
 
-  down_lists : (more : Lists) (i : ℕ) → IsRest lists i more → (found : List (ℕ × ℕ)) → AreFrom Answer i 0 found → ListsGive path case more (gives found)
+  down_lists : (more : Lists) (i : ℕ) → IsRest lists i more → (found : List (ℕ × ℕ)) → AreFrom Answer i 0 found → ListsGive path rules more (gives found)
   down_lists [] i rest found h = ap gives (none_left Answer i found (none_from i rest) h)
   down_lists (list ∷ more) i rest found h =
       let first = down list i (rest-first lists i list more rest) list.entries 0 (rest-all list.entries) found h in
@@ -161,7 +161,7 @@ module _ (lists : Lists) (path : Path) (case : Case) where
     pub from : AreFrom Answer i 0 found
     pub is : gives found ≡ given
 
-  up_lists : (more : Lists) (i : ℕ) → IsRest lists i more → (given : List Assigned) → ListsGive path case more given → UpLists i given
+  up_lists : (more : Lists) (i : ℕ) → IsRest lists i more → (given : List Assigned) → ListsGive path rules more given → UpLists i given
   up_lists [] i rest given h = record { found = []; from = none_yet Answer i (none_from i rest); is = sym h }
   up_lists (list ∷ more) i rest given h =
       let after = up_lists more (suc i) (rest-more lists i list more rest) h.1 h.4 in
@@ -169,7 +169,7 @@ module _ (lists : Lists) (path : Path) (case : Case) where
       record { found = all.found; from = all.from; is = all.is ∙ ap (λ l. h.0 ++ l) after.is ∙ sym h.2 }
 
   -- a row is what the lists give, turned around
-  pub given-row : (row : List Assigned) → IsRow lists path case row → (given : List Assigned) × (row ≡ reverse given) × ListsGive path case lists given
+  pub given-row : (row : List Assigned) → IsRow lists path rules row → (given : List Assigned) × (row ≡ reverse given) × ListsGive path rules lists given
   given-row row h =
       let from : AreFrom Answer 0 0 h.0 = record {
         each = h.1.each;
@@ -179,7 +179,7 @@ module _ (lists : Lists) (path : Path) (case : Case) where
       } in
       (gives h.0, h.2, down_lists lists 0 (rest-all lists) h.0 from)
 
-  pub row-given : (given : List Assigned) → ListsGive path case lists given → IsRow lists path case (reverse given)
+  pub row-given : (given : List Assigned) → ListsGive path rules lists given → IsRow lists path rules (reverse given)
   row-given given h =
       let all = up_lists lists 0 (rest-all lists) given h in (
         all.found,

@@ -6,7 +6,7 @@ use Rattle.std.specs.Option.{option_or}
 use Rattle.std.specs.Str.{bytes_eq}
 use Rattle.std.proofs.lemmas.Bool.{cases_Bool}
 use Rattle.std.proofs.lemmas.Slice.Eq.{bytes_eq-Decides}
-use Rattle.gix_glob.specs.declared.pattern.Case.{Case}
+use Rattle.glob_lists.specs.declared.rules.Rules.{Rules}
 use Rattle.gix_glob.specs.Entries.{Entry}
 use Rattle.gix_glob.specs.EntryLists.{EntryList}
 use Rattle.glob_lists.specs.Paths.{Path}
@@ -79,15 +79,15 @@ module _ (names : List (Bor (List ℕ))) (macros : List Definition) where
   abbrev pub narrowed : EntryList (List Assigned) → EntryList (List Assigned)
   narrowed list = record { entries = filter needed list.entries; source = list.source; base = list.base }
 
-  module _ (path : Path) (case : Case) where
+  module _ (path : Path) (rules : Rules) where
     abbrev KeepsSome : Option (List ℕ) → List (Entry (List Assigned)) → List Assigned → Type 0
-    KeepsSome base entries given = (kept : List Assigned) × EntriesGive path case base entries kept × Thinned names macros given kept
+    KeepsSome base entries given = (kept : List Assigned) × EntriesGive path rules base entries kept × Thinned names macros given kept
 
     abbrev Keeps : Option (List ℕ) → List (Entry (List Assigned)) → Type 0
-    Keeps base entries = (given : List Assigned) → EntriesGive path case base entries given → KeepsSome base (filter needed entries) given
+    Keeps base entries = (given : List Assigned) → EntriesGive path rules base entries given → KeepsSome base (filter needed entries) given
 
     entry_kept : (base : Option (List ℕ)) (entry : Entry (List Assigned)) (entries : List (Entry (List Assigned))) → Keeps base entries
-        → (given : List Assigned) → EntriesGive path case base (entry ∷ entries) given → (b : Bool) → needed entry ≡ b → KeepsSome base (cond b (entry ∷ filter needed entries) (filter needed entries)) given
+        → (given : List Assigned) → EntriesGive path rules base (entry ∷ entries) given → (b : Bool) → needed entry ≡ b → KeepsSome base (cond b (entry ∷ filter needed entries) (filter needed entries)) given
     entry_kept base entry entries next given (inl its) true is =
         let more = next its.1.0 its.1.2 in (
           entry.value ++ more.0,
@@ -109,8 +109,8 @@ module _ (names : List (Bor (List ℕ))) (macros : List Definition) where
     entries_kept base [] given h = (given, h, thinned-same names macros given)
     entries_kept base (entry ∷ entries) given h = entry_kept base entry entries (entries_kept base entries) given h (needed entry) refl
 
-    lists_kept : (front after : Lists) (list : EntryList (List Assigned)) (given : List Assigned) → ListsGive path case (front ++ list ∷ after) given
-        → (kept : List Assigned) × ListsGive path case (front ++ narrowed list ∷ after) kept × Thinned names macros given kept
+    lists_kept : (front after : Lists) (list : EntryList (List Assigned)) (given : List Assigned) → ListsGive path rules (front ++ list ∷ after) given
+        → (kept : List Assigned) × ListsGive path rules (front ++ narrowed list ∷ after) kept × Thinned names macros given kept
     lists_kept [] after list given h =
         let own = entries_kept list.base list.entries h.0 h.3 in (
           own.0 ++ h.1,
@@ -125,15 +125,15 @@ module _ (names : List (Bor (List ℕ))) (macros : List Definition) where
         )
 
     -- what is assigned to a path by all entries is thinned by what is left of them
-    assigned_kept : (front after : Lists) (list : EntryList (List Assigned)) (filled : List Assigned) → IsAssigned (front ++ list ∷ after) macros path case filled
-        → (kept : List Assigned) × IsAssigned (front ++ narrowed list ∷ after) macros path case kept × Thinned names macros filled kept
+    assigned_kept : (front after : Lists) (list : EntryList (List Assigned)) (filled : List Assigned) → IsAssigned (front ++ list ∷ after) macros path rules filled
+        → (kept : List Assigned) × IsAssigned (front ++ narrowed list ∷ after) macros path rules kept × Thinned names macros filled kept
     assigned_kept front after list filled h =
-        let given = given-row (front ++ list ∷ after) path case h.0 h.1 in
+        let given = given-row (front ++ list ∷ after) path rules h.0 h.1 in
         let some = lists_kept front after list given.0 given.2 in
         let thin = subst (λ l. Thinned names macros l (reverse some.0)) (sym given.1) (thinned-reverse names macros given.0 some.0 some.2) in
         let all = filled-thinned names macros filled h.0 (reverse some.0) [] [] h.2 (λ name is. refl) thin in (
           all.0,
-          (reverse some.0, row-given (front ++ narrowed list ∷ after) path case some.0 some.1, all.1),
+          (reverse some.0, row-given (front ++ narrowed list ∷ after) path rules some.0 some.1, all.1),
           all.2,
         )
 
@@ -144,12 +144,12 @@ module _ (names : List (Bor (List ℕ))) (macros : List Definition) where
       (any-at (λ (other : Bor (List ℕ)). bytes_eq other.now name) names k d within ((bytes_eq-Decides name name).1 refl))
 
   pub states_kept : (list : EntryList (List Assigned)) (entries : List (Entry (List Assigned))) → entries ≡ filter needed list.entries
-      → (front after : Lists) (path : Path) (case : Case) (filled : List Assigned) → IsAssigned (front ++ list ∷ after) macros path case filled
-      → (kept : List Assigned) × IsAssigned (front ++ record { entries = entries; source = list.source; base = list.base } ∷ after) macros path case kept
+      → (front after : Lists) (path : Path) (rules : Rules) (filled : List Assigned) → IsAssigned (front ++ list ∷ after) macros path rules filled
+      → (kept : List Assigned) × IsAssigned (front ++ record { entries = entries; source = list.source; base = list.base } ∷ after) macros path rules kept
       × All (λ (name : Bor (List ℕ)). state_in kept name.now ≡ state_in filled name.now) names
-  states_kept list entries is front after path case filled h =
-      let all = assigned_kept path case front after list filled h in (
+  states_kept list entries is front after path rules filled h =
+      let all = assigned_kept path rules front after list filled h in (
         all.0,
-        subst (λ es. IsAssigned (front ++ record { entries = es; source = list.source; base = list.base } ∷ after) macros path case all.0) (sym is) all.1,
+        subst (λ es. IsAssigned (front ++ record { entries = es; source = list.source; base = list.base } ∷ after) macros path rules all.0) (sym is) all.1,
         λ k d within. state-thinned names macros filled all.0 (slice_index_or names k d).now (asked_counts k d within) all.2,
       )

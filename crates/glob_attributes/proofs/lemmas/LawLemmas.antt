@@ -9,6 +9,7 @@ use Rattle.std.proofs.lemmas.List.{reverse-append}
 use Rattle.glob_attributes.specs.declared.assignment.State.TheVariants.{Unspecified}
 use Rattle.glob_attributes.specs.Macros.{Definition, definition_given}
 use Rattle.gix_glob.specs.Equations.Entries.{entry_with}
+use Rattle.glob_lists.specs.declared.rules.Reading.{Reading}
 use Rattle.glob_attributes.specs.Equations.Files.{AttributeEntry, entries_from, entry_given, pattern_of}
 use Rattle.glob_attributes.specs.Laws.Leaving.{SaysNothing, unnumbered}
 use Rattle.glob_attributes.specs.Laws.Totals.{NoMacroNames, NoneNames, macro_total}
@@ -154,32 +155,32 @@ unnamed-unspecified macros row filled name h none unnamed =
 
 -- ---- lines that are left out
 
-renumbered_at : (n k : ℕ) (given : Gives) (more other : List AttributeEntry) → map unnumbered more ≡ map unnumbered other
-    → map unnumbered (cons_option (entry_given n given) more) ≡ map unnumbered (cons_option (entry_given k given) other)
-renumbered_at n k nothing more other same = same
-renumbered_at n k (silent silence) more other same = same
-renumbered_at n k (a_macro name assignments) more other same = same
-renumbered_at n k (a_pattern bytes assignments) more other same = ap (λ l. unnumbered (entry_with assignments n (pattern_of bytes)) ∷ l) same
+renumbered_at : (reader : Reading) (n k : ℕ) (given : Gives) (more other : List AttributeEntry) → map unnumbered more ≡ map unnumbered other
+    → map unnumbered (cons_option (entry_given reader n given) more) ≡ map unnumbered (cons_option (entry_given reader k given) other)
+renumbered_at reader n k nothing more other same = same
+renumbered_at reader n k (silent silence) more other same = same
+renumbered_at reader n k (a_macro name assignments) more other same = same
+renumbered_at reader n k (a_pattern bytes assignments) more other same = ap (λ l. unnumbered (entry_with assignments n (pattern_of reader bytes)) ∷ l) same
 
-renumbered : (n k : ℕ) (lines : List (List ℕ)) → map unnumbered (entries_from n lines) ≡ map unnumbered (entries_from k lines)
-renumbered n k [] = refl
-renumbered n k (line ∷ lines) =
-    renumbered_at n k (line_gives true line) (entries_from (n + 1) lines) (entries_from (k + 1) lines) (renumbered (n + 1) (k + 1) lines)
+renumbered : (reader : Reading) (n k : ℕ) (lines : List (List ℕ)) → map unnumbered (entries_from reader n lines) ≡ map unnumbered (entries_from reader k lines)
+renumbered reader n k [] = refl
+renumbered reader n k (line ∷ lines) =
+    renumbered_at reader n k (line_gives true line) (entries_from reader (n + 1) lines) (entries_from reader (k + 1) lines) (renumbered reader (n + 1) (k + 1) lines)
 
-no_entry : (n : ℕ) (line : List ℕ) → SaysNothing line → entry_given n (line_gives true line) ≡ None
-no_entry n line (inl is) = ap (entry_given n) is
-no_entry n line (inr is) = ap (entry_given n) is.1
+no_entry : (reader : Reading) (n : ℕ) (line : List ℕ) → SaysNothing line → entry_given reader n (line_gives true line) ≡ None
+no_entry reader n line (inl is) = ap (entry_given reader n) is
+no_entry reader n line (inr is) = ap (entry_given reader n) is.1
 
 no_macro : (line : List ℕ) → SaysNothing line → definition_given (line_gives true line) ≡ None
 no_macro line (inl is) = ap definition_given is
 no_macro line (inr is) = ap definition_given is.1
 
-pub entries-left_out : (front rest : List (List ℕ)) (line : List ℕ) (n k : ℕ) → SaysNothing line
-    → map unnumbered (entries_from n (front ++ line ∷ rest)) ≡ map unnumbered (entries_from k (front ++ rest))
-entries-left_out [] rest line n k says =
-    ap (λ o. map unnumbered (cons_option o (entries_from (n + 1) rest))) (no_entry n line says) ∙ renumbered (n + 1) k rest
-entries-left_out (first ∷ front) rest line n k says =
-    renumbered_at n k (line_gives true first) (entries_from (n + 1) (front ++ line ∷ rest)) (entries_from (k + 1) (front ++ rest)) (entries-left_out front rest line (n + 1) (k + 1) says)
+pub entries-left_out : (reader : Reading) (front rest : List (List ℕ)) (line : List ℕ) (n k : ℕ) → SaysNothing line
+    → map unnumbered (entries_from reader n (front ++ line ∷ rest)) ≡ map unnumbered (entries_from reader k (front ++ rest))
+entries-left_out reader [] rest line n k says =
+    ap (λ o. map unnumbered (cons_option o (entries_from reader (n + 1) rest))) (no_entry reader n line says) ∙ renumbered reader (n + 1) k rest
+entries-left_out reader (first ∷ front) rest line n k says =
+    renumbered_at reader n k (line_gives true first) (entries_from reader (n + 1) (front ++ line ∷ rest)) (entries_from reader (k + 1) (front ++ rest)) (entries-left_out reader front rest line (n + 1) (k + 1) says)
 
 pub macros-left_out : (front rest : List (List ℕ)) (line : List ℕ) → SaysNothing line
     → filter_map (λ l. definition_given (line_gives true l)) (front ++ line ∷ rest) ≡ filter_map (λ l. definition_given (line_gives true l)) (front ++ rest)

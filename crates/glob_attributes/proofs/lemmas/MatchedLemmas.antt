@@ -7,7 +7,7 @@ use Rattle.std.specs.Vec.{vec_items}
 use Rattle.std.specs.declared.alloc.Global.{Global}
 use Rattle.std.proofs.lemmas.Bool.{cases_Bool, iff_false}
 use Rattle.std.proofs.lemmas.Option.{none-some}
-use Rattle.gix_glob.specs.declared.pattern.Case.{Case}
+use Rattle.glob_lists.specs.declared.rules.Rules.{Rules}
 use Rattle.gix_glob.specs.EntryLists.{EntryList}
 use Rattle.gix_glob.specs.Paths.{IsFolder}
 use Rattle.gix_glob.specs.Stripping.{NothingLeft, Rest, RestOf}
@@ -20,9 +20,9 @@ use Rattle.glob_attributes.specs.Macros.{Definition}
 use Rattle.glob_attributes.specs.States.{Assigned, IsAssigned, Lists, assigned_at}
 use Rattle.glob_attributes.proofs.lemmas.LawLemmas.{filled-some}
 
-module _ {V : Type 0} (lists : List (EntryList V)) (path : List ℕ) (is_dir : Bool) (case : Case) where
+module _ {V : Type 0} (lists : List (EntryList V)) (path : List ℕ) (is_dir : Bool) (rules : Rules) where
   abbrev pub HasMatches : ℕ → ℕ → Type 0
-  HasMatches j n = (found : List (ℕ × ℕ)) × AreMatchesUpTo lists path is_dir case j n found
+  HasMatches j n = (found : List (ℕ × ℕ)) × AreMatchesUpTo lists path is_dir rules j n found
 
   pub none-yet : HasMatches 0 0
   none-yet = (
@@ -36,16 +36,16 @@ module _ {V : Type 0} (lists : List (EntryList V)) (path : List ℕ) (is_dir : B
   )
 
   -- one pair more was asked
-  pub asked-more : (j n : ℕ) (answer : Bool) → (IsTrue answer ↔ PairAnswers lists path is_dir case j n) → HasMatches j n → HasMatches j (n + 1)
+  pub asked-more : (j n : ℕ) (answer : Bool) → (IsTrue answer ↔ PairAnswers lists path is_dir rules j n) → HasMatches j n → HasMatches j (n + 1)
   asked-more j n answer told h =
       ⊎_elim
-      (λ (yes : answer ≡ true). (h.0 ++ (j, n) ∷ [], matches_more lists path is_dir case j n h.0 (told.0 yes) h.1))
-      (λ (no : answer ≡ false). (h.0, matches_skip lists path is_dir case j n h.0 (iff_false told no) h.1))
+      (λ (yes : answer ≡ true). (h.0 ++ (j, n) ∷ [], matches_more lists path is_dir rules j n h.0 (told.0 yes) h.1))
+      (λ (no : answer ≡ false). (h.0, matches_skip lists path is_dir rules j n h.0 (iff_false told no) h.1))
       (cases_Bool answer)
 
   -- no place of the list is left that answers
-  pub list-more : (j n : ℕ) → ((m : ℕ) → PairAnswers lists path is_dir case j m → m < n) → HasMatches j n → HasMatches (j + 1) 0
-  list-more j n most h = (h.0, matches_of_list lists path is_dir case j n h.0 most h.1)
+  pub list-more : (j n : ℕ) → ((m : ℕ) → PairAnswers lists path is_dir rules j m → m < n) → HasMatches j n → HasMatches (j + 1) 0
+  list-more j n most h = (h.0, matches_of_list lists path is_dir rules j n h.0 most h.1)
 
 -- ---- a base that may be missing
 
@@ -57,19 +57,19 @@ empty-front : (front : List ℕ) → length front ≡ 0 → front ≡ []
 empty-front [] none = refl
 empty-front (b ∷ front) none = absurd (omega (arith, none))
 
-pub rest-of : (case : Case) (base : Option (Vec ℕ Global)) (path rest : List ℕ) → Rest case (option_map_or vec_items base []) path rest → RestOf case (option_map vec_items base) path rest
-rest-of case None path rest r = sym (r.joined ∙ ap (λ l. l ++ rest) (empty-front r.front (Rest-front case [] path rest r)))
-rest-of case (Some base) path rest r = r
+pub rest-of : (rules : Rules) (base : Option (Vec ℕ Global)) (path rest : List ℕ) → Rest rules.case (option_map_or vec_items base []) path rest → RestOf rules.case (option_map vec_items base) path rest
+rest-of rules None path rest r = sym (r.joined ∙ ap (λ l. l ++ rest) (empty-front r.front (Rest-front rules.case [] path rest r)))
+rest-of rules (Some base) path rest r = r
 
-pub nothing-of : (case : Case) (base : Option (Vec ℕ Global)) (path : List ℕ) → NothingLeft case (Some (option_map_or vec_items base [])) path → NothingLeft case (option_map vec_items base) path
-nothing-of case None path none = absurd (none path (record { front = []; joined = refl; same = refl }))
-nothing-of case (Some base) path none = none
+pub nothing-of : (rules : Rules) (base : Option (Vec ℕ Global)) (path : List ℕ) → NothingLeft rules.case (Some (option_map_or vec_items base [])) path → NothingLeft rules.case (option_map vec_items base) path
+nothing-of rules None path none = absurd (none path (record { front = []; joined = refl; same = refl }))
+nothing-of rules (Some base) path none = none
 
 -- ---- what is assigned
 
-pub matched-assigned : (lists : Lists) (path : Path) (case : Case) (j : ℕ) → length lists ≤ j → HasMatches lists path.bytes path.is_dir case j 0 → (macros : List Definition)
-    → (filled : List Assigned) × IsAssigned lists macros path case filled
-matched-assigned lists path case j all h macros =
+pub matched-assigned : (lists : Lists) (path : Path) (rules : Rules) (j : ℕ) → length lists ≤ j → HasMatches lists path.bytes path.is_dir rules j 0 → (macros : List Definition)
+    → (filled : List Assigned) × IsAssigned lists macros path rules filled
+matched-assigned lists path rules j all h macros =
     let row = reverse (flat_map (assigned_at lists) h.0) in
     let filled = filled-some macros row in
-    (filled.0, (row, (h.0, matches_all lists path.bytes path.is_dir case j h.0 all h.1, refl), filled.1))
+    (filled.0, (row, (h.0, matches_all lists path.bytes path.is_dir rules j h.0 all h.1, refl), filled.1))

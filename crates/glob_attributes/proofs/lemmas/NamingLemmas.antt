@@ -7,7 +7,8 @@ use Rattle.std.specs.Option.{option_and_then, option_map_or}
 use Rattle.std.specs.Str.{bytes_eq}
 use Rattle.std.proofs.lemmas.Bool.{and_parts, cases_Bool, false≢true}
 use Rattle.std.proofs.lemmas.Slice.Eq.{bytes_eq-Decides}
-use Rattle.gix_glob.specs.declared.pattern.Case.{Case}
+use Rattle.glob_lists.specs.declared.rules.Reading.{Reading}
+use Rattle.glob_lists.specs.declared.rules.Rules.{Rules}
 use Rattle.gix_glob.specs.EntryLists.{EntryList}
 use Rattle.glob_lists.specs.Paths.{Path}
 use Rattle.glob_attributes.specs.declared.assignment.State.TheVariants.{Unspecified}
@@ -67,19 +68,19 @@ line-names is_top line =
 
 -- ---- what a file gives
 
-entry-names : (number : ℕ) (given : Gives) (more : List AttributeEntry) → GivesNames given → EntriesHaveNames more → EntriesHaveNames (cons_option (entry_given number given) more)
-entry-names number nothing more have all = all
-entry-names number (silent silence) more have all = all
-entry-names number (a_macro name assigned) more have all = all
-entry-names number (a_pattern bytes assigned) more have all = (have, all)
+entry-names : (reader : Reading) (number : ℕ) (given : Gives) (more : List AttributeEntry) → GivesNames given → EntriesHaveNames more → EntriesHaveNames (cons_option (entry_given reader number given) more)
+entry-names reader number nothing more have all = all
+entry-names reader number (silent silence) more have all = all
+entry-names reader number (a_macro name assigned) more have all = all
+entry-names reader number (a_pattern bytes assigned) more have all = (have, all)
 
-entries-names : (number : ℕ) (lines : List (List ℕ)) → EntriesHaveNames (entries_from number lines)
-entries-names number [] = record {}
-entries-names number (line ∷ lines) =
-    entry-names number (line_gives true line) (entries_from (number + 1) lines) (line-names true line) (entries-names (number + 1) lines)
+entries-names : (reader : Reading) (number : ℕ) (lines : List (List ℕ)) → EntriesHaveNames (entries_from reader number lines)
+entries-names reader number [] = record {}
+entries-names reader number (line ∷ lines) =
+    entry-names reader number (line_gives true line) (entries_from reader (number + 1) lines) (line-names true line) (entries-names reader (number + 1) lines)
 
-pub attributes-names : (bytes : List ℕ) → EntriesHaveNames (attributes_of bytes)
-attributes-names bytes = entries-names 1 (file_lines bytes)
+pub attributes-names : (reader : Reading) (bytes : List ℕ) → EntriesHaveNames (attributes_of reader bytes)
+attributes-names reader bytes = entries-names reader 1 (file_lines bytes)
 
 macro-names : (given : Gives) (more : List Definition) → GivesNames given → MacrosHaveNames more → MacrosHaveNames (cons_option (definition_given given) more)
 macro-names nothing more have all = all
@@ -137,10 +138,10 @@ module _ (name : List ℕ) (invalid : is_name name ≡ false) where
     pairs-names (pair ∷ pairs) =
         all-append (λ (a : Assigned). bytes_eq a.name name ≡ false) (assigned_at lists pair) (flat_map (assigned_at lists) pairs) (pair-names pair) (pairs-names pairs)
 
-pub invalid-unspecified : (lists : Lists) (macros : List Definition) (path : Path) (case : Case) (filled : List Assigned) (name : List ℕ)
+pub invalid-unspecified : (lists : Lists) (macros : List Definition) (path : Path) (rules : Rules) (filled : List Assigned) (name : List ℕ)
     → AllByRecursion (λ (list : EntryList (List Assigned)). EntriesHaveNames list.entries) lists → MacrosHaveNames macros → is_name name ≡ false
-    → IsAssigned lists macros path case filled → state_in filled name ≡ Unspecified
-invalid-unspecified lists macros path case filled name valid defined invalid h =
+    → IsAssigned lists macros path rules filled → state_in filled name ≡ Unspecified
+invalid-unspecified lists macros path rules filled name valid defined invalid h =
     let none : NoneNames name h.0 = subst (NoneNames name) (sym h.1.2)
     (all-reverse (λ (a : Assigned). bytes_eq a.name name ≡ false) (flat_map (assigned_at lists) h.1.0) (pairs-names name invalid lists valid h.1.0)) in
     unnamed-unspecified macros h.0 filled name h.2 none (no-macro-names name invalid macros defined)

@@ -5,7 +5,7 @@ use Rattle.std.specs.List.{flat_map}
 use Rattle.std.specs.Option.{option_and_then, option_map_or}
 use Rattle.std.proofs.lemmas.Bool.{cases_Bool, ltb-true, ltb-false}
 use Rattle.std.proofs.lemmas.Option.{none-some, same_Some}
-use Rattle.gix_glob.specs.declared.pattern.Case.{Case}
+use Rattle.glob_lists.specs.declared.rules.Rules.{Rules}
 use Rattle.gix_glob.specs.Entries.{Entry}
 use Rattle.gix_glob.specs.EntryLists.{EntryList}
 use Rattle.gix_glob.specs.Stripping.{NothingLeft, RestOf}
@@ -58,14 +58,14 @@ not_both i m j n (inl a) (inr b) = let e = b.0 in omega (arith, a, e)
 not_both i m j n (inr a) (inl b) = let e = a.0 in omega (arith, b, e)
 not_both i m j n (inr a) (inr b) = let e = a.1 in let f = b.1 in omega (arith, e, f)
 
-module _ {V : Type 0} (lists : List (EntryList V)) (path : List ℕ) (is_dir : Bool) (case : Case) where
+module _ {V : Type 0} (lists : List (EntryList V)) (path : List ℕ) (is_dir : Bool) (rules : Rules) where
   -- a pair that stands in one of the lists at x, where both agree before x, stands in the other no earlier
-  no_earlier : (one two : List (ℕ × ℕ)) → AreMatches lists path is_dir case one → (x y : ℕ) (p : ℕ × ℕ) → slice_get one x ≡ Some p → slice_get one y ≡ slice_get two y → y < x → slice_get two y ≡ Some p → ⊥
+  no_earlier : (one two : List (ℕ × ℕ)) → AreMatches lists path is_dir rules one → (x y : ℕ) (p : ℕ × ℕ) → slice_get one x ≡ Some p → slice_get one y ≡ slice_get two y → y < x → slice_get two y ≡ Some p → ⊥
   no_earlier one two found x y p at same less its = not_itself p.0 p.1 (found.rising y x p p less (same ∙ its) at)
 
-module _ {V : Type 0} (lists : List (EntryList V)) (path : List ℕ) (is_dir : Bool) (case : Case) (one two : List (ℕ × ℕ)) (a : AreMatches lists path is_dir case one) (b : AreMatches lists path is_dir case two) (x : ℕ) (below : (y : ℕ) → y < x → slice_get one y ≡ slice_get two y) where
+module _ {V : Type 0} (lists : List (EntryList V)) (path : List ℕ) (is_dir : Bool) (rules : Rules) (one two : List (ℕ × ℕ)) (a : AreMatches lists path is_dir rules one) (b : AreMatches lists path is_dir rules two) (x : ℕ) (below : (y : ℕ) → y < x → slice_get one y ≡ slice_get two y) where
   crossed : (p q : ℕ × ℕ) → slice_get one x ≡ Some p → slice_get two x ≡ Some q → (y : ℕ) → slice_get two y ≡ Some p → x < y → (z : ℕ) → slice_get one z ≡ Some q → Stands x z → ⊥
-  crossed p q at there y its more z its_z (before less) = no_earlier lists path is_dir case two one b x z q there (sym (below z less)) less its_z
+  crossed p q at there y its more z its_z (before less) = no_earlier lists path is_dir rules two one b x z q there (sym (below z less)) less its_z
   crossed p q at there y its more z its_z (here same) =
       let e : q ≡ p = same_Some q p (sym its_z ∙ ap (slice_get one) same ∙ at) in
       not_itself p.0 p.1 (b.rising x y p p more (there ∙ ap Some e) its)
@@ -81,20 +81,20 @@ module _ {V : Type 0} (lists : List (EntryList V)) (path : List ℕ) (is_dir : B
 
   -- so the second has p at x too
   pub has_too : (p : ℕ × ℕ) → slice_get one x ≡ Some p → (y : ℕ) → slice_get two y ≡ Some p → Stands x y → slice_get two x ≡ Some p
-  has_too p at y its (before less) = absurd (no_earlier lists path is_dir case one two a x y p at (below y less) less its)
+  has_too p at y its (before less) = absurd (no_earlier lists path is_dir rules one two a x y p at (below y less) less its)
   has_too p at y its (here same) = ap (slice_get two) (sym same) ∙ its
   has_too p at y its (behind less) = absurd (later p at y its less (slice_get two x) refl)
 
-module _ {V : Type 0} (lists : List (EntryList V)) (path : List ℕ) (is_dir : Bool) (case : Case) (one two : List (ℕ × ℕ)) (a : AreMatches lists path is_dir case one) (b : AreMatches lists path is_dir case two) where
+module _ {V : Type 0} (lists : List (EntryList V)) (path : List ℕ) (is_dir : Bool) (rules : Rules) (one two : List (ℕ × ℕ)) (a : AreMatches lists path is_dir rules one) (b : AreMatches lists path is_dir rules two) where
   at_place : (x : ℕ) → ((y : ℕ) → y < x → slice_get one y ≡ slice_get two y) → (o t : Option (ℕ × ℕ)) → slice_get one x ≡ o → slice_get two x ≡ t → slice_get one x ≡ slice_get two x
   at_place x below (Some p) t is its =
       let h = a.each x p is in
       let other = b.all p.0 p.1 h in
-      is ∙ sym (has_too lists path is_dir case one two a b x below p is other.0 other.1 (stands x other.0))
+      is ∙ sym (has_too lists path is_dir rules one two a b x below p is other.0 other.1 (stands x other.0))
   at_place x below None (Some q) is its =
       let h = b.each x q its in
       let other = a.all q.0 q.1 h in
-      has_too lists path is_dir case two one b a x (λ y less. sym (below y less)) q its other.0 other.1 (stands x other.0) ∙ sym its
+      has_too lists path is_dir rules two one b a x (λ y less. sym (below y less)) q its other.0 other.1 (stands x other.0) ∙ sym its
   at_place x below None None is its = is ∙ sym its
 
   up_to : (n x : ℕ) → x < n → slice_get one x ≡ slice_get two x
@@ -106,10 +106,10 @@ module _ {V : Type 0} (lists : List (EntryList V)) (path : List ℕ) (is_dir : B
 
 -- ---- what is assigned to a path is one
 
-pub assigned-one : (lists : Lists) (macros : List Definition) (path : Path) (case : Case) (filled other : List Assigned)
-    → IsAssigned lists macros path case filled → IsAssigned lists macros path case other → filled ≡ other
-assigned-one lists macros path case filled other h k =
-    let pairs = matches-one lists path.bytes path.is_dir case h.1.0 k.1.0 h.1.1 k.1.1 in
+pub assigned-one : (lists : Lists) (macros : List Definition) (path : Path) (rules : Rules) (filled other : List Assigned)
+    → IsAssigned lists macros path rules filled → IsAssigned lists macros path rules other → filled ≡ other
+assigned-one lists macros path rules filled other h k =
+    let pairs = matches-one lists path.bytes path.is_dir rules h.1.0 k.1.0 h.1.1 k.1.1 in
     let rows : h.0 ≡ k.0 = h.1.2 ∙ ap (λ ps. reverse (flat_map (assigned_at lists) ps)) pairs ∙ sym k.1.2 in
     filled-one macros [] h.0 filled other h.2 (subst (λ r. IsFilledIn macros [] r other) (sym rows) k.2)
 
@@ -132,25 +132,25 @@ module _ (list : EntryList (List Assigned)) (after : Lists) where
   stays_or_is (b ∷ front) zero its is = inr is
   stays_or_is (b ∷ front) (suc i) its is = stays_or_is front i its is
 
-module _ (list : EntryList (List Assigned)) (after : Lists) (front : Lists) (base : List ℕ) (path : Path) (case : Case) (based : list.base ≡ Some base) (off : NothingLeft case (Some base) path.bytes) where
+module _ (list : EntryList (List Assigned)) (after : Lists) (front : Lists) (base : List ℕ) (path : Path) (rules : Rules) (based : list.base ≡ Some base) (off : NothingLeft rules.case (Some base) path.bytes) where
   abbrev full : Lists
   full = front ++ list ∷ after
 
   abbrev less : Lists
   less = front ++ emptied list ∷ after
 
-  answers_full : (i m : ℕ) → PairAnswers less path.bytes path.is_dir case i m → PairAnswers full path.bytes path.is_dir case i m
+  answers_full : (i m : ℕ) → PairAnswers less path.bytes path.is_dir rules i m → PairAnswers full path.bytes path.is_dir rules i m
   answers_full i m h = record { list = h.list; there = stays list after front i m h.list h.answers.entry h.there h.answers.there; answers = h.answers }
 
-  answers_less : (i m : ℕ) → PairAnswers full path.bytes path.is_dir case i m → PairAnswers less path.bytes path.is_dir case i m
+  answers_less : (i m : ℕ) → PairAnswers full path.bytes path.is_dir rules i m → PairAnswers less path.bytes path.is_dir rules i m
   answers_less i m h = ⊎_elim
       (λ (same : list ≡ h.list).
       let its : h.list.base ≡ Some base = ap (λ (l : EntryList (List Assigned)). l.base) (sym same) ∙ based in
-      absurd (off h.answers.answers.rest (subst (λ b. RestOf case b path.bytes h.answers.answers.rest) its h.answers.answers.left)))
+      absurd (off h.answers.answers.rest (subst (λ b. RestOf rules.case b path.bytes h.answers.answers.rest) its h.answers.answers.left)))
       (λ (other : slice_get less i ≡ Some h.list). record { list = h.list; there = other; answers = h.answers })
       (stays_or_is list after front i h.list h.there)
 
-  same_assigned : (pairs : List (ℕ × ℕ)) → ((x : ℕ) (pair : ℕ × ℕ) → slice_get pairs x ≡ Some pair → PairAnswers less path.bytes path.is_dir case pair.0 pair.1)
+  same_assigned : (pairs : List (ℕ × ℕ)) → ((x : ℕ) (pair : ℕ × ℕ) → slice_get pairs x ≡ Some pair → PairAnswers less path.bytes path.is_dir rules pair.0 pair.1)
       → flat_map (assigned_at less) pairs ≡ flat_map (assigned_at full) pairs
   unfolding answers_full
   same_assigned [] each = refl
@@ -160,7 +160,7 @@ module _ (list : EntryList (List Assigned)) (after : Lists) (front : Lists) (bas
       ap (λ o. option_map_or (λ entry. entry.value) (option_and_then (λ l. slice_get l.entries pair.1) o) [] ++ flat_map (assigned_at less) pairs) (h.there ∙ sym k.there)
       ∙ ap (λ l. assigned_at full pair ++ l) (same_assigned pairs (λ x other at. each (suc x) other at))
 
-  pub rows-off_the_way : (row : List Assigned) → IsRow full path case row ↔ IsRow less path case row
+  pub rows-off_the_way : (row : List Assigned) → IsRow full path rules row ↔ IsRow less path rules row
   rows-off_the_way row = (
     λ h. (
       h.0,

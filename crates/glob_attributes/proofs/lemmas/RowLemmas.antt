@@ -5,7 +5,7 @@ use Rattle.std.specs.List.{flat_map}
 use Rattle.std.specs.Option.{option_and_then, option_map_or}
 use Rattle.std.proofs.lemmas.List.Concat.{flat_map-append}
 use Rattle.std.proofs.lemmas.Option.{none-some, same_Some, slice_get_within}
-use Rattle.gix_glob.specs.declared.pattern.Case.{Case}
+use Rattle.glob_lists.specs.declared.rules.Rules.{Rules}
 use Rattle.gix_glob.specs.EntryLists.{EntryList}
 use Rattle.glob_lists.specs.Deciding.{PairAnswers}
 use Rattle.glob_lists.specs.Index.{AreMatches, ComesBefore}
@@ -54,37 +54,37 @@ get-unmap f (z ∷ xs) (suc i) y there = get-unmap f xs i y there
 abbrev pub shifted : ℕ → ℕ × ℕ → ℕ × ℕ
 shifted n pair = (n + pair.0, pair.1)
 
-module _ {V : Type 0} (xs ys : List (EntryList V)) (path : List ℕ) (is_dir : Bool) (case : Case) where
-  pair-front : (i m : ℕ) → PairAnswers xs path is_dir case i m → PairAnswers (xs ++ ys) path is_dir case i m
+module _ {V : Type 0} (xs ys : List (EntryList V)) (path : List ℕ) (is_dir : Bool) (rules : Rules) where
+  pair-front : (i m : ℕ) → PairAnswers xs path is_dir rules i m → PairAnswers (xs ++ ys) path is_dir rules i m
   pair-front i m h = record { list = h.list; there = get-front xs ys i h.list h.there; answers = h.answers }
 
-  pair-back : (j m : ℕ) → PairAnswers ys path is_dir case j m → PairAnswers (xs ++ ys) path is_dir case (length xs + j) m
+  pair-back : (j m : ℕ) → PairAnswers ys path is_dir rules j m → PairAnswers (xs ++ ys) path is_dir rules (length xs + j) m
   pair-back j m h = record { list = h.list; there = get-back xs ys j ∙ h.there; answers = h.answers }
 
-  pair-split : (i m : ℕ) → PairAnswers (xs ++ ys) path is_dir case i m
-      → PairAnswers xs path is_dir case i m ⊎ ((j : ℕ) × (i ≡ length xs + j) × PairAnswers ys path is_dir case j m)
+  pair-split : (i m : ℕ) → PairAnswers (xs ++ ys) path is_dir rules i m
+      → PairAnswers xs path is_dir rules i m ⊎ ((j : ℕ) × (i ≡ length xs + j) × PairAnswers ys path is_dir rules j m)
   pair-split i m h =
       ⊎_elim
       (λ front. inl (record { list = h.list; there = front; answers = h.answers }))
       (λ back. inr (back.0, back.1, record { list = h.list; there = back.2; answers = h.answers }))
       (get-split xs ys i h.list h.there)
 
-module _ {V : Type 0} (xs ys : List (EntryList V)) (path : List ℕ) (is_dir : Bool) (case : Case) (found more : List (ℕ × ℕ)) (front : AreMatches xs path is_dir case found) (back : AreMatches ys path is_dir case more) where
+module _ {V : Type 0} (xs ys : List (EntryList V)) (path : List ℕ) (is_dir : Bool) (rules : Rules) (found more : List (ℕ × ℕ)) (front : AreMatches xs path is_dir rules found) (back : AreMatches ys path is_dir rules more) where
   abbrev both : List (ℕ × ℕ)
   both = found ++ map (shifted (length xs)) more
 
   within_front : (x : ℕ) (pair : ℕ × ℕ) → slice_get found x ≡ Some pair → pair.0 < length xs
   within_front x pair at = let h = front.each x pair at in slice_get_within xs pair.0 h.list h.there
 
-  each_back : (j : ℕ) (pair : ℕ × ℕ) → slice_get (map (shifted (length xs)) more) j ≡ Some pair → PairAnswers (xs ++ ys) path is_dir case pair.0 pair.1
+  each_back : (j : ℕ) (pair : ℕ × ℕ) → slice_get (map (shifted (length xs)) more) j ≡ Some pair → PairAnswers (xs ++ ys) path is_dir rules pair.0 pair.1
   each_back j pair at =
       let own = get-unmap (shifted (length xs)) more j pair at in
-      subst (λ p. PairAnswers (xs ++ ys) path is_dir case p.0 p.1) (sym own.2) (pair-back xs ys path is_dir case own.0.0 own.0.1 (back.each j own.0 own.1))
+      subst (λ p. PairAnswers (xs ++ ys) path is_dir rules p.0 p.1) (sym own.2) (pair-back xs ys path is_dir rules own.0.0 own.0.1 (back.each j own.0 own.1))
 
-  each_both : (x : ℕ) (pair : ℕ × ℕ) → slice_get both x ≡ Some pair → PairAnswers (xs ++ ys) path is_dir case pair.0 pair.1
+  each_both : (x : ℕ) (pair : ℕ × ℕ) → slice_get both x ≡ Some pair → PairAnswers (xs ++ ys) path is_dir rules pair.0 pair.1
   each_both x pair at =
       ⊎_elim
-      (λ first. pair-front xs ys path is_dir case pair.0 pair.1 (front.each x pair first))
+      (λ first. pair-front xs ys path is_dir rules pair.0 pair.1 (front.each x pair first))
       (λ second. each_back second.0 pair second.2)
       (get-split found (map (shifted (length xs)) more) x pair at)
 
@@ -127,7 +127,7 @@ module _ {V : Type 0} (xs ys : List (EntryList V)) (path : List ℕ) (is_dir : B
       let f = its.1 in
       rising_back at.0 its.0 a b (omega (arith, e, f, less)) at.2 its.2
 
-  all_both : (i m : ℕ) → PairAnswers xs path is_dir case i m ⊎ ((j : ℕ) × (i ≡ length xs + j) × PairAnswers ys path is_dir case j m) → (x : ℕ) × (slice_get both x ≡ Some (i, m))
+  all_both : (i m : ℕ) → PairAnswers xs path is_dir rules i m ⊎ ((j : ℕ) × (i ≡ length xs + j) × PairAnswers ys path is_dir rules j m) → (x : ℕ) × (slice_get both x ≡ Some (i, m))
   all_both i m (inl first) =
       let at = front.all i m first in
       (at.0, get-front found (map (shifted (length xs)) more) at.0 (i, m) at.1)
@@ -139,12 +139,12 @@ module _ {V : Type 0} (xs ys : List (EntryList V)) (path : List ℕ) (is_dir : B
             ∙ ap (λ n. Some (n, m)) (sym second.1),
       )
 
-  pub matches-both : AreMatches (xs ++ ys) path is_dir case both
+  pub matches-both : AreMatches (xs ++ ys) path is_dir rules both
   matches-both = record {
     each = each_both;
     rising = λ x y a b less at its.
         rising_both x y a b less (get-split found (map (shifted (length xs)) more) x a at) (get-split found (map (shifted (length xs)) more) y b its);
-    all = λ i m h. all_both i m (pair-split xs ys path is_dir case i m h);
+    all = λ i m h. all_both i m (pair-split xs ys path is_dir rules i m h);
   }
 
 -- ---- what pairs of places assign
@@ -170,11 +170,11 @@ module _ (xs ys : Lists) where
       ∙ ap (λ l. assigned_at ys pair ++ l) (assigned-back more)
 
   -- the row of both is made of what is assigned by those in front, and then by the others
-  pub row-both : (path : Path) (case : Case) (found more : List (ℕ × ℕ)) → AreMatches xs path.bytes path.is_dir case found → AreMatches ys path.bytes path.is_dir case more
-      → IsRow (xs ++ ys) path case (reverse (flat_map (assigned_at xs) found ++ flat_map (assigned_at ys) more))
-  row-both path case found more front back = (
+  pub row-both : (path : Path) (rules : Rules) (found more : List (ℕ × ℕ)) → AreMatches xs path.bytes path.is_dir rules found → AreMatches ys path.bytes path.is_dir rules more
+      → IsRow (xs ++ ys) path rules (reverse (flat_map (assigned_at xs) found ++ flat_map (assigned_at ys) more))
+  row-both path rules found more front back = (
     found ++ map (shifted (length xs)) more,
-    matches-both xs ys path.bytes path.is_dir case found more front back,
+    matches-both xs ys path.bytes path.is_dir rules found more front back,
     ap reverse (sym (flat_map-append (assigned_at (xs ++ ys)) found (map (shifted (length xs)) more)
         ∙ ap (λ l. l ++ flat_map (assigned_at (xs ++ ys)) (map (shifted (length xs)) more))
         (assigned-front found (λ x pair at. let h = front.each x pair at in (h.list, h.there)))

@@ -1,17 +1,19 @@
 //! What one line of an attribute file gives, as parts of the line.
 ghost use Rattle.std.specs.Prelude.{◌≡◌, ◌≤◌, IfSome, IsTrue, is_some, length, true, false};
 ghost use Rattle.glob_attributes.specs.Private.Readings.{assignments_of};
+ghost use Rattle.glob_lists.specs.declared.rules.Reading.{Reading};
 ghost use Rattle.glob_attributes.specs.Borrowed.{GivesParts};
 ghost use Rattle.glob_attributes.specs.Readings.{line_gives};
 ghost use Rattle.glob_attributes.specs.Private.Readings.{macro_reading, pattern_reading};
 
 use crate::assignment::read_assignment;
 use crate::borrowed::head::borrow_head;
-use crate::borrowed::view::view_of;
+use crate::borrowed::view::view_as;
 use crate::line::{LINE_LIMIT, Silence, before_zero, is_macro, macro_name, says_nothing};
 use crate::name::is_name;
 use crate::words::{Words, after_blanks};
 use gix_glob::pattern::PatternView;
+use glob_lists::Reading;
 
 /// What a line of an attribute file gives. What a macro or a pattern assigns is what the words say that stand behind the head of the
 /// line; the name of each is valid.
@@ -37,10 +39,15 @@ pub enum LineParts<'a> {
     },
 }
 
-/// Reads a line of an attribute file, given without its ending, as [`read_line`](crate::read_line) does. A quoted head is decoded
-/// into `memory`; `None` where that is too short for it. As many bytes as the line has suffice.
-pub fn line_parts<'a>(line: &'a [u8], is_top: bool, memory: &'a mut [u8]) -> Option<LineParts<'a>>
-    ensures read { IfSome result (GivesParts (line_gives is_top line.now)) }
+/// Reads a line of an attribute file, given without its ending, as [`read_line`](crate::read_line) does, and its pattern by a reading. A
+/// quoted head is decoded into `memory`; `None` where that is too short for it. As many bytes as the line has suffice.
+pub fn line_parts<'a>(
+    line: &'a [u8],
+    is_top: bool,
+    reading: Reading,
+    memory: &'a mut [u8],
+) -> Option<LineParts<'a>>
+    ensures read { IfSome result (GivesParts reading (line_gives is_top line.now)) }
     ensures room { length line.now ≤ length memory.old → is_some result ≡ true }
 {
     let text = before_zero(line);
@@ -55,14 +62,14 @@ pub fn line_parts<'a>(line: &'a [u8], is_top: bool, memory: &'a mut [u8]) -> Opt
     Some(if is_macro(head) {
         macro_parts(head, rest, is_top)
     } else {
-        pattern_parts(head, rest)
+        pattern_parts(head, rest, reading)
     })
 }
 
 /// What the head and the rest of a line give that defines a macro.
 fn macro_parts<'a>(head: &'a [u8], words: &'a [u8], is_top: bool) -> LineParts<'a>
     requires { 6 ≤ length head.now }
-    ensures { GivesParts (macro_reading is_top head.now words.now) result }
+    ensures { (reading : Reading) → GivesParts reading (macro_reading is_top head.now words.now) result }
 {
     if !is_top {
         return LineParts::Silent(Silence::MacroBelowTop);
@@ -78,8 +85,8 @@ fn macro_parts<'a>(head: &'a [u8], words: &'a [u8], is_top: bool) -> LineParts<'
 }
 
 /// What the head and the rest of a line give that has a pattern.
-fn pattern_parts<'a>(head: &'a [u8], words: &'a [u8]) -> LineParts<'a>
-    ensures { GivesParts (pattern_reading head.now words.now) result }
+fn pattern_parts<'a>(head: &'a [u8], words: &'a [u8], reading: Reading) -> LineParts<'a>
+    ensures { GivesParts reading (pattern_reading head.now words.now) result }
 {
     if !has_names(words) {
         return LineParts::Silent(Silence::AttributeName);
@@ -88,7 +95,7 @@ fn pattern_parts<'a>(head: &'a [u8], words: &'a [u8]) -> LineParts<'a>
         return LineParts::Silent(Silence::Negative);
     }
     LineParts::Pattern {
-        pattern: view_of(before_zero(head)),
+        pattern: view_as(before_zero(head), reading),
         words,
     }
 }

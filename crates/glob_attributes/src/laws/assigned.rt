@@ -10,9 +10,8 @@ ghost use Rattle.glob_attributes.specs.States.{Assigned, IsAssigned};
 ghost use Rattle.glob_attributes.specs.Views.{seen_assignments};
 
 use crate::parser::AttributeLines;
-use gix_glob::pattern::Case;
 use gix_glob::search::pattern;
-use glob_lists::RepositoryPath;
+use glob_lists::{RepositoryPath, Rules};
 
 /// Something is assigned to each path, whatever the macros are: with
 /// [`attributes_have_one_state`](super::attributes_have_one_state) each attribute has one state for it. The lists have to meet
@@ -20,14 +19,14 @@ use glob_lists::RepositoryPath;
 pub fn paths_are_assigned_something(
     lists: &[pattern::List<AttributeLines>],
     path: &RepositoryPath<'_>,
-    case: Case,
+    rules: Rules,
 )
     requires folders { BasesAreFolders (map (entry_list_of seen_assignments) lists.now) }
     ensures { (macros : List Definition) →
-        (filled : List Assigned) × IsAssigned (map (entry_list_of seen_assignments) lists.now) macros path.now case filled }
+        (filled : List Assigned) × IsAssigned (map (entry_list_of seen_assignments) lists.now) macros path.now rules filled }
 {
     'lists: for place in 0..lists.len() {
-        lists_have_matches(lists, place, path, case);
+        lists_have_matches(lists, place, path, rules);
     }
 }
 
@@ -36,21 +35,21 @@ fn lists_have_matches(
     lists: &[pattern::List<AttributeLines>],
     place: usize,
     path: &RepositoryPath<'_>,
-    case: Case,
+    rules: Rules,
 )
     requires folders { BasesAreFolders (map (entry_list_of seen_assignments) lists.now) }
     requires inside { place < length lists.now }
     ensures { (found : List (ℕ × ℕ)) →
-        AreMatchesUpTo (map (entry_list_of seen_assignments) lists.now) path.now.bytes path.now.is_dir case place 0 found →
-        (all : List (ℕ × ℕ)) × AreMatchesUpTo (map (entry_list_of seen_assignments) lists.now) path.now.bytes path.now.is_dir case (place + 1) 0 all }
+        AreMatchesUpTo (map (entry_list_of seen_assignments) lists.now) path.now.bytes path.now.is_dir rules place 0 found →
+        (all : List (ℕ × ℕ)) × AreMatchesUpTo (map (entry_list_of seen_assignments) lists.now) path.now.bytes path.now.is_dir rules (place + 1) 0 all }
 {
     let list = &lists[place];
-    let Some(rest) = path.below(base_of(list), case) else {
+    let Some(rest) = path.below(base_of(list), rules.case) else {
         return;
     };
     let mappings = list.patterns.as_slice();
     'mappings: for m in 0..mappings.len() {
-        let _ = rest.is_matched_by(mappings[m].pattern.view(), case);
+        let _ = rest.is_matched_by(mappings[m].pattern.view(), rules);
     }
 }
 

@@ -7,7 +7,7 @@ use gix_glob::pattern::Case;
 use gix_glob::search::pattern::List;
 use gix_glob::search::{Pattern as _, Watched};
 use glob_attributes::{AttributeLines, AttributeQuery, MacroTable, run_attributes};
-use glob_lists::{ListIndex, bases_are_folders};
+use glob_lists::{ListIndex, Rules, bases_are_folders};
 use record_streams::RecordFault;
 use std::alloc::{AllocError, Global};
 use std::io::ErrorKind;
@@ -47,7 +47,7 @@ fn run(
     if !bases_are_folders(lists) {
         return Err(Fail::new("bases of folders"));
     }
-    let index = ListIndex::new(alloc, lists, Case::Sensitive)?;
+    let index = ListIndex::new(alloc, lists, Rules::by_crate(Case::Sensitive))?;
     let macros = MacroTable::new(alloc)?;
     let names = [b"a".as_slice()];
     let query = AttributeQuery::new(&index, &macros, &names);
@@ -65,7 +65,7 @@ fn check_run(
     row: usize,
 ) -> Result<(), Fail> {
     let mut list = List::empty(rt.alloc());
-    list.patterns = AttributeLines.bytes_to_patterns(rt.alloc(), b"x a\n", "")?;
+    list.patterns = AttributeLines::default().bytes_to_patterns(rt.alloc(), b"x a\n", "")?;
     let (told, sink) = run(rt.alloc(), &[list], devices.0, devices.1)?;
     same(
         rt,

@@ -2,7 +2,7 @@
 use gix_glob::pattern::Case;
 use gix_glob::search::pattern::List;
 use glob_attributes::{AttributeLines, AttributeNames, MacroTable, PathAttributes, State};
-use glob_lists::{RepositoryPath, bases_are_folders};
+use glob_lists::{RepositoryPath, Rules, bases_are_folders};
 use std::test::Fail;
 
 const FILE: &[u8] = b"[attr]m a=1 -b\n\"x y\" m c\n!z d\n";
@@ -14,7 +14,13 @@ fn a_table_answers_after_a_refusal(rt: HostRuntime) -> Result<(), Fail> {
     let path = RepositoryPath::new(b"x", false).ok_or("a path")?;
     let lists: [List<AttributeLines>; 0] = [];
     assert!(rt; bases_are_folders(&lists));
-    let attributes = PathAttributes::new(rt.alloc(), &lists, &macros, &path, Case::Sensitive)?;
+    let attributes = PathAttributes::new(
+        rt.alloc(),
+        &lists,
+        &macros,
+        &path,
+        Rules::by_crate(Case::Sensitive),
+    )?;
     assert!(rt; attributes.state_of(b"a") == State::Unspecified);
     Ok(first?)
 }

@@ -4,7 +4,7 @@ use Rattle.std.specs.Prelude.{decimal, slice_get}
 use Rattle.std.proofs.lemmas.Bool.{cases_eq, cases_lt}
 use Rattle.std.proofs.lemmas.List.{take_more}
 use Rattle.std.proofs.lemmas.Option.{get_or_from_slice_get, same_Some, slice_get_within}
-use Rattle.gix_glob.specs.declared.pattern.Case.{Case}
+use Rattle.glob_lists.specs.declared.rules.Rules.{Rules}
 use Rattle.glob_lists.specs.Deciding.{AnswersAt, AnswersUnder, BasesAreFolders, HasFolder}
 use Rattle.gix_glob.specs.EntryLists.{EntryList}
 use Rattle.glob_lists.specs.Index.{AreMatches}
@@ -159,17 +159,17 @@ pub folders_of_one : {V : Type 0} (list : EntryList V) → HasFolder list → Ba
 folders_of_one list folder zero d inside = folder
 folders_of_one list folder (suc i) d inside = absurd (omega arith)
 
-module _ (list : EntryList (Unit {0})) (path : List ℕ) (is_dir : Bool) (case : Case) where
+module _ (list : EntryList (Unit {0})) (path : List ℕ) (is_dir : Bool) (rules : Rules) where
   -- a stack of one list has its entries at the place 0
   at_zero : (i : ℕ) (other : EntryList (Unit {0})) → slice_get (list ∷ []) i ≡ Some other → (i ≡ 0) × (other ≡ list)
   at_zero zero other is = (refl, sym (same_Some _ _ is))
   at_zero (suc i) other is = (let within = slice_get_within (list ∷ []) (suc i) other is in absurd (omega arith))
 
-  places_of_one : (found : List (ℕ × ℕ)) → AreMatches (list ∷ []) path is_dir case found → ArePlacesOf (λ entry. AnswersUnder list.base entry path is_dir case) list.entries found
+  places_of_one : (found : List (ℕ × ℕ)) → AreMatches (list ∷ []) path is_dir rules found → ArePlacesOf (λ entry. AnswersUnder list.base entry path is_dir rules) list.entries found
   places_of_one found h = record {
     each = λ x pair got.
         (let answers = h.each x pair got in
-        let at = subst (λ l. AnswersAt l path is_dir case pair.1) ((at_zero pair.0 answers.list answers.there).1) answers.answers in
+        let at = subst (λ l. AnswersAt l path is_dir rules pair.1) ((at_zero pair.0 answers.list answers.there).1) answers.answers in
         (at.entry, at.there, at.answers));
     rising = λ x y a b below got got'.
         (let first = h.each x a got in
@@ -183,8 +183,8 @@ module _ (list : EntryList (Unit {0})) (path : List ℕ) (is_dir : Bool) (case :
   }
 
   -- the same for what is a stack of this list, and for what was found
-  pub places_in : (lists : List (EntryList (Unit {0}))) (items found : List (ℕ × ℕ)) → lists ≡ list ∷ [] → items ≡ found → AreMatches lists path is_dir case found
-      → ArePlacesOf (λ entry. AnswersUnder list.base entry path is_dir case) list.entries items
+  pub places_in : (lists : List (EntryList (Unit {0}))) (items found : List (ℕ × ℕ)) → lists ≡ list ∷ [] → items ≡ found → AreMatches lists path is_dir rules found
+      → ArePlacesOf (λ entry. AnswersUnder list.base entry path is_dir rules) list.entries items
   places_in lists items found one same h =
-      subst (λ places. ArePlacesOf (λ entry. AnswersUnder list.base entry path is_dir case) list.entries places) (sym same)
-      (places_of_one found (subst (λ stack. AreMatches stack path is_dir case found) one h))
+      subst (λ places. ArePlacesOf (λ entry. AnswersUnder list.base entry path is_dir rules) list.entries places) (sym same)
+      (places_of_one found (subst (λ stack. AreMatches stack path is_dir rules found) one h))

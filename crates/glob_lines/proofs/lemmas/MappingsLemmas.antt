@@ -4,6 +4,7 @@ use Rattle.std.specs.Prelude.{◌↔◌, decimal}
 use Rattle.std.proofs.lemmas.List.{map_push}
 use Rattle.gix_glob.specs.declared.pattern.Case.{Case}
 use Rattle.gix_glob.specs.Paths.{Base}
+use Rattle.glob_lists.specs.Rules.{by_crate}
 use Rattle.glob_lines.specs.Mappings.{MappingsText}
 use Rattle.glob_lines.specs.Numbers.{Picks, text_of_numbers}
 use Rattle.glob_lines.specs.Plain.{Plain, PlainEntry}
@@ -66,12 +67,12 @@ module _ (P : PlainEntry → Type 0) where
 -- what was given to the calls is what was read
 pub mappings_text : (patterns paths source given_patterns given_paths given_source : List ℕ) (root : Option (List ℕ)) (case : Case) (entries : List PlainEntry) (base : Option (List ℕ)) (text : List ℕ)
     → ((bytes : List ℕ) (plain : List PlainEntry) → Plain bytes plain ↔ (plain ≡ plain_of bytes))
-    → given_patterns ≡ patterns → given_paths ≡ paths → given_source ≡ source → entries ≡ plain_of given_patterns → Base given_source root base → MatchesText entries base case given_paths text
+    → given_patterns ≡ patterns → given_paths ≡ paths → given_source ≡ source → entries ≡ plain_of given_patterns → Base given_source root base → MatchesText entries base (by_crate case) given_paths text
     → MappingsText source root case (record { patterns = patterns; paths = paths }) text
 mappings_text patterns paths source given_patterns given_paths given_source root case entries base text law p q s means based matches = record {
   entries = entries;
   meant = (law patterns entries).1 (means ∙ ap plain_of p);
   base = base;
   based = subst (λ l. Base l root base) s based;
-  matches = subst (λ l. MatchesText entries base case l text) q matches;
+  matches = subst (λ l. MatchesText entries base (by_crate case) l text) q matches;
 }

@@ -4,7 +4,7 @@ use Rattle.std.specs.List.{AllZip, flat_map}
 use Rattle.std.specs.Prelude.{MatchOption, codes, if◌then◌else◌, slice_get}
 use Rattle.std.proofs.lemmas.List.{append_cancel_left, append_cancel_right}
 use Rattle.std.proofs.lemmas.Option.{same_Some}
-use Rattle.gix_glob.specs.declared.pattern.Case.{Case}
+use Rattle.glob_lists.specs.declared.rules.Rules.{Rules}
 use Rattle.glob_lists.specs.Deciding.{AnswersUnder, Decides}
 use Rattle.gix_glob.specs.EntryLists.{EntryList}
 use Rattle.gix_glob.specs.Paths.{Base, folder, parts}
@@ -58,10 +58,10 @@ picks_once P (z ∷ zs) us vs (inl x) (inr y) = absurd (y.0 x.0)
 picks_once P (z ∷ zs) us vs (inr x) (inl y) = absurd (x.0 y.0)
 picks_once P (z ∷ zs) us vs (inr x) (inr y) = picks_once P zs us vs x.1 y.1
 
-pub numbers_once : (entries : List PlainEntry) (base : Option (List ℕ)) (case : Case) (path : List ℕ) (is_dir : Bool) (a b : List ℕ)
-    → WritesNumbers entries base case path is_dir a → WritesNumbers entries base case path is_dir b → a ≡ b
-numbers_once entries base case path is_dir a b x y =
-    let chosen : x.chosen ≡ y.chosen = picks_once (λ entry. AnswersUnder base entry path is_dir case) entries x.chosen y.chosen x.picks y.picks in
+pub numbers_once : (entries : List PlainEntry) (base : Option (List ℕ)) (rules : Rules) (path : List ℕ) (is_dir : Bool) (a b : List ℕ)
+    → WritesNumbers entries base rules path is_dir a → WritesNumbers entries base rules path is_dir b → a ≡ b
+numbers_once entries base rules path is_dir a b x y =
+    let chosen : x.chosen ≡ y.chosen = picks_once (λ entry. AnswersUnder base entry path is_dir rules) entries x.chosen y.chosen x.picks y.picks in
     x.shown ∙ ap (λ entries. text_of_numbers (map (λ entry. entry.number) entries)) chosen ∙ sym y.shown
 
 -- ---- what decides
@@ -78,9 +78,9 @@ module _ {V : Type 0} (lists : List (EntryList V)) where
   shown_once None a b x y = x ∙ sym y
   shown_once (Some pair) a b x y = verdict_once pair a b x y
 
-  pub decision_once : (case : Case) → ((path : List ℕ) (is_dir : Bool) (pair other : Option (ℕ × ℕ)) → Decides lists path is_dir case pair → Decides lists path is_dir case other → pair ≡ other)
-      → (path : List ℕ) (is_dir : Bool) (a b : List ℕ) → WritesDecision lists case path is_dir a → WritesDecision lists case path is_dir b → a ≡ b
-  decision_once case one_pair path is_dir a b x y =
+  pub decision_once : (rules : Rules) → ((path : List ℕ) (is_dir : Bool) (pair other : Option (ℕ × ℕ)) → Decides lists path is_dir rules pair → Decides lists path is_dir rules other → pair ≡ other)
+      → (path : List ℕ) (is_dir : Bool) (a b : List ℕ) → WritesDecision lists rules path is_dir a → WritesDecision lists rules path is_dir b → a ≡ b
+  decision_once rules one_pair path is_dir a b x y =
       let same : y.pair ≡ x.pair = one_pair path is_dir y.pair x.pair y.decides x.decides in
       shown_once x.pair a b x.shown (subst (λ (pair : Option (ℕ × ℕ)). MatchOption pair (b ≡ codes "none") (λ p. WritesVerdict lists p b)) same y.shown)
 

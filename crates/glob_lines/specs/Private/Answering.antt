@@ -1,6 +1,6 @@
 -- What is written of the entries that answer for a path.
 use Rattle.std.specs.Prelude.{ℕ, Bool, if◌then◌else◌, List, Option, codes}
-use Rattle.gix_glob.specs.declared.pattern.Case.{Case}
+use Rattle.glob_lists.specs.declared.rules.Rules.{Rules}
 use Rattle.glob_lines.specs.Lines.{WritesLines}
 use Rattle.glob_lines.specs.Mappings.{WritesNumbers}
 use Rattle.glob_lines.specs.PathLines.{WritesForPath}
@@ -10,12 +10,12 @@ use Rattle.glob_lines.specs.Plain.{PlainEntry}
 abbrev pub word_of : Bool → List ℕ
 word_of answer = if answer then codes "yes" else codes "no"
 
--- the entries of a list and its base, and whether the case of letters counts
-pub record CasedList : Type 0 where
+-- the entries of a list and its base, and the rules by which they are matched
+pub record RuledList : Type 0 where
   pub entries : List PlainEntry
   pub base : Option (List ℕ)
-  pub case : Case
+  pub rules : Rules
 
 -- the text for all path lines and the entries of a list
-abbrev pub MatchesText : List PlainEntry → Option (List ℕ) → Case → List ℕ → List ℕ → Type 0
-MatchesText entries base case paths text = WritesLines (WritesForPath (WritesNumbers entries base case)) paths text
+abbrev pub MatchesText : List PlainEntry → Option (List ℕ) → Rules → List ℕ → List ℕ → Type 0
+MatchesText entries base rules paths text = WritesLines (WritesForPath (WritesNumbers entries base rules)) paths text

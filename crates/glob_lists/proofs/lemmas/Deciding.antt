@@ -4,6 +4,7 @@ pub mod AskedLemmas
 pub mod DecidesOnce
 pub mod DecidingLemmas
 pub mod DecisionSums
+pub mod Kinds
 pub mod LastNumbers
 pub mod MatchesUpTo
 pub mod PairLemmas

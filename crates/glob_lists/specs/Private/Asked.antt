@@ -1,6 +1,6 @@
 -- Lists that are asked about a path, each in turn: what one of them answers, and what that takes.
 use Rattle.std.specs.Prelude.{◌≡◌, ℕ, ◌+◌, ◌≤◌, List, Option, MatchOption, Some, slice_get, sum_by}
-use Rattle.gix_glob.specs.declared.pattern.Case.{Case}
+use Rattle.glob_lists.specs.declared.rules.Rules.{Rules}
 use Rattle.gix_glob.specs.EntryLists.{EntryList}
 use Rattle.gix_glob.specs.Steps.{Counts, NeverFall}
 use Rattle.glob_lists.specs.Deciding.{PairAnswers}
@@ -8,10 +8,10 @@ use Rattle.glob_lists.specs.DecisionLimits.{decision_look_limit, decision_step_l
 use Rattle.glob_lists.specs.Paths.{Path}
 
 -- the place of the last entry of the list at place i that answers, where there is one
-abbrev pub IsLastOfList : {V : Type 0} → List (EntryList V) → Path → Case → ℕ → Option ℕ → Type 0
-IsLastOfList lists path case i found =
-    MatchOption found ((m : ℕ) → ¬ PairAnswers lists path.bytes path.is_dir case i m)
-    (λ last. PairAnswers lists path.bytes path.is_dir case i last × ((m : ℕ) → PairAnswers lists path.bytes path.is_dir case i m → m ≤ last))
+abbrev pub IsLastOfList : {V : Type 0} → List (EntryList V) → Path → Rules → ℕ → Option ℕ → Type 0
+IsLastOfList lists path rules i found =
+    MatchOption found ((m : ℕ) → ¬ PairAnswers lists path.bytes path.is_dir rules i m)
+    (λ last. PairAnswers lists path.bytes path.is_dir rules i last × ((m : ℕ) → PairAnswers lists path.bytes path.is_dir rules i m → m ≤ last))
 
 -- The counts rose by at most what the list may take, v being the length of the path, and by so many looks more.
 pub record SpendsWith {V : Type 0} (list : EntryList V) (more v : ℕ) (before after : Counts) : Type 0 where

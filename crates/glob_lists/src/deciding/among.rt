@@ -9,7 +9,7 @@ use std::sync::ledger::Ledger;
 /// Lists, and the path that they are asked about.
 pub(crate) trait AskedLists {
     ghost use Rattle.std.specs.Prelude.{◌≡◌, ℕ, ◌<◌, List, length};
-    ghost use Rattle.gix_glob.specs.declared.pattern.Case.{Case};
+    ghost use Rattle.glob_lists.specs.declared.rules.Rules.{Rules};
     ghost use Rattle.gix_glob.specs.EntryLists.{EntryList};
     ghost use Rattle.glob_lists.specs.Paths.{Path};
     ghost use Rattle.glob_lists.specs.Private.Asked.{IsLastOfList, SpendsOnListWith};
@@ -21,7 +21,7 @@ pub(crate) trait AskedLists {
 
     ghost path: { Self → Path };
 
-    ghost case: { Self → Case };
+    ghost rules: { Self → Rules };
 
     // When the lists may be asked.
     ghost can_ask: { Self → Type 0 };
@@ -37,7 +37,7 @@ pub(crate) trait AskedLists {
     fn last_match<S: Ledger, L: Ledger>(&self, i: usize, counts: &mut Counts<S, L>) -> Option<usize>
         requires can { can_ask self.now }
         requires inside { i < length (lists self.now) }
-        ensures last { IsLastOfList (lists self.now) (path self.now) (case self.now) i result }
+        ensures last { IsLastOfList (lists self.now) (path self.now) (rules self.now) i result }
         ensures spends { SpendsOnListWith (lists self.now) more_looks i (length (path self.now).bytes) counts.old counts.new };
 }
 
@@ -48,7 +48,7 @@ pub(crate) fn decide_among<A: AskedLists, S: Ledger, L: Ledger>(
     counts: &mut Counts<S, L>,
 ) -> Option<(usize, usize)>
     requires { A.can_ask asked.now }
-    ensures exact { Decides (A.lists asked.now) (A.path asked.now).bytes (A.path asked.now).is_dir (A.case asked.now) result }
+    ensures exact { Decides (A.lists asked.now) (A.path asked.now).bytes (A.path asked.now).is_dir (A.rules asked.now) result }
     ensures spends { SpendsOnAllWith (A.lists asked.now) A.more_looks (length (A.path asked.now).bytes) counts.old counts.new }
 {
     'lists: for i in (0..asked.count()).rev() {

@@ -1,6 +1,6 @@
 //! Lists that answer: which of their patterns decides about a path, and whether that pattern is negative.
 use crate::path::RepositoryPath;
-use gix_glob::pattern::Case;
+use crate::rules::Rules;
 
 /// Lists of patterns in order, of which a later one decides over an earlier one: plain ones, prepared ones, or those of a caller.
 ///
@@ -26,10 +26,10 @@ pub trait ListStack {
 
     /// Which pattern decides about a path, as [`decide`](crate::decide) answers it: the place of the list and the place of the
     /// mapping in it, both from 0, or `None` where no pattern matches.
-    fn decide(&self, path: &RepositoryPath<'_>, case: Case) -> Option<(usize, usize)>
+    fn decide(&self, path: &RepositoryPath<'_>, rules: Rules) -> Option<(usize, usize)>
         requires { can_decide self.now }
         ensures inside { IfSome result (HasEntryAt (lists self.now)) }
-        ensures exact { is_lawful self.now → Decides (lists self.now) path.now.bytes path.now.is_dir case result };
+        ensures exact { is_lawful self.now → Decides (lists self.now) path.now.bytes path.now.is_dir rules result };
 
     /// Whether the pattern at a pair of places is negative.
     fn is_negative(&self, pair: (usize, usize)) -> bool

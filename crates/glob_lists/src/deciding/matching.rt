@@ -7,7 +7,7 @@ ghost use Rattle.glob_lists.specs.Private.Matching.{AreMatchesUpTo};
 
 use crate::deciding::Asked;
 use crate::path::RepositoryPath;
-use gix_glob::pattern::Case;
+use crate::rules::Rules;
 use gix_glob::search;
 use gix_glob::search::pattern::List;
 use std::alloc::AllocError;
@@ -23,13 +23,13 @@ use std::alloc::AllocError;
 pub fn matches_into<T: search::Pattern>(
     lists: &[List<T>],
     path: &RepositoryPath<'_>,
-    case: Case,
+    rules: Rules,
     pairs: &mut Vec<(usize, usize)>,
 ) -> Result<(), AllocError>
     requires folders { BasesAreFolders (map (entry_list_of T.seen) lists.now) }
-    ensures { OnOk result (AreMatches (map (entry_list_of T.seen) lists.now) path.now.bytes path.now.is_dir case pairs.new.items) }
+    ensures { OnOk result (AreMatches (map (entry_list_of T.seen) lists.now) path.now.bytes path.now.is_dir rules pairs.new.items) }
 {
-    let asked = Asked { lists, path, case };
+    let asked = Asked { lists, path, rules };
     pairs.clear();
     'lists: for i in 0..lists.len() {
         asked.push_matches(i, pairs)?;
@@ -42,17 +42,17 @@ impl<'a, 'p, T: search::Pattern> Asked<'a, 'p, T> {
     fn push_matches(&self, i: usize, pairs: &mut Vec<(usize, usize)>) -> Result<(), AllocError>
         requires folders { BasesAreFolders (map (entry_list_of T.seen) self.now.lists.now) }
         requires inside { i < length self.now.lists.now }
-        requires found { AreMatchesUpTo (map (entry_list_of T.seen) self.now.lists.now) self.now.path.now.bytes self.now.path.now.is_dir self.now.case i 0 pairs.old.items }
-        ensures { OnOk result (AreMatchesUpTo (map (entry_list_of T.seen) self.now.lists.now) self.now.path.now.bytes self.now.path.now.is_dir self.now.case (i + 1) 0 pairs.new.items) }
+        requires found { AreMatchesUpTo (map (entry_list_of T.seen) self.now.lists.now) self.now.path.now.bytes self.now.path.now.is_dir self.now.rules i 0 pairs.old.items }
+        ensures { OnOk result (AreMatchesUpTo (map (entry_list_of T.seen) self.now.lists.now) self.now.path.now.bytes self.now.path.now.is_dir self.now.rules (i + 1) 0 pairs.new.items) }
     {
         let lists = self.lists;
         let list = &lists[i];
-        let Some(rest) = self.path.under(list, self.case) else {
+        let Some(rest) = self.path.under(list, self.rules.case) else {
             return Ok(());
         };
         let mappings = list.patterns.as_slice();
         'mappings: for m in 0..mappings.len() {
-            if rest.is_matched_by(mappings[m].pattern.view(), self.case) {
+            if rest.is_matched_by(mappings[m].pattern.view(), self.rules) {
                 pairs.push((i, m))?;
             }
         }

@@ -4,7 +4,8 @@ ghost use Rattle.gix_glob.specs.PatternLimits.{pattern_look_limit};
 ghost use Rattle.gix_glob.specs.Steps.{NeverFall, step_limit};
 ghost use Rattle.glob_patterns.specs.Private.Fronts.{AgreeFrom};
 ghost use Rattle.glob_patterns.specs.Private.Insides.{HasInside};
-ghost use Rattle.glob_lists.specs.Deciding.{path_mode};
+ghost use Rattle.gix_glob.specs.Ways.{way_of};
+ghost use Rattle.glob_lists.specs.Rules.{path_mode};
 ghost use Rattle.glob_lists.specs.Private.Asks.Parts.{part_of};
 ghost use Rattle.glob_lists.specs.Private.Asks.Rows.{Asks};
 ghost use Rattle.glob_lists.specs.Private.Asks.Showing.{Passes};
@@ -15,6 +16,7 @@ use crate::asks::part::Part;
 use crate::asks::probe::{Probe, last_part};
 use crate::asks::row::Row;
 use crate::path::RepositoryPath;
+use crate::rules::Rules;
 use gix_glob::pattern::{Case, PatternView};
 use gix_glob::wildmatch::Counts;
 use std::sync::ledger::Ledger;
@@ -29,10 +31,10 @@ pub(crate) fn is_answer<S: Ledger, L: Ledger>(
     probe: &Probe,
     pattern: PatternView<'_>,
     rest: &RepositoryPath<'_>,
-    case: Case,
+    rules: Rules,
     counts: &mut Counts<S, L>,
 ) -> bool
-    ensures exact { Passes row.now probe.now → Asks pattern.entry.text.now pattern.entry.mode row.now → TellsBelow row.now probe.now pattern.entry.text.now pattern.entry.mode pattern.entry.first_wildcard_pos rest.now case result }
+    ensures exact { Passes row.now probe.now → Asks pattern.entry.text.now pattern.entry.mode row.now → TellsBelow row.now probe.now pattern.entry.text.now pattern.entry.mode pattern.entry.first_wildcard_pos rest.now rules result }
     ensures steps { counts.new.steps ≤ counts.old.steps + step_limit (length pattern.entry.text.now) (length rest.now.bytes) }
     ensures looks { counts.new.looks ≤ counts.old.looks + pattern_look_limit (length pattern.entry.text.now) (length rest.now.bytes) }
     ensures grows { NeverFall counts.old counts.new }
@@ -40,11 +42,11 @@ pub(crate) fn is_answer<S: Ledger, L: Ledger>(
     if row.is_told_by(probe) {
         return true;
     }
-    if is_looked_for(row, pattern.text, case) {
+    if is_looked_for(row, pattern.text, rules.case) {
         let name = last_part(rest.bytes(), rest.basename_start());
         return has_inside(name, pattern.text, counts);
     }
-    rest.is_matched_with_counts(pattern, case, counts)
+    rest.is_matched_with_counts(pattern, rules, counts)
 }
 
 /// Whether it is enough to look for what a text has between its first byte and its last.
@@ -61,7 +63,7 @@ fn is_looked_for(row: &Row, text: &[u8], case: Case) -> bool
 #[inline(always)]
 fn has_inside<S: Ledger, L: Ledger>(value: &[u8], text: &[u8], counts: &mut Counts<S, L>) -> bool
     requires { 3 ≤ length text.now }
-    ensures exact { IsTrue result ↔ HasInside path_mode value.now text.now }
+    ensures exact { IsTrue result ↔ HasInside (way_of path_mode) value.now text.now }
     ensures looks { LooksUpTo counts.old counts.new (2 * length text.now * (length value.now + 1)) }
 {
     let len = text.len() - 2;
@@ -83,7 +85,7 @@ fn has_inside<S: Ledger, L: Ledger>(value: &[u8], text: &[u8], counts: &mut Coun
 fn agree_from(text: &[u8], value: &[u8], at: usize) -> bool
     requires some { 3 ≤ length text.now }
     requires inside { at + (length text.now - 2) ≤ length value.now }
-    ensures { IsTrue result ↔ AgreeFrom path_mode text.now value.now 1 at (length text.now - 2) }
+    ensures { IsTrue result ↔ AgreeFrom (way_of path_mode) text.now value.now 1 at (length text.now - 2) }
 {
     'bytes: for i in 0..text.len() - 2 {
         if text[1 + i] != value[at + i] {

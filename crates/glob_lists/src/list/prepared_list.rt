@@ -79,12 +79,12 @@ impl<T: search::Pattern> PreparedList<T> {
     ) -> Option<usize>
         requires folder { HasFolder (entry_list_of T.seen self.now) }
         requires shows { Shows question.now.path.now.bytes question.now.probe }
-        ensures last { IsLastMatch (entry_list_of T.seen self.now) question.now.path.now question.now.case result }
+        ensures last { IsLastMatch (entry_list_of T.seen self.now) question.now.path.now question.now.rules result }
         ensures spends { Spends (entry_list_of T.seen self.now) (length question.now.path.now.bytes) counts.old counts.new }
     {
         match &self.rows {
             Some(rows) => rows.last_match(&self.list, question, counts),
-            None => last_match(&self.list, question.path, question.case, counts),
+            None => last_match(&self.list, question.path, question.rules, counts),
         }
     }
 }

@@ -2,7 +2,7 @@
 
 use crate::asks::probe::Probe;
 use crate::path::RepositoryPath;
-use gix_glob::pattern::Case;
+use crate::rules::Rules;
 
 /// What lists are asked: which of their patterns match this path.
 #[derive(Debug, Drop)]
@@ -10,5 +10,5 @@ pub(crate) struct Question<'q, 'p> {
     pub(crate) path: &'q RepositoryPath<'p>,
     /// What the path shows.
     pub(crate) probe: Probe,
-    pub(crate) case: Case,
+    pub(crate) rules: Rules,
 }

@@ -88,7 +88,7 @@ impl ListRows {
         requires of { AreRowsOf (entry_list_of T.seen list.now) self.now }
         requires folder { HasFolder (entry_list_of T.seen list.now) }
         requires shows { Shows question.now.path.now.bytes question.now.probe }
-        ensures last { IsLastMatch (entry_list_of T.seen list.now) question.now.path.now question.now.case result }
+        ensures last { IsLastMatch (entry_list_of T.seen list.now) question.now.path.now question.now.rules result }
         ensures spends { Spends (entry_list_of T.seen list.now) (length question.now.path.now.bytes) counts.old counts.new }
     {
         let rest = self.rest(list, question, counts)?;
@@ -109,8 +109,8 @@ impl ListRows {
         requires folder { HasFolder (entry_list_of T.seen list.now) }
         requires shows { Shows question.now.path.now.bytes question.now.probe }
         ensures rest { MatchOption result
-            ((m : ℕ) → ¬ AnswersAt (entry_list_of T.seen list.now) question.now.path.now.bytes question.now.path.now.is_dir question.now.case m)
-            (IsRest (entry_list_of T.seen list.now) question.now.path.now question.now.case) }
+            ((m : ℕ) → ¬ AnswersAt (entry_list_of T.seen list.now) question.now.path.now.bytes question.now.path.now.is_dir question.now.rules m)
+            (IsRest (entry_list_of T.seen list.now) question.now.path.now question.now.rules) }
         ensures looks { LooksUpTo counts.old counts.new (strip_looks (entry_list_of T.seen list.now).base (length question.now.path.now.bytes)) }
     {
         // a law does nothing: it is called for what it ensures
@@ -118,7 +118,9 @@ impl ListRows {
         if self.is_passed_over(&question.probe) {
             return None;
         }
-        question.path.under_with_counts(list, question.case, counts)
+        question
+            .path
+            .under_with_counts(list, question.rules.case, counts)
     }
 
     /// The start of a walk over the rows of the list.
@@ -160,12 +162,12 @@ impl ListRows {
         requires of { AreRowsOf (entry_list_of T.seen list.now) self.now }
         requires folder { HasFolder (entry_list_of T.seen list.now) }
         requires shows { Shows question.now.path.now.bytes question.now.probe }
-        requires rest { IsRest (entry_list_of T.seen list.now) question.now.path.now question.now.case rest.now }
+        requires rest { IsRest (entry_list_of T.seen list.now) question.now.path.now question.now.rules rest.now }
         requires walk { IsWalkOf self.now question.now.probe walk.old }
         ensures walk { IsWalkOf self.now question.now.probe walk.new }
         ensures next { MatchOption result
-            (NoneAnswers (entry_list_of T.seen list.now) question.now.path.now question.now.case 0 walk.old.passed_from)
-            (IsNextMatch (entry_list_of T.seen list.now) question.now.path.now question.now.case walk.new.passed_from walk.old.passed_from) }
+            (NoneAnswers (entry_list_of T.seen list.now) question.now.path.now question.now.rules 0 walk.old.passed_from)
+            (IsNextMatch (entry_list_of T.seen list.now) question.now.path.now question.now.rules walk.new.passed_from walk.old.passed_from) }
         ensures spends { SpendsDown (entry_list_of T.seen list.now) (length question.now.path.now.bytes)
             walk.old.passed_from walk.new.passed_from counts.old counts.new }
     {
@@ -178,7 +180,7 @@ impl ListRows {
         'candidates: while let Some(m) = walk.next::<true, S, L>(rows, heads, probe, counts) {
             let row = &rows[m];
             let pattern = mappings[m].pattern.view();
-            if is_answer(row, probe, pattern, rest, question.case, counts) {
+            if is_answer(row, probe, pattern, rest, question.rules, counts) {
                 return Some(m);
             }
         }

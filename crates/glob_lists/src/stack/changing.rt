@@ -12,7 +12,7 @@ use crate::deciding::list_stack::ListStack;
 use crate::list::prepared_list::PreparedList;
 use crate::list::question::Question;
 use crate::path::RepositoryPath;
-use gix_glob::pattern::Case;
+use crate::rules::Rules;
 use gix_glob::search;
 use gix_glob::wildmatch::Counts;
 use std::marker::Brand;
@@ -23,12 +23,12 @@ use std::sync::ledger::{Blank, Ledger};
 pub fn decide_prepared<T: search::Pattern>(
     lists: &[PreparedList<T>],
     path: &RepositoryPath<'_>,
-    case: Case,
+    rules: Rules,
 ) -> Option<(usize, usize)>
     requires folders { BasesAreFolders (map (entry_list_of T.seen) lists.now) }
-    ensures { Decides (map (entry_list_of T.seen) lists.now) path.now.bytes path.now.is_dir case result }
+    ensures { Decides (map (entry_list_of T.seen) lists.now) path.now.bytes path.now.is_dir rules result }
 {
-    decide_with_new_counts::<T, Brand, Brand>(lists, path, case, (Blank::new(1), Blank::new(1)))
+    decide_with_new_counts::<T, Brand, Brand>(lists, path, rules, (Blank::new(1), Blank::new(1)))
 }
 
 /// Which pattern decides about a path, with new counts that no one asks for.
@@ -36,17 +36,17 @@ pub fn decide_prepared<T: search::Pattern>(
 fn decide_with_new_counts<T: search::Pattern, S: Ledger, L: Ledger>(
     lists: &[PreparedList<T>],
     path: &RepositoryPath<'_>,
-    case: Case,
+    rules: Rules,
     blanks: (Blank, Blank),
 ) -> Option<(usize, usize)>
     requires folders { BasesAreFolders (map (entry_list_of T.seen) lists.now) }
     requires steps { IsBlankOf S.name S.parts blanks.0 }
     requires looks { IsBlankOf L.name L.parts blanks.1 }
-    ensures { Decides (map (entry_list_of T.seen) lists.now) path.now.bytes path.now.is_dir case result }
+    ensures { Decides (map (entry_list_of T.seen) lists.now) path.now.bytes path.now.is_dir rules result }
 {
     let mut counts = Counts::<S, L>::new(blanks.0, blanks.1);
     let probe = probe_of(lists, path, &mut counts);
-    let question = Question { path, probe, case };
+    let question = Question { path, probe, rules };
     let question = &question;
     decide_among(&Asked { lists, question }, &mut counts)
 }
@@ -65,7 +65,7 @@ impl<'a, 'q, 'p, T: search::Pattern> AskedLists for Asked<'a, 'q, 'p, T> {
 
     ghost path = { λ asked. asked.question.now.path.now };
 
-    ghost case = { λ asked. asked.question.now.case };
+    ghost rules = { λ asked. asked.question.now.rules };
 
     ghost can_ask = { λ asked. BasesAreFolders (map (entry_list_of T.seen) asked.lists.now)
         × Shows asked.question.now.path.now.bytes asked.question.now.probe };
@@ -97,8 +97,8 @@ impl<'a, T: search::Pattern> ListStack for &'a [PreparedList<T>] {
     ghost is_lawful = { λ _. Unit {0} };
 
     #[inline(always)]
-    fn decide(&self, path: &RepositoryPath<'_>, case: Case) -> Option<(usize, usize)> {
-        decide_prepared(*self, path, case)
+    fn decide(&self, path: &RepositoryPath<'_>, rules: Rules) -> Option<(usize, usize)> {
+        decide_prepared(*self, path, rules)
     }
 
     #[inline(always)]

@@ -13,10 +13,10 @@ use crate::fault::IndexError;
 use crate::link::Link;
 use crate::list::question::Question;
 use crate::path::RepositoryPath;
+use crate::rules::Rules;
 use crate::stack::folders::{Folder, folders_of, last_near, last_up_to};
 use crate::stack::lists::PreparedLists;
 use crate::stack::way::{decide_from, matches_from};
-use gix_glob::pattern::Case;
 use gix_glob::search;
 use gix_glob::search::pattern::List;
 use gix_glob::wildmatch::Counts;
@@ -25,11 +25,11 @@ use std::marker::{Brand, Model};
 use std::sync::ledger::{Blank, Ledger};
 
 /// Lists of patterns, each prepared, and the folders of their bases. It is made once, and then tests only the few patterns that can
-/// match a path. Contracts see its lists, and whether the case of letters counts.
+/// match a path. Contracts see its lists, and the rules by which patterns are matched.
 #[derive(Debug, Drop)]
 pub struct ListIndex<'a, T: search::Pattern> {
     lists: PreparedLists<'a, T>,
-    case: Case,
+    rules: Rules,
     /// The folders of the lists, where going through those on the way of a path pays.
     folders: Option<Vec<Folder>>,
     /// How many bytes a path has at most of which the sets are made: as many as there are patterns, or 0 where none needs some.
@@ -45,7 +45,7 @@ impl<'a, T: search::Pattern> Model for ListIndex<'a, T> {
 
     ghost Value = { IndexedLists T T.Value };
 
-    ghost view = { λ index. record { lists = index.lists; case = index.case } };
+    ghost view = { λ index. record { lists = index.lists; rules = index.rules } };
 
     ghost invariant = { λ index. IfSome (option_map vec_items index.folders) (AreFolderedBy (map (entry_list_of T.seen) index.lists)) };
 }
@@ -83,10 +83,10 @@ impl<'a, T: search::Pattern> ListIndex<'a, T> {
     pub fn new(
         alloc: Global,
         lists: &'a [List<T>],
-        case: Case,
+        rules: Rules,
     ) -> Result<ListIndex<'a, T>, IndexError>
         requires folders { BasesAreFolders (map (entry_list_of T.seen) lists.now) }
-        ensures index { IfOk result (λ index. (index.lists ≡ lists.entry.now) × (index.case ≡ case)) }
+        ensures index { IfOk result (λ index. (index.lists ≡ lists.entry.now) × (index.rules ≡ rules)) }
         ensures too_many { IsErrOf result IndexError.TooMany ↔ AreTooMany (map (entry_list_of T.seen) lists.entry.now) }
     {
         let patterns = pattern_count(lists);
@@ -98,7 +98,7 @@ impl<'a, T: search::Pattern> ListIndex<'a, T> {
         let longest = if prepared.has_open() { patterns } else { 0 };
         Ok(ListIndex {
             lists: prepared,
-            case,
+            rules,
             folders,
             longest,
         })
@@ -111,11 +111,11 @@ impl<'a, T: search::Pattern> ListIndex<'a, T> {
         self.lists.lists()
     }
 
-    /// Whether the case of letters counts.
-    pub fn case(&self) -> Case
-        ensures { result ≡ self.now.case }
+    /// The rules by which patterns are matched.
+    pub fn rules(&self) -> Rules
+        ensures { result ≡ self.now.rules }
     {
-        self.case
+        self.rules
     }
 
     /// Which pattern decides about a path, as [`decide`](crate::decide) answers it for the lists. No memory is taken.
@@ -123,7 +123,7 @@ impl<'a, T: search::Pattern> ListIndex<'a, T> {
     /// Of many lists those alone are gone through whose base the path begins with, and of each list the patterns alone are tested that
     /// ask for nothing that the path doesn't show.
     pub fn decide(&self, path: &RepositoryPath<'_>) -> Option<(usize, usize)>
-        ensures { Decides (map (entry_list_of T.seen) self.now.lists) path.now.bytes path.now.is_dir self.now.case result }
+        ensures { Decides (map (entry_list_of T.seen) self.now.lists) path.now.bytes path.now.is_dir self.now.rules result }
     {
         self.decide_near(path, &mut Cursor::new())
     }
@@ -135,7 +135,7 @@ impl<'a, T: search::Pattern> ListIndex<'a, T> {
         path: &RepositoryPath<'_>,
         cursor: &mut Cursor,
     ) -> Option<(usize, usize)>
-        ensures { Decides (map (entry_list_of T.seen) self.now.lists) path.now.bytes path.now.is_dir self.now.case result }
+        ensures { Decides (map (entry_list_of T.seen) self.now.lists) path.now.bytes path.now.is_dir self.now.rules result }
     {
         self.decide_near_with_new_counts::<Brand, Brand>(path, cursor, Blank::new(1), Blank::new(1))
     }
@@ -151,7 +151,7 @@ impl<'a, T: search::Pattern> ListIndex<'a, T> {
     ) -> Option<(usize, usize)>
         requires steps { IsBlankOf S.name S.parts steps }
         requires looks { IsBlankOf L.name L.parts looks }
-        ensures { Decides (map (entry_list_of T.seen) self.now.lists) path.now.bytes path.now.is_dir self.now.case result }
+        ensures { Decides (map (entry_list_of T.seen) self.now.lists) path.now.bytes path.now.is_dir self.now.rules result }
     {
         let mut counts = Counts::<S, L>::new(steps, looks);
         let question = self.question(path, &mut counts);
@@ -177,7 +177,7 @@ impl<'a, T: search::Pattern> ListIndex<'a, T> {
         path: &RepositoryPath<'_>,
         counts: &mut Counts<S, L>,
     ) -> Option<(usize, usize)>
-        ensures exact { Decides (map (entry_list_of T.seen) self.now.lists) path.now.bytes path.now.is_dir self.now.case result }
+        ensures exact { Decides (map (entry_list_of T.seen) self.now.lists) path.now.bytes path.now.is_dir self.now.rules result }
         ensures steps { counts.new.steps
             ≤ counts.old.steps + decision_step_limit (map (entry_list_of T.seen) self.now.lists) (length path.now.bytes) }
         ensures looks { counts.new.looks
@@ -203,7 +203,7 @@ impl<'a, T: search::Pattern> ListIndex<'a, T> {
         path: &'q RepositoryPath<'p>,
         counts: &mut Counts<S, L>,
     ) -> Question<'q, 'p>
-        ensures path { (result.path.now ≡ path.entry.now) × (result.case ≡ self.now.case) }
+        ensures path { (result.path.now ≡ path.entry.now) × (result.rules ≡ self.now.rules) }
         ensures shows { Shows result.path.now.bytes result.probe }
         ensures looks { LooksUpTo counts.old counts.new (3 * length path.entry.now.bytes + 1) }
     {
@@ -212,14 +212,14 @@ impl<'a, T: search::Pattern> ListIndex<'a, T> {
         Question {
             path,
             probe: Probe::new(bytes, path.basename_start(), has_sets, counts),
-            case: self.case,
+            rules: self.rules,
         }
     }
 
     /// Which pattern decides about a path, as [`ListIndex::decide`] answers it, and how many patterns were left to be asked: the fewer,
     /// the more the index saves. No memory is taken.
     pub fn decide_and_count(&self, path: &RepositoryPath<'_>) -> CountedDecision
-        ensures decides { Decides (map (entry_list_of T.seen) self.now.lists) path.now.bytes path.now.is_dir self.now.case result.pair }
+        ensures decides { Decides (map (entry_list_of T.seen) self.now.lists) path.now.bytes path.now.is_dir self.now.rules result.pair }
         ensures each_once { result.asked ≤ entry_count (map (entry_list_of T.seen) self.now.lists) }
         ensures some { IsSome result.pair → 0 < result.asked }
     {
@@ -236,7 +236,7 @@ impl<'a, T: search::Pattern> ListIndex<'a, T> {
     ) -> CountedDecision
         requires steps { IsBlankOf S.name S.parts steps }
         requires looks { IsBlankOf L.name L.parts looks }
-        ensures decides { Decides (map (entry_list_of T.seen) self.now.lists) path.now.bytes path.now.is_dir self.now.case result.pair }
+        ensures decides { Decides (map (entry_list_of T.seen) self.now.lists) path.now.bytes path.now.is_dir self.now.rules result.pair }
         ensures each_once { result.asked ≤ entry_count (map (entry_list_of T.seen) self.now.lists) }
         ensures some { IsSome result.pair → 0 < result.asked }
     {
@@ -259,7 +259,7 @@ impl<'a, T: search::Pattern> ListIndex<'a, T> {
         alloc: Global,
         path: &RepositoryPath<'_>,
     ) -> Result<Vec<(usize, usize)>, AllocError>
-        ensures { IfOk result (λ found. AreMatches (map (entry_list_of T.seen) self.now.lists) path.now.bytes path.now.is_dir self.now.case found.items) }
+        ensures { IfOk result (λ found. AreMatches (map (entry_list_of T.seen) self.now.lists) path.now.bytes path.now.is_dir self.now.rules found.items) }
     {
         let mut pairs = Vec::new(alloc);
         self.matches_into(path, &mut pairs)?;
@@ -276,7 +276,7 @@ impl<'a, T: search::Pattern> ListIndex<'a, T> {
         path: &RepositoryPath<'_>,
         pairs: &mut Vec<(usize, usize)>,
     ) -> Result<(), AllocError>
-        ensures { OnOk result (AreMatches (map (entry_list_of T.seen) self.now.lists) path.now.bytes path.now.is_dir self.now.case pairs.new.items) }
+        ensures { OnOk result (AreMatches (map (entry_list_of T.seen) self.now.lists) path.now.bytes path.now.is_dir self.now.rules pairs.new.items) }
     {
         self.matches_with_new_counts::<Brand, Brand>(path, pairs, Blank::new(1), Blank::new(1))
     }
@@ -292,7 +292,7 @@ impl<'a, T: search::Pattern> ListIndex<'a, T> {
     ) -> Result<(), AllocError>
         requires steps { IsBlankOf S.name S.parts steps }
         requires looks { IsBlankOf L.name L.parts looks }
-        ensures { OnOk result (AreMatches (map (entry_list_of T.seen) self.now.lists) path.now.bytes path.now.is_dir self.now.case pairs.new.items) }
+        ensures { OnOk result (AreMatches (map (entry_list_of T.seen) self.now.lists) path.now.bytes path.now.is_dir self.now.rules pairs.new.items) }
     {
         let mut counts = Counts::<S, L>::new(steps, looks);
         let question = self.question(path, &mut counts);

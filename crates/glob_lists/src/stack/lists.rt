@@ -79,7 +79,7 @@ impl<'a, T: search::Pattern> PreparedLists<'a, T> {
     pub(crate) fn count_shown_from(&self, i: usize, m: usize, question: &Question<'_, '_>) -> usize
         requires shows { Shows question.now.path.now.bytes question.now.probe }
         ensures few { result ≤ entry_count (map (entry_list_of T.seen) self.now) }
-        ensures some { PairAnswers (map (entry_list_of T.seen) self.now) question.now.path.now.bytes question.now.path.now.is_dir question.now.case i m → 0 < result }
+        ensures some { PairAnswers (map (entry_list_of T.seen) self.now) question.now.path.now.bytes question.now.path.now.is_dir question.now.rules i m → 0 < result }
     {
         // a law does nothing: it is called for what it ensures
         laws::answering_patterns_pass();
@@ -101,7 +101,7 @@ impl<'a, T: search::Pattern> PreparedLists<'a, T> {
     ) -> Option<usize>
         requires inside { i < length self.now }
         requires shows { Shows question.now.path.now.bytes question.now.probe }
-        ensures last { IsLastOfList (map (entry_list_of T.seen) self.now) question.now.path.now question.now.case i result }
+        ensures last { IsLastOfList (map (entry_list_of T.seen) self.now) question.now.path.now question.now.rules i result }
         ensures spends { SpendsOnList (map (entry_list_of T.seen) self.now) i (length question.now.path.now.bytes) counts.old counts.new }
     {
         self.rows[i].last_match(&self.lists[i], question, counts)
@@ -114,7 +114,7 @@ impl<'a, T: search::Pattern> PreparedLists<'a, T> {
         counts: &mut Counts<S, L>,
     ) -> Option<(usize, usize)>
         requires shows { Shows question.now.path.now.bytes question.now.probe }
-        ensures exact { Decides (map (entry_list_of T.seen) self.now) question.now.path.now.bytes question.now.path.now.is_dir question.now.case result }
+        ensures exact { Decides (map (entry_list_of T.seen) self.now) question.now.path.now.bytes question.now.path.now.is_dir question.now.rules result }
         ensures spends { SpendsOnAll (map (entry_list_of T.seen) self.now) (length question.now.path.now.bytes) counts.old counts.new }
     {
         let lists = self;
@@ -129,7 +129,7 @@ impl<'a, T: search::Pattern> PreparedLists<'a, T> {
         counts: &mut Counts<S, L>,
     ) -> Result<(), AllocError>
         requires shows { Shows question.now.path.now.bytes question.now.probe }
-        ensures { OnOk result (AreMatches (map (entry_list_of T.seen) self.now) question.now.path.now.bytes question.now.path.now.is_dir question.now.case pairs.new.items) }
+        ensures { OnOk result (AreMatches (map (entry_list_of T.seen) self.now) question.now.path.now.bytes question.now.path.now.is_dir question.now.rules pairs.new.items) }
     {
         pairs.clear();
         'lists: for i in (0..self.lists.len()).rev() {
@@ -149,8 +149,8 @@ impl<'a, T: search::Pattern> PreparedLists<'a, T> {
     ) -> Result<(), AllocError>
         requires inside { i < length self.now }
         requires shows { Shows question.now.path.now.bytes question.now.probe }
-        requires found { AreFoundFrom (map (entry_list_of T.seen) self.now) question.now.path.now question.now.case (i + 1) 0 pairs.old.items }
-        ensures { OnOk result (AreFoundFrom (map (entry_list_of T.seen) self.now) question.now.path.now question.now.case i 0 pairs.new.items) }
+        requires found { AreFoundFrom (map (entry_list_of T.seen) self.now) question.now.path.now question.now.rules (i + 1) 0 pairs.old.items }
+        ensures { OnOk result (AreFoundFrom (map (entry_list_of T.seen) self.now) question.now.path.now question.now.rules i 0 pairs.new.items) }
     {
         let rows = &self.rows[i];
         let list = &self.lists[i];
@@ -179,7 +179,7 @@ impl<'a, 'l, 'q, 'p, T: search::Pattern> AskedLists for Asked<'a, 'l, 'q, 'p, T>
 
     ghost path = { λ asked. asked.question.now.path.now };
 
-    ghost case = { λ asked. asked.question.now.case };
+    ghost rules = { λ asked. asked.question.now.rules };
 
     ghost can_ask = { λ asked. Shows asked.question.now.path.now.bytes asked.question.now.probe };
 

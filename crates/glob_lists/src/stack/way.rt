@@ -30,7 +30,7 @@ pub(crate) fn decide_from<T: search::Pattern, S: Ledger, L: Ledger>(
     requires folders { AreFolderedBy (map (entry_list_of T.seen) lists.now) folders.now }
     requires last { IsLastUpTo (map (entry_list_of T.seen) lists.now) folders.now question.now.path.now.bytes last }
     requires shows { Shows question.now.path.now.bytes question.now.probe }
-    ensures exact { Decides (map (entry_list_of T.seen) lists.now) question.now.path.now.bytes question.now.path.now.is_dir question.now.case result }
+    ensures exact { Decides (map (entry_list_of T.seen) lists.now) question.now.path.now.bytes question.now.path.now.is_dir question.now.rules result }
     ensures spends { SpendsOnAll (map (entry_list_of T.seen) lists.now) (length question.now.path.now.bytes) counts.old counts.new }
 {
     let mut link = last;
@@ -58,7 +58,7 @@ pub(crate) fn matches_from<T: search::Pattern, S: Ledger, L: Ledger>(
     requires folders { AreFolderedBy (map (entry_list_of T.seen) lists.now) folders.now }
     requires last { IsLastUpTo (map (entry_list_of T.seen) lists.now) folders.now question.now.path.now.bytes last }
     requires shows { Shows question.now.path.now.bytes question.now.probe }
-    ensures { OnOk result (AreMatches (map (entry_list_of T.seen) lists.now) question.now.path.now.bytes question.now.path.now.is_dir question.now.case pairs.new.items) }
+    ensures { OnOk result (AreMatches (map (entry_list_of T.seen) lists.now) question.now.path.now.bytes question.now.path.now.is_dir question.now.rules pairs.new.items) }
 {
     pairs.clear();
     let mut link = last;

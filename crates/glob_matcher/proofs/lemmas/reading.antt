@@ -7,3 +7,4 @@ pub mod TokenKinds
 pub mod Existence
 pub mod Starts
 pub mod ForwardReading
+pub mod WayLemmas

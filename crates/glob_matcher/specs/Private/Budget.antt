@@ -2,7 +2,7 @@
 -- as of its looks. After the test of the last byte, which is one step, each pair of a token and a place of the value is tested
 -- at most once, since a star between two slashes of the pattern looks at one component of the value.
 use Rattle.std.specs.Prelude.{◌≡◌, ℕ, ◌+◌, ◌*◌, ◌<◌, ◌≤◌, List, length, Option, Some, None}
-use Rattle.glob_matcher.specs.declared.wildmatch.mode.Mode.{Mode}
+use Rattle.glob_matcher.specs.declared.wildmatch.way.Way.{Way}
 use Rattle.glob_matcher.specs.declared.wildmatch.marks.Mark.{Mark}
 use Rattle.glob_matcher.specs.declared.wildmatch.state.Crossing.{Crossing}
 use Rattle.glob_matcher.specs.declared.wildmatch.state.Crossing.TheVariants as crossing
@@ -15,23 +15,23 @@ use Rattle.glob_matcher.specs.Private.SizedTokens.{SizedToken, SizedTokensFrom}
 use Rattle.glob_matcher.specs.Private.Prices.{Measure, move, first_test, places_left, cost, next_tests_at, component_cost}
 
 -- A test at place i of the pattern, or at its end, took the count from `before` to `after` at most.
-pub record IsTest (measure : Measure) (mode : Mode) (p : List ℕ) (i before after : ℕ) : Type 0 where
-  pub high : (xs : List SizedToken) → SizedTokensFrom mode p i xs → after ≤ before + first_test measure xs
+pub record IsTest (measure : Measure) (way : Way) (p : List ℕ) (i before after : ℕ) : Type 0 where
+  pub high : (xs : List SizedToken) → SizedTokensFrom way p i xs → after ≤ before + first_test measure xs
 
-module _ (measure : Measure) (mode : Mode) (p v : List ℕ) where
+module _ (measure : Measure) (way : Way) (p v : List ℕ) where
   -- What the crossing mark may still cost is at most `rest`.
   pub record FreeRest (place at rest : ℕ) : Type 0 where
     pub tokens : List SizedToken
-    pub read : SizedTokensFrom mode p place tokens
+    pub read : SizedTokensFrom way p place tokens
     pub inside : at ≤ length v
-    pub skips : (k : ℕ) → next_tests_at mode v tokens k ≡ k + 1
-    pub enough : cost measure mode v tokens (at + 1) + move measure * places_left v at ≤ rest
+    pub skips : (k : ℕ) → next_tests_at way v tokens k ≡ k + 1
+    pub enough : cost measure way v tokens (at + 1) + move measure * places_left v at ≤ rest
 
   pub record DirsRest (place at rest : ℕ) : Type 0 where
     pub tokens : List SizedToken
-    pub read : SizedTokensFrom mode p place tokens
+    pub read : SizedTokensFrom way p place tokens
     pub inside : at ≤ length v
-    pub enough : cost measure mode v tokens (next_component mode v at) + move measure * places_left v at ≤ rest
+    pub enough : cost measure way v tokens (next_component way v at) + move measure * places_left v at ≤ rest
 
   abbrev pub CrossingRest : Crossing → ℕ → Type 0
   CrossingRest crossing.Unmet rest = Unit {0}
@@ -41,12 +41,12 @@ module _ (measure : Measure) (mode : Mode) (p v : List ℕ) where
   -- What the local mark may still cost: the count may go on from here, and from the mark.
   pub record LocalRest (xs : List SizedToken) (k rest spent limit place at : ℕ) : Type 0 where
     pub tokens : List SizedToken
-    pub read : SizedTokensFrom mode p place tokens
+    pub read : SizedTokensFrom way p place tokens
     pub inside : at ≤ length v
-    pub later : cost measure mode v tokens (next_component mode v at) ≤ rest
-    pub here : spent + cost measure mode v xs k + rest ≤ limit + cost measure mode v xs (next_component mode v k)
-    pub back : spent + cost measure mode v tokens at + component_cost measure mode xs + move measure * next_component mode v at + rest
-        ≤ limit + component_cost measure mode tokens + cost measure mode v tokens (next_component mode v at) + move measure * at
+    pub later : cost measure way v tokens (next_component way v at) ≤ rest
+    pub here : spent + cost measure way v xs k + rest ≤ limit + cost measure way v xs (next_component way v k)
+    pub back : spent + cost measure way v tokens at + component_cost measure way xs + move measure * next_component way v at + rest
+        ≤ limit + component_cost measure way tokens + cost measure way v tokens (next_component way v at) + move measure * at
 
   -- the same, where a local mark is set
   abbrev pub LocalRestIfSet : List SizedToken → ℕ → ℕ → ℕ → ℕ → Option Mark → Type 0
@@ -56,16 +56,16 @@ module _ (measure : Measure) (mode : Mode) (p v : List ℕ) where
   -- The engine stands here after a count of `spent`, and it will count no more than `limit` in all.
   pub record Owes (state : State) (spent limit : ℕ) : Type 0 where
     pub tokens : List SizedToken
-    pub read : SizedTokensFrom mode p state.place tokens
+    pub read : SizedTokensFrom way p state.place tokens
     pub rest : ℕ
     pub crossing : CrossingRest state.crossing rest
-    pub later : cost measure mode v tokens (next_component mode v state.at) ≤ rest
-    pub here : spent + cost measure mode v tokens state.at + rest ≤ limit + cost measure mode v tokens (next_tests_at mode v tokens state.at)
+    pub later : cost measure way v tokens (next_component way v state.at) ≤ rest
+    pub here : spent + cost measure way v tokens state.at + rest ≤ limit + cost measure way v tokens (next_tests_at way v tokens state.at)
     pub local : LocalRestIfSet tokens state.at rest spent limit state.local
 
   -- So it is, where the pattern is read in tokens.
   pub record AllowsAt (state : State) (spent limit : ℕ) : Type 0 where
-    pub all : (xs : List SizedToken) → SizedTokensFrom mode p 0 xs → Owes state spent limit
+    pub all : (xs : List SizedToken) → SizedTokensFrom way p 0 xs → Owes state spent limit
 
   -- After a count of `spent` the crossing mark alone is left, and `limit` is enough.
   pub record OwesLeft (c : Crossing) (spent limit : ℕ) : Type 0 where
@@ -74,12 +74,12 @@ module _ (measure : Measure) (mode : Mode) (p v : List ℕ) where
     pub enough : spent + rest ≤ limit
 
   pub record AllowsLeft (c : Crossing) (spent limit : ℕ) : Type 0 where
-    pub all : (xs : List SizedToken) → SizedTokensFrom mode p 0 xs → OwesLeft c spent limit
+    pub all : (xs : List SizedToken) → SizedTokensFrom way p 0 xs → OwesLeft c spent limit
 
   -- One test ago the engine stood here, and `limit` is enough.
   pub record AllowsMiss (state : State) (spent limit : ℕ) : Type 0 where
     pub before : ℕ
-    pub tested : IsTest measure mode p state.place before spent
+    pub tested : IsTest measure way p state.place before spent
     pub allows : AllowsAt state before limit
 
   -- What a turn, and going back to a mark, leave of the budget.

@@ -1,7 +1,7 @@
 -- Components of a value, as the engine with two marks sees them: where one ends, and where the next begins. In plain mode each
 -- byte is a component of its own.
 use Rattle.std.specs.Prelude.{ℕ, suc, ◌+◌, Bool, true, false, not, ◌==◌, List, [], ◌∷◌, drop, if◌then◌else◌}
-use Rattle.glob_matcher.specs.declared.wildmatch.mode.Mode.{Mode}
+use Rattle.glob_matcher.specs.declared.wildmatch.way.Way.{Way}
 use Rattle.glob_matcher.specs.Bytes.{is_path, slash}
 use Rattle.glob_matcher.specs.Tokens.{Token, Byte, Any, OneOf}
 
@@ -10,8 +10,8 @@ abbrev pub ends_by : Bool → ℕ → Bool
 ends_by true b = b == slash
 ends_by false b = true
 
-abbrev pub ends : Mode → ℕ → Bool
-ends mode b = ends_by (is_path mode) b
+abbrev pub ends : Way → ℕ → Bool
+ends way b = ends_by (is_path way) b
 
 -- a token takes what ends a component: in path mode a slash, in plain mode each token of one byte
 abbrev pub separates_by : Bool → Token → Bool
@@ -20,14 +20,14 @@ separates_by path Any = not path
 separates_by path (OneOf s) = not path
 separates_by path _ = false
 
-abbrev pub separates : Mode → Token → Bool
-separates mode t = separates_by (is_path mode) t
+abbrev pub separates : Way → Token → Bool
+separates way t = separates_by (is_path way) t
 
 -- how many places on the next component begins
-unfoldable pub reach : Mode → List ℕ → ℕ
-reach mode [] = 1
-reach mode (b ∷ bs) = if ends mode b then 1 else suc (reach mode bs)
+unfoldable pub reach : Way → List ℕ → ℕ
+reach way [] = 1
+reach way (b ∷ bs) = if ends way b then 1 else suc (reach way bs)
 
 -- the place where the next component begins, or the place past the value's end
-unfoldable pub next_component : Mode → List ℕ → ℕ → ℕ
-next_component mode v k = k + reach mode (drop k v)
+unfoldable pub next_component : Way → List ℕ → ℕ → ℕ
+next_component way v k = k + reach way (drop k v)

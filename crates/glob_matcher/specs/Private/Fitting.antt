@@ -1,6 +1,6 @@
 -- What a token takes of the value: a byte that fits it, a stretch that a star token spans, a set that is tested at a byte.
 use Rattle.std.specs.Prelude.{◌≡◌, ◌≢◌, ◌↔◌, ◌⊎◌, ℕ, ◌-◌, ◌<◌, ◌≤◌, ⊤, Bool, IsTrue, List, length, slice_index}
-use Rattle.glob_matcher.specs.declared.wildmatch.mode.Mode.{Mode}
+use Rattle.glob_matcher.specs.declared.wildmatch.way.Way.{Way}
 use Rattle.glob_matcher.specs.declared.wildmatch.tokens.TokenKind.{TokenKind}
 use Rattle.glob_matcher.specs.declared.wildmatch.tokens.TokenKind.TheVariants as kind
 use Rattle.glob_matcher.specs.Bytes.{NoSlash, fold, is_path, slash}
@@ -14,11 +14,11 @@ pub record AfterSlash (value : List ℕ) (k e : ℕ) : Type 0 where
   pub slash : slice_index value (e - 1) ≡ slash
 
 -- a token of one byte takes this byte
-abbrev pub Fits : Mode → Token → ℕ → Type 0
-Fits mode (Byte b) c = fold mode c ≡ fold mode b
-Fits mode Any c = IsTrue (is_path mode) → c ≢ slash
-Fits mode (OneOf set) c = IsTrue (set_holds mode set c)
-Fits mode _ c = ⊥
+abbrev pub Fits : Way → Token → ℕ → Type 0
+Fits way (Byte b) c = fold way c ≡ fold way b
+Fits way Any c = IsTrue (is_path way) → c ≢ slash
+Fits way (OneOf set) c = IsTrue (set_holds way set c)
+Fits way _ c = ⊥
 
 -- a star token of this kind takes the value's bytes from place k up to place e
 abbrev pub Spans : TokenKind → List ℕ → ℕ → ℕ → Type 0
@@ -28,9 +28,9 @@ Spans kind.Dirs value k e = (e ≡ k) ⊎ AfterSlash value k e
 Spans _ value k e = ⊥
 
 -- The set from place i up to place j is tested at place k of the value: whether the value has a byte there that it holds.
-pub record IsSetTested (mode : Mode) (p v : List ℕ) (i k j : ℕ) (holds : Bool) : Type 0 where
+pub record IsSetTested (way : Way) (p v : List ℕ) (i k j : ℕ) (holds : Bool) : Type 0 where
   pub set : Set
   pub here : SetAt p i set j
   pub past : i < j
   pub inside : j ≤ length p
-  pub answer : IsTrue holds ↔ ((k < length v) × Fits mode (OneOf set) (slice_index v k))
+  pub answer : IsTrue holds ↔ ((k < length v) × Fits way (OneOf set) (slice_index v k))

@@ -1,7 +1,7 @@
 -- What the engine with two marks may take at the tokens of a pattern, by the place of the value at which it stands. What is
 -- counted is either its steps or its looks.
 use Rattle.std.specs.Prelude.{ℕ, ◌+◌, ◌-◌, ◌*◌, Bool, List, [], ◌∷◌, length, if◌then◌else◌}
-use Rattle.glob_matcher.specs.declared.wildmatch.mode.Mode.{Mode}
+use Rattle.glob_matcher.specs.declared.wildmatch.way.Way.{Way}
 use Rattle.glob_matcher.specs.Steps.{Counts}
 use Rattle.glob_matcher.specs.Tokens.{Token}
 use Rattle.glob_matcher.specs.Private.Reader.{kind_of, is_star}
@@ -45,24 +45,24 @@ first_test measure [] = 1
 first_test measure (x ∷ xs) = test measure x
 
 -- where the tests of the token after one begin
-unfoldable pub tests_after : Mode → List ℕ → Bool → ℕ → ℕ
-tests_after mode v apart k = if apart then next_component mode v k else k
+unfoldable pub tests_after : Way → List ℕ → Bool → ℕ → ℕ
+tests_after way v apart k = if apart then next_component way v k else k
 
 -- the places from k on, the value's end included
 unfoldable pub places_left : List ℕ → ℕ → ℕ
 places_left v k = length v + 1 - k
 
 -- what the tokens may take from place k of the value on, over all the later places of the mark before them
-unfoldable pub cost : Measure → Mode → List ℕ → List SizedToken → ℕ → ℕ
-cost measure mode v [] k = places_left v k
-cost measure mode v (x ∷ xs) k = token_cost measure x * places_left v k + cost measure mode v xs (tests_after mode v (separates mode x.token) k)
+unfoldable pub cost : Measure → Way → List ℕ → List SizedToken → ℕ → ℕ
+cost measure way v [] k = places_left v k
+cost measure way v (x ∷ xs) k = token_cost measure x * places_left v k + cost measure way v xs (tests_after way v (separates way x.token) k)
 
 -- the place where the next tests of these tokens may begin
-unfoldable pub next_tests_at : Mode → List ℕ → List SizedToken → ℕ → ℕ
-next_tests_at mode v [] k = next_component mode v k
-next_tests_at mode v (x ∷ xs) k = if separates mode x.token then k + 1 else next_component mode v k
+unfoldable pub next_tests_at : Way → List ℕ → List SizedToken → ℕ → ℕ
+next_tests_at way v [] k = next_component way v k
+next_tests_at way v (x ∷ xs) k = if separates way x.token then k + 1 else next_component way v k
 
 -- what the tokens up to the first that ends a component, or the pattern's end, may take at one place
-unfoldable pub component_cost : Measure → Mode → List SizedToken → ℕ
-component_cost measure mode [] = 1
-component_cost measure mode (x ∷ xs) = token_cost measure x + (if separates mode x.token then 0 else component_cost measure mode xs)
+unfoldable pub component_cost : Measure → Way → List SizedToken → ℕ
+component_cost measure way [] = 1
+component_cost measure way (x ∷ xs) = token_cost measure x + (if separates way x.token then 0 else component_cost measure way xs)

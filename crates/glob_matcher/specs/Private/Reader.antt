@@ -6,7 +6,7 @@ use Rattle.glob_matcher.specs.declared.wildmatch.sets.SetRead.{SetRead}
 use Rattle.glob_matcher.specs.declared.wildmatch.sets.Spelled.{Spelled}
 use Rattle.glob_matcher.specs.declared.wildmatch.sets.NextItem.{NextItem}
 use Rattle.glob_matcher.specs.declared.wildmatch.sets.NextItem.TheVariants as next_item
-use Rattle.glob_matcher.specs.declared.wildmatch.mode.Mode.{Mode}
+use Rattle.glob_matcher.specs.declared.wildmatch.way.Way.{Way}
 use Rattle.glob_matcher.specs.declared.wildmatch.tokens.TokenKind.{TokenKind}
 use Rattle.glob_matcher.specs.declared.wildmatch.tokens.TokenKind.TheVariants as kind
 use Rattle.glob_matcher.specs.Bytes.{HasByte}
@@ -24,17 +24,17 @@ IsNextItem text first low i next_item.Close = ItemsAt text first low i [] i × (
 IsNextItem text first low i next_item.Broken = (xs : List Item) (j : ℕ) → ¬ ItemsAt text first low i xs j
 
 -- A set is spelled from place i up to place j, past i and inside the text, and this tells whether it holds byte b.
-pub record IsSetThatHolds (mode : Mode) (text : List ℕ) (i b j : ℕ) (holds : Bool) : Type 0 where
+pub record IsSetThatHolds (way : Way) (text : List ℕ) (i b j : ℕ) (holds : Bool) : Type 0 where
   pub set : Set
   pub here : SetAt text i set j
   pub past : i < j
   pub inside : j ≤ length text
-  pub answer : holds ≡ set_holds mode set b
+  pub answer : holds ≡ set_holds way set b
 
 -- What is read at place i: where the set ends that begins there, and whether it holds byte b; or that none begins.
-abbrev pub IsSetRead : Mode → List ℕ → ℕ → ℕ → Option SetRead → Type 0
-IsSetRead mode text i b found =
-    MatchOption found ((set : Set) (j : ℕ) → ¬ SetAt text i set j) (λ set. IsSetThatHolds mode text i b set.end set.holds)
+abbrev pub IsSetRead : Way → List ℕ → ℕ → ℕ → Option SetRead → Type 0
+IsSetRead way text i b found =
+    MatchOption found ((set : Set) (j : ℕ) → ¬ SetAt text i set j) (λ set. IsSetThatHolds way text i b set.end set.holds)
 
 -- where the items of the set begin whose bracket stands at place i
 abbrev pub first_item : Bool → ℕ → ℕ
@@ -65,9 +65,9 @@ is_star kind.Dirs = true
 is_star _ = false
 
 -- A token of this kind is spelled from place i up to place j, past i and inside the pattern.
-pub record IsToken (mode : Mode) (pattern : List ℕ) (i : ℕ) (kind : TokenKind) (j : ℕ) : Type 0 where
+pub record IsToken (way : Way) (pattern : List ℕ) (i : ℕ) (kind : TokenKind) (j : ℕ) : Type 0 where
   pub token : Token
-  pub here : TokenAt mode pattern i token j
+  pub here : TokenAt way pattern i token j
   pub same_kind : kind ≡ kind_of token
   pub past : i < j
   pub inside : j ≤ length pattern

@@ -1,6 +1,6 @@
 -- What the engine with two marks looks for from a mark: the byte that follows a star in the pattern, or the pattern's end.
 use Rattle.std.specs.Prelude.{◌≡◌, ℕ, ◌+◌, ◌-◌, ◌*◌, ◌<◌, ◌≤◌, true, false, List, length, slice_index}
-use Rattle.glob_matcher.specs.declared.wildmatch.mode.Mode.{Mode}
+use Rattle.glob_matcher.specs.declared.wildmatch.way.Way.{Way}
 use Rattle.glob_matcher.specs.declared.wildmatch.marks.Mark.{Mark}
 use Rattle.glob_matcher.specs.declared.wildmatch.needle.Follow.{Follow}
 use Rattle.glob_matcher.specs.declared.wildmatch.needle.Follow.TheVariants as follow
@@ -11,10 +11,10 @@ use Rattle.glob_matcher.specs.Private.Takes.{Takes}
 use Rattle.glob_matcher.specs.Bytes.{HasByte, StandsForItself, folds}
 
 -- this follows at place i of the pattern
-abbrev pub Follows : Mode → List ℕ → ℕ → Follow → Type 0
-Follows mode p i (follow.Byte b) = HasByte p i b × StandsForItself b × (folds mode ≡ false)
-Follows mode p i (follow.Folded b) = HasByte p i b × StandsForItself b × (folds mode ≡ true)
-Follows mode p i follow.End = i ≡ length p
+abbrev pub Follows : Way → List ℕ → ℕ → Follow → Type 0
+Follows way p i (follow.Byte b) = HasByte p i b × StandsForItself b × (folds way ≡ false)
+Follows way p i (follow.Folded b) = HasByte p i b × StandsForItself b × (folds way ≡ true)
+Follows way p i follow.End = i ≡ length p
 
 -- a mark has moved, over bytes of which neither P nor B holds
 pub record HasPassed (v : List ℕ) (P B : ℕ → Type 0) (from to : Mark) : Type 0 where

@@ -42,7 +42,7 @@ impl<'c, 'a, S: Ledger, L: Ledger, M: Texts> Engine<'c, 'a, S, L, M> {
     fn scan_from<B: Barrier>(&mut self, mark: Mark, barrier: B) -> Scan
         requires place { mark.place ≤ length M.pattern }
         requires at { mark.at ≤ length M.value }
-        ensures { IsScanFor M.mode M.pattern M.value B.stops mark result self.old self.new }
+        ensures { IsScanFor M.way M.pattern M.value B.stops mark result self.old self.new }
     {
         match self.follow_at(mark.place()) {
             Some(Follow::Byte(byte)) => self.scan(mark, ExactByte(byte), barrier),
@@ -55,8 +55,8 @@ impl<'c, 'a, S: Ledger, L: Ledger, M: Texts> Engine<'c, 'a, S, L, M> {
     /// Goes back to the mark of a run of stars that crosses slashes, at its next place.
     #[inline(always)]
     fn back_to_free(&mut self, mark: Mark) -> Option<State>
-        requires { IsLeft M.mode M.pattern M.value (Crossing.Free mark) }
-        ensures { IsBacktrack M.mode M.pattern M.value (λ measure. AllowsLeft measure M.mode M.pattern M.value (Crossing.Free mark) (amount_of measure self.old)) result self.old self.new }
+        requires { IsLeft M.way M.pattern M.value (Crossing.Free mark) }
+        ensures { IsBacktrack M.way M.pattern M.value (λ measure. AllowsLeft measure M.way M.pattern M.value (Crossing.Free mark) (amount_of measure self.old)) result self.old self.new }
     {
         let Some((moved, _)) = self.pass(mark) else {
             return None;
@@ -81,8 +81,8 @@ impl<'c, 'a, S: Ledger, L: Ledger, M: Texts> Engine<'c, 'a, S, L, M> {
     /// Goes back to the crossing mark, at its next place.
     #[inline(always)]
     fn back_to_crossing(&mut self, crossing: Crossing) -> Option<State>
-        requires { IsLeft M.mode M.pattern M.value crossing }
-        ensures { IsBacktrack M.mode M.pattern M.value (λ measure. AllowsLeft measure M.mode M.pattern M.value crossing (amount_of measure self.old)) result self.old self.new }
+        requires { IsLeft M.way M.pattern M.value crossing }
+        ensures { IsBacktrack M.way M.pattern M.value (λ measure. AllowsLeft measure M.way M.pattern M.value crossing (amount_of measure self.old)) result self.old self.new }
     {
         match crossing {
             Crossing::Unmet => None,
@@ -117,8 +117,8 @@ impl<'c, 'a, S: Ledger, L: Ledger, M: Texts> Engine<'c, 'a, S, L, M> {
     /// Goes back to the local mark, at its next place in the component; `None` where there is none.
     #[inline(always)]
     fn back_to_local(&mut self, state: State) -> Option<State>
-        requires { IsMiss M.mode M.pattern M.value state }
-        ensures { IsBacktrackLocal M.mode M.pattern M.value state result self.old self.new }
+        requires { IsMiss M.way M.pattern M.value state }
+        ensures { IsBacktrackLocal M.way M.pattern M.value state result self.old self.new }
     {
         let Some(mark) = state.local else {
             return None;
@@ -146,8 +146,8 @@ impl<'c, 'a, S: Ledger, L: Ledger, M: Texts> Engine<'c, 'a, S, L, M> {
     /// Goes back to a mark from where a token does not fit.
     #[inline(always)]
     pub fn backtrack(&mut self, state: State) -> Option<State>
-        requires { IsMiss M.mode M.pattern M.value state }
-        ensures { IsBacktrack M.mode M.pattern M.value (λ measure. AllowsMiss measure M.mode M.pattern M.value state (amount_of measure self.old)) result self.old self.new }
+        requires { IsMiss M.way M.pattern M.value state }
+        ensures { IsBacktrack M.way M.pattern M.value (λ measure. AllowsMiss measure M.way M.pattern M.value state (amount_of measure self.old)) result self.old self.new }
     {
         match self.back_to_local(state) {
             Some(next) => Some(next),

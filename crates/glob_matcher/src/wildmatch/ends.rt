@@ -1,7 +1,7 @@
 //! What the ends of the texts tell of a match, before it is searched for.
 ghost use Rattle.std.specs.Prelude.{◌≡◌, ◌≢◌, ◌↔◌, ◌+◌, ◌≤◌, IsTrue, IfSome};
 ghost use Rattle.glob_matcher.specs.Bytes.{slash, star};
-ghost use Rattle.glob_matcher.specs.Matching.{Splits};
+ghost use Rattle.glob_matcher.specs.Matching.{SplitsBy};
 ghost use Rattle.glob_matcher.specs.Steps.{NeverFall};
 ghost use Rattle.glob_matcher.specs.Private.Spelling.{close_bracket, question_mark};
 ghost use Rattle.glob_matcher.specs.Private.Takes.{Takes};
@@ -22,7 +22,7 @@ impl<'c, 'a, S: Ledger, L: Ledger, M: Texts> Engine<'c, 'a, S, L, M> {
     /// Whether the pattern is one star that crosses slashes: it matches each value.
     #[inline(always)]
     fn is_lone_star(&mut self) -> bool
-        ensures meaning { IsTrue result → Splits M.value M.pattern M.mode }
+        ensures meaning { IsTrue result → SplitsBy M.value M.pattern M.way }
         ensures count { Takes self.old self.new 0 1 }
     {
         if self.pattern_len() != 1 {
@@ -38,7 +38,7 @@ impl<'c, 'a, S: Ledger, L: Ledger, M: Texts> Engine<'c, 'a, S, L, M> {
     /// byte that is alone matches no value that ends otherwise.
     #[inline(always)]
     pub fn ends_tell(&mut self) -> Option<bool>
-        ensures meaning { IfSome result (λ answer. IsTrue answer ↔ Splits M.value M.pattern M.mode) }
+        ensures meaning { IfSome result (λ answer. IsTrue answer ↔ SplitsBy M.value M.pattern M.way) }
         ensures steps { self.new.steps ≤ self.old.steps + 1 }
         ensures looks { self.new.looks ≤ self.old.looks + 2 }
         ensures grows { NeverFall self.old self.new }

@@ -6,8 +6,8 @@ ghost use Rattle.glob_matcher.specs.Private.Takes.{TakesExactly, looks_at};
 
 use super::counted_texts::CountedTexts;
 use super::counts::Counts;
-use super::mode::Mode;
 use super::texts::Texts;
+use super::way::Way;
 use std::marker::Model;
 use std::sync::ledger::Ledger;
 
@@ -15,7 +15,7 @@ use std::sync::ledger::Ledger;
 #[derive(Drop)]
 pub struct Engine<'c, 'a, S: Ledger, L: Ledger, M: Texts> {
     pub(super) texts: CountedTexts<'c, 'a, S, L, M>,
-    mode: Mode,
+    way: Way,
 }
 
 impl<'c, 'a, S: Ledger, L: Ledger, M: Texts> Model for Engine<'c, 'a, S, L, M> {
@@ -26,17 +26,17 @@ impl<'c, 'a, S: Ledger, L: Ledger, M: Texts> Model for Engine<'c, 'a, S, L, M> {
 
     ghost view = { λ e. e.texts };
 
-    ghost invariant = { λ e. e.mode ≡ M.mode };
+    ghost invariant = { λ e. e.way ≡ M.way };
 }
 
 impl<'c, 'a, S: Ledger, L: Ledger, M: Texts> Engine<'c, 'a, S, L, M> {
     /// The engine of a match.
     #[inline(always)]
-    pub fn new(texts: CountedTexts<'c, 'a, S, L, M>, mode: Mode) -> Self
-        requires { mode ≡ M.mode }
+    pub fn new(texts: CountedTexts<'c, 'a, S, L, M>, way: Way) -> Self
+        requires { way ≡ M.way }
         ensures { result ≡ texts.entry }
     {
-        Engine { texts, mode }
+        Engine { texts, way }
     }
 
     /// The counts, by the reference that they came by.
@@ -58,26 +58,26 @@ impl<'c, 'a, S: Ledger, L: Ledger, M: Texts> Engine<'c, 'a, S, L, M> {
 
     /// How bytes are compared.
     #[inline(always)]
-    pub fn mode(&self) -> Mode
-        ensures { result ≡ M.mode }
+    pub fn way(&self) -> Way
+        ensures { result ≡ M.way }
     {
-        self.mode
+        self.way
     }
 
     /// Whether a wildcard matches no slash.
     #[inline(always)]
     pub fn is_path(&self) -> bool
-        ensures { result ≡ is_path M.mode }
+        ensures { result ≡ is_path M.way }
     {
-        self.mode.is_path()
+        self.way.is_path()
     }
 
     /// Whether the case of letters does not count.
     #[inline(always)]
     pub fn folds(&self) -> bool
-        ensures { result ≡ folds M.mode }
+        ensures { result ≡ folds M.way }
     {
-        self.mode.folds()
+        self.way.folds()
     }
 
     /// Looks at the byte at a place of the pattern; `None` past its end, where there is nothing to look at.

@@ -29,11 +29,11 @@ impl<'c, 'a, S: Ledger, L: Ledger, M: Texts> Engine<'c, 'a, S, L, M> {
     /// Tests a token of one byte that is this byte.
     #[inline(always)]
     pub fn fits_byte(&mut self, at: usize, wanted: u8) -> bool
-        ensures answer { IsTrue result ↔ ((at < length M.value) × Fits M.mode (Byte wanted) (slice_index M.value at)) }
+        ensures answer { IsTrue result ↔ ((at < length M.value) × Fits M.way (Byte wanted) (slice_index M.value at)) }
         ensures count { TakesExactly self.old self.new 1 1 }
     {
         match self.value_at(at) {
-            Some(byte) => self.mode().alike(byte, wanted),
+            Some(byte) => self.way().alike(byte, wanted),
             None => false,
         }
     }
@@ -41,7 +41,7 @@ impl<'c, 'a, S: Ledger, L: Ledger, M: Texts> Engine<'c, 'a, S, L, M> {
     /// Tests the pattern's last token, where it is this byte: whether it fits the value's last byte.
     #[inline(always)]
     pub fn ends_in(&mut self, wanted: u8) -> bool
-        ensures answer { IsTrue result ↔ ((0 < length M.value) × Fits M.mode (Byte wanted) (slice_index M.value (length M.value - 1))) }
+        ensures answer { IsTrue result ↔ ((0 < length M.value) × Fits M.way (Byte wanted) (slice_index M.value (length M.value - 1))) }
         ensures count { TakesExactly self.old self.new 1 1 }
     {
         let len = self.texts.value_len();
@@ -51,7 +51,7 @@ impl<'c, 'a, S: Ledger, L: Ledger, M: Texts> Engine<'c, 'a, S, L, M> {
         }
         match self.value_at(len - 1) {
             // Most values end in another byte: `alike`, which tests first whether two bytes are equal, would only add a test.
-            Some(byte) => self.mode().fold(byte) == self.mode().fold(wanted),
+            Some(byte) => self.way().fold(byte) == self.way().fold(wanted),
             None => false,
         }
     }
@@ -61,11 +61,11 @@ impl<'c, 'a, S: Ledger, L: Ledger, M: Texts> Engine<'c, 'a, S, L, M> {
     pub fn fits(&mut self, kind: TokenKind, at: usize) -> bool
         requires { kind ≢ TokenKind.Set }
         ensures answer { (token : Token) → kind ≡ kind_of token
-            → IsTrue result ↔ ((at < length M.value) × Fits M.mode token (slice_index M.value at)) }
+            → IsTrue result ↔ ((at < length M.value) × Fits M.way token (slice_index M.value at)) }
         ensures count { TakesExactly self.old self.new 1 1 }
     {
         match self.value_at(at) {
-            Some(byte) => kind.fits(byte, self.mode()),
+            Some(byte) => kind.fits(byte, self.way()),
             None => false,
         }
     }
@@ -85,7 +85,7 @@ impl<'c, 'a, S: Ledger, L: Ledger, M: Texts> Engine<'c, 'a, S, L, M> {
     #[inline(always)]
     pub fn fits_set(&mut self, place: usize, at: usize) -> Option<SetRead>
         requires { HasByte M.pattern place open_bracket }
-        ensures found { IfSome result (λ set. IsSetTested M.mode M.pattern M.value place at set.end set.holds) }
+        ensures found { IfSome result (λ set. IsSetTested M.way M.pattern M.value place at set.end set.holds) }
         ensures none { IfNone result ((set : Set) (end : ℕ) → ¬ SetAt M.pattern place set end) }
         ensures count { IsSetPaid self.old self.new place (read_end M.pattern result) }
         ensures looked { IfSome result (λ set. self.old.looks + 1 < self.new.looks) }

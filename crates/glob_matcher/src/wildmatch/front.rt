@@ -9,9 +9,9 @@ use super::counted_text::CountedText;
 use super::counted_texts::CountedTexts;
 use super::counts::Counts;
 use super::engine::Engine;
-use super::mode::Mode;
 use super::needle::stands_within_component;
 use super::texts::Texts;
+use super::way::Way;
 use std::marker::Brand;
 use std::sync::ledger::Ledger;
 
@@ -22,25 +22,25 @@ impl<'c, 'a, S: Ledger, L: Ledger, M: Texts> Engine<'c, 'a, S, L, M> {
     /// How many bytes at the front of both texts are passed before the first turn. A short pattern has none passed.
     #[inline(always)]
     pub fn front(&mut self) -> usize
-        ensures { IsFront M.mode M.pattern M.value result self.old self.new }
+        ensures { IsFront M.way M.pattern M.value result self.old self.new }
     {
         if self.pattern_len() < LONG {
             return 0;
         }
-        let mode = self.mode();
+        let way = self.way();
         let texts = &mut self.texts;
         let (pattern, value) = (texts.pattern.again(), texts.value.again());
-        compare_fronts::<S, L, Brand>(pattern, value, mode, &mut *texts.counts).0
+        compare_fronts::<S, L, Brand>(pattern, value, way, &mut *texts.counts).0
     }
 
     /// Whether the value has a byte at a place inside it, up to folding, in one look.
     #[inline(always)]
     fn value_has(&mut self, at: usize, wanted: u8) -> bool
         requires { at < length M.value }
-        ensures answer { IsTrue result ↔ Fits M.mode (Byte wanted) (slice_index M.value at) }
+        ensures answer { IsTrue result ↔ Fits M.way (Byte wanted) (slice_index M.value at) }
         ensures count { TakesExactly self.old self.new 0 1 }
     {
-        self.mode().alike(self.texts.value_byte(at), wanted)
+        self.way().alike(self.texts.value_byte(at), wanted)
     }
 
     /// Counts the test of a byte that is passed: a step, whose looks were counted.
@@ -54,7 +54,7 @@ impl<'c, 'a, S: Ledger, L: Ledger, M: Texts> Engine<'c, 'a, S, L, M> {
     /// Passes the bytes at the front of the pattern that are tokens by themselves, up to a slash, and that the value has too.
     #[inline(always)]
     fn pass_front(&mut self) -> usize
-        ensures { IsFront M.mode M.pattern M.value result self.old self.new }
+        ensures { IsFront M.way M.pattern M.value result self.old self.new }
     {
         let most = self.texts.pattern_len().min(self.texts.value_len());
         let mut passed = 0;
@@ -79,18 +79,18 @@ impl<'c, 'a, S: Ledger, L: Ledger, M: Texts> Engine<'c, 'a, S, L, M> {
 fn compare_fronts<'c, 'a, S: Ledger, L: Ledger, M: Texts>(
     pattern: CountedText<'a, S, L>,
     value: CountedText<'a, S, L>,
-    mode: Mode,
+    way: Way,
     counts: &'c mut Counts<S, L>,
 ) -> (usize, &'c mut Counts<S, L>)
     requires pattern { pattern ≡ M.pattern }
     requires value { value ≡ M.value }
-    requires mode { mode ≡ M.mode }
+    requires way { way ≡ M.way }
     requires counts { counts.ghost_name ≡ M.counts }
-    ensures front { IsFront M.mode M.pattern M.value result.0 counts.old result.1.now }
+    ensures front { IsFront M.way M.pattern M.value result.0 counts.old result.1.now }
     ensures same { result.1.ghost_name ≡ counts.entry.ghost_name }
 {
     let texts = CountedTexts::<'c, 'a, S, L, M>::of(pattern, value, counts);
-    let mut engine = Engine::new(texts, mode);
+    let mut engine = Engine::new(texts, way);
     let passed = engine.pass_front();
     (passed, engine.into_counts())
 }

@@ -1,9 +1,9 @@
 //! What a bracket set holds: its items, each of them a byte, a range or a class. How a set is read is in `sets`.
 ghost use Rattle.std.specs.Prelude.{◌≡◌, ◌<◌, [], ◌∷◌, ◌++◌, length, MatchOption};
 ghost use Rattle.glob_matcher.specs.declared.wildmatch.items.Class.{Class};
-ghost use Rattle.glob_matcher.specs.Sets.{class_holds, is_between, item_holds, member_of, name_of, range_holds};
+ghost use Rattle.glob_matcher.specs.Sets.{capital_lies, class_holds, is_between, item_holds, member_of, name_of, range_holds};
 
-use super::mode::Mode;
+use super::way::Way;
 use std::marker::Model;
 
 /// A name of a class as it is read, byte by byte. It holds no reference, and no more bytes than the longest name has.
@@ -95,8 +95,8 @@ impl Class {
     }
 
     /// Whether the class holds a byte, which is folded already where the mode asks for it.
-    fn holds(self, byte: u8, mode: Mode) -> bool
-        ensures { result ≡ class_holds mode self byte }
+    fn holds(self, byte: u8, way: Way) -> bool
+        ensures { result ≡ class_holds way self byte }
     {
         match self {
             Class::Alnum => byte.is_ascii_alphanumeric(),
@@ -109,8 +109,7 @@ impl Class {
             Class::Print => byte == b' ' || byte.is_ascii_graphic(),
             Class::Punct => byte.is_ascii_punctuation(),
             Class::Space => (byte == b' ' || byte == b'\t') || (byte == b'\n' || byte == b'\r'),
-            Class::Upper => byte.is_ascii_uppercase()
-                || (mode.folds() && byte.is_ascii_lowercase()),
+            Class::Upper => byte.is_ascii_uppercase() || (way.folds() && byte.is_ascii_lowercase()),
             Class::Xdigit => byte.is_ascii_hexdigit(),
         }
     }
@@ -123,31 +122,41 @@ fn is_between(a: u8, b: u8, n: u8) -> bool
     (a <= n && n <= b) || (b <= n && n <= a)
 }
 
-/// Whether a range holds a byte. Where case doesn't count, the ends in uppercase count too.
-fn range_holds(low: u8, high: u8, byte: u8, mode: Mode) -> bool
-    ensures { result ≡ range_holds mode low high byte }
+/// Whether a capital lies between the ends of a range: as they are where folding is exact, else uppercased.
+fn capital_lies(low: u8, high: u8, capital: u8, way: Way) -> bool
+    ensures { result ≡ capital_lies way low high capital }
 {
-    let (low, high, byte) = (mode.fold(low), mode.fold(high), mode.fold(byte));
-    (low <= byte && byte <= high)
-        || (mode.folds()
+    if way.is_exact() {
+        return low <= capital && capital <= high;
+    }
+    is_between(
+        way.fold(low).to_ascii_uppercase(),
+        way.fold(high).to_ascii_uppercase(),
+        capital,
+    )
+}
+
+/// Whether a range holds a byte. Where case doesn't count, the ends in uppercase count too.
+fn range_holds(low: u8, high: u8, byte: u8, way: Way) -> bool
+    ensures { result ≡ range_holds way low high byte }
+{
+    let byte = way.fold(byte);
+    (way.fold_inner(low) <= byte && byte <= way.fold_inner(high))
+        || (way.folds()
             && byte.is_ascii_lowercase()
-            && is_between(
-                low.to_ascii_uppercase(),
-                high.to_ascii_uppercase(),
-                byte.to_ascii_uppercase(),
-            ))
+            && capital_lies(low, high, byte.to_ascii_uppercase(), way))
 }
 
 impl Item {
     /// Whether the item holds a byte.
-    pub fn holds(self, byte: u8, mode: Mode) -> bool
-        ensures { result ≡ item_holds mode byte self }
+    pub fn holds(self, byte: u8, way: Way) -> bool
+        ensures { result ≡ item_holds way byte self }
     {
         match self {
             // Most members are other bytes: `alike`, which tests first whether two bytes are equal, would only add a test.
-            Item::Member(member) => mode.fold(byte) == mode.fold(member),
-            Item::Range(low, high) => range_holds(low, high, byte, mode),
-            Item::Class(class) => class.holds(mode.fold(byte), mode),
+            Item::Member(member) => way.fold(byte) == way.fold_inner(member),
+            Item::Range(low, high) => range_holds(low, high, byte, way),
+            Item::Class(class) => class.holds(way.fold(byte), way),
         }
     }
 

@@ -1,7 +1,7 @@
 //! How a pattern is matched: whether a slash is special, and whether case counts.
-ghost use Rattle.std.specs.Prelude.{⊤, ◌≡◌, ◌≢◌, ◌↔◌, [], ◌∷◌, codes, IsTrue};
-ghost use Rattle.std.specs.Char.{to_ascii_lowercase};
+ghost use Rattle.std.specs.Prelude.{⊤, ◌≡◌, [], ◌∷◌, codes};
 
+use super::way::{Folding, Way};
 use bitflags::{Flag, Flags, bitflag_items};
 
 /// The match mode, a set of two named bits; any other bit is kept and changes no answer.
@@ -51,51 +51,19 @@ impl Default for Mode {
     }
 }
 
-/// Whether one byte is a small letter, and the other its capital.
-#[inline(always)]
-fn is_small_of(small: u8, capital: u8) -> bool
-    ensures { IsTrue result ↔ ((small ≢ capital) × (small ≡ to_ascii_lowercase capital)) }
-{
-    // most bytes fail the first test
-    small.wrapping_sub(capital) == 32 && capital.is_ascii_uppercase()
-}
-
 impl Mode {
-    ghost use Rattle.glob_matcher.specs.Bytes.{is_path, folds, fold};
+    ghost use Rattle.glob_matcher.specs.Ways.{way_of};
 
-    /// Whether a wildcard matches no slash.
+    /// The way to match that the mode asks for.
     #[inline(always)]
-    pub(crate) fn is_path(self) -> bool
-        ensures { result ≡ is_path self }
+    pub fn way(self) -> Way
+        ensures { result ≡ way_of self }
     {
-        self.contains(Mode::NO_MATCH_SLASH_LITERAL)
-    }
-
-    /// Whether the case of ASCII letters does not count.
-    #[inline(always)]
-    pub(crate) fn folds(self) -> bool
-        ensures { result ≡ folds self }
-    {
-        self.contains(Mode::IGNORE_CASE)
-    }
-
-    /// Whether two bytes are equal, after folding where the mode asks for it.
-    #[inline(always)]
-    pub(crate) fn alike(self, one: u8, other: u8) -> bool
-        ensures { IsTrue result ↔ (fold self one ≡ fold self other) }
-    {
-        one == other || (self.folds() && (is_small_of(one, other) || is_small_of(other, one)))
-    }
-
-    /// A byte after folding, where the mode asks for it.
-    #[inline(always)]
-    pub(crate) fn fold(self, byte: u8) -> u8
-        ensures { result ≡ fold self byte }
-    {
-        if self.folds() {
-            byte.to_ascii_lowercase()
+        let folding = if self.contains(Mode::IGNORE_CASE) {
+            Folding::Both
         } else {
-            byte
-        }
+            Folding::Off
+        };
+        Way::new(self.contains(Mode::NO_MATCH_SLASH_LITERAL), folding)
     }
 }

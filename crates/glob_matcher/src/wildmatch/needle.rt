@@ -128,7 +128,7 @@ impl<'c, 'a, S: Ledger, L: Ledger, M: Texts> Engine<'c, 'a, S, L, M> {
     #[inline(always)]
     pub fn follow_at(&mut self, place: usize) -> Option<Follow>
         requires { place ≤ length M.pattern }
-        ensures follows { IfSome result (λ follow. Follows M.mode M.pattern place follow) }
+        ensures follows { IfSome result (λ follow. Follows M.way M.pattern place follow) }
         ensures other { IfNone result ((place < length M.pattern) × ¬ StandsForItself (slice_index M.pattern place)) }
         ensures count { Takes self.old self.new 0 1 }
     {

@@ -4,9 +4,9 @@ ghost use Rattle.glob_matcher.specs.Matching.{SplitsFrom};
 ghost use Rattle.glob_matcher.specs.Private.Fitting.{Spans};
 ghost use Rattle.glob_matcher.specs.Bytes.{NoSlash};
 
-use super::mode::Mode;
 use super::slices::token_at;
 use super::tokens::TokenKind;
+use super::way::Way;
 
 /// Whether no place from one up to another has a slash.
 fn has_no_slash(value: &[u8], at: usize, end: usize) -> bool
@@ -36,19 +36,19 @@ fn spans(kind: TokenKind, value: &[u8], at: usize, end: usize) -> bool
 }
 
 /// Whether the tokens from a place of the pattern on split the value's bytes from a place on.
-pub fn splits_from(pattern: &[u8], place: usize, value: &[u8], at: usize, mode: Mode) -> bool
+pub fn splits_from(pattern: &[u8], place: usize, value: &[u8], at: usize, way: Way) -> bool
     requires place { place ≤ length pattern.now }
     requires at { at ≤ length value.now }
-    ensures { IsTrue result ↔ SplitsFrom value.now at pattern.now place mode }
+    ensures { IsTrue result ↔ SplitsFrom value.now at pattern.now place way }
 {
     if place == pattern.len() {
         return at == value.len();
     }
-    let token = token_at(pattern, place, mode);
+    let token = token_at(pattern, place, way);
     if token.kind.is_star() {
         'ends: for end in at..value.len() + 1 {
             if spans(token.kind, value, at, end)
-                && splits_from(pattern, token.end, value, end, mode)
+                && splits_from(pattern, token.end, value, end, way)
             {
                 return true;
             }
@@ -58,8 +58,8 @@ pub fn splits_from(pattern: &[u8], place: usize, value: &[u8], at: usize, mode: 
     if at == value.len() {
         return false;
     }
-    if !token.kind.fits_at(pattern, place, value[at], mode) {
+    if !token.kind.fits_at(pattern, place, value[at], way) {
         return false;
     }
-    splits_from(pattern, token.end, value, at + 1, mode)
+    splits_from(pattern, token.end, value, at + 1, way)
 }

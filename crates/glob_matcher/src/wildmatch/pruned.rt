@@ -3,12 +3,14 @@ ghost use Rattle.std.specs.Prelude.{◌≡◌, ◌≢◌, ◌↔◌, ℕ, ◌+�
 ghost use Rattle.glob_matcher.specs.Bytes.{HasByte, star};
 ghost use Rattle.glob_matcher.specs.Tokens.{DirsAt};
 ghost use Rattle.glob_matcher.specs.Matching.{Splits};
+ghost use Rattle.glob_matcher.specs.Ways.{way_of};
 ghost use Rattle.glob_matcher.specs.Pruning.{Holds, IsStart, IsBoundary, IsAttempt};
 ghost use Rattle.glob_matcher.specs.Private.StarSearch.{wanted_by, AsksFor, Skips, IsComponentEnd, IsTriedEverywhere, IsTriedInComponent, IsTriedInDirectories};
 
 use super::mode::Mode;
 use super::slices::token_at;
 use super::tokens::TokenKind;
+use super::way::Way;
 use memchr::{memchr, memchr2};
 
 /// The depth at which an attempt gives up: so many star tokens it would stand below.
@@ -47,11 +49,18 @@ fn ends_at_slash(kind: TokenKind, next: usize, slash: usize) -> bool
 /// Whether an attempt may begin at a place of the pattern, counted in bytes from 0: where a token starts, at the slash that
 /// ends a double star's token, and at the pattern's end.
 pub fn is_start(pattern: &[u8], place: usize, mode: Mode) -> bool
-    ensures { IsTrue result ↔ IsStart pattern.now place mode }
+    ensures { IsTrue result ↔ IsStart pattern.now place (way_of mode) }
+{
+    is_start_by(pattern, place, mode.way())
+}
+
+/// Whether an attempt may begin at a place of the pattern, in this way to match.
+fn is_start_by(pattern: &[u8], place: usize, way: Way) -> bool
+    ensures { IsTrue result ↔ IsStart pattern.now place way }
 {
     let mut start = 0;
     'tokens: while start < pattern.len() && start < place {
-        let token = token_at(pattern, start, mode);
+        let token = token_at(pattern, start, way);
         if ends_at_slash(token.kind, token.end, place) {
             return true;
         }
@@ -73,12 +82,12 @@ impl TokenKind {
 }
 
 /// The first place of a byte, up to folding.
-fn find_byte(bytes: &[u8], byte: u8, mode: Mode) -> Option<usize>
-    ensures found { IfSome result (λ at. Skips mode bytes.now (Some byte) 0 at) }
+fn find_byte(bytes: &[u8], byte: u8, way: Way) -> Option<usize>
+    ensures found { IfSome result (λ at. Skips way bytes.now (Some byte) 0 at) }
     ensures inside { IfSome result (λ at. at < length bytes.now) }
-    ensures none { IfNone result (Skips mode bytes.now (Some byte) 0 (length bytes.now)) }
+    ensures none { IfNone result (Skips way bytes.now (Some byte) 0 (length bytes.now)) }
 {
-    if mode.folds() && byte.is_ascii_alphabetic() {
+    if way.folds() && byte.is_ascii_alphabetic() {
         memchr2(byte.to_ascii_lowercase(), byte.to_ascii_uppercase(), bytes)
     } else {
         memchr(byte, bytes)
@@ -91,18 +100,18 @@ fn find_byte(bytes: &[u8], byte: u8, mode: Mode) -> Option<usize>
 struct Level<'a> {
     pattern: &'a [u8],
     value: &'a [u8],
-    mode: Mode,
+    way: Way,
     depth: usize,
 }
 
 impl<'a> Level<'a> {
     /// The byte that the token at a place of the pattern asks for, where it asks for one.
     fn first_wanted(&self, place: usize) -> Option<u8>
-        requires start { IsStart self.now.pattern.now place self.now.mode }
+        requires start { IsStart self.now.pattern.now place self.now.way }
         requires more { place ≢ length self.now.pattern.now }
-        ensures { AsksFor self.now.mode self.now.pattern.now place result }
+        ensures { AsksFor self.now.way self.now.pattern.now place result }
     {
-        let token = token_at(self.pattern, place, self.mode);
+        let token = token_at(self.pattern, place, self.way);
         token.kind.wanted_byte()
     }
 
@@ -111,14 +120,14 @@ impl<'a> Level<'a> {
     fn next_at(&self, at: usize, until: usize, wanted: Option<u8>) -> Option<usize>
         requires low { at ≤ until }
         requires inside { until ≤ length self.now.value.now }
-        ensures found { IfSome result (λ found. Skips self.now.mode self.now.value.now wanted at found) }
+        ensures found { IfSome result (λ found. Skips self.now.way self.now.value.now wanted at found) }
         ensures inside { IfSome result (λ found. found < until) }
-        ensures none { IfNone result (Skips self.now.mode self.now.value.now wanted at until) }
+        ensures none { IfNone result (Skips self.now.way self.now.value.now wanted at until) }
     {
         let Some(byte) = wanted else {
             return if at < until { Some(at) } else { None };
         };
-        let offset = find_byte(&self.value[at..until], byte, self.mode)?;
+        let offset = find_byte(&self.value[at..until], byte, self.way)?;
         Some(at + offset)
     }
 
@@ -148,16 +157,16 @@ impl<'a> Level<'a> {
     /// What the attempt from these places on answers.
     #[cycle(attempt)]
     fn attempt(&self, mut place: usize, mut at: usize) -> Answer
-        requires start { IsStart self.now.pattern.now place self.now.mode }
+        requires start { IsStart self.now.pattern.now place self.now.way }
         requires inside { at ≤ length self.now.value.now }
         requires shallow { self.now.depth ≤ 64 }
-        ensures { IsAttempt result self.now.pattern.now place self.now.value.now at self.now.mode self.now.depth }
+        ensures { IsAttempt result self.now.pattern.now place self.now.value.now at self.now.way self.now.depth }
     {
         if self.depth == MAX_DEPTH {
             return Answer::RecursionLimitReached;
         }
         'tokens: while place < self.pattern.len() {
-            let token = token_at(self.pattern, place, self.mode);
+            let token = token_at(self.pattern, place, self.way);
             match token.kind {
                 TokenKind::Free => return self.try_everywhere(token.end, at),
                 TokenKind::Local => return self.try_component(token.end, at),
@@ -169,7 +178,7 @@ impl<'a> Level<'a> {
                     }
                     if !token
                         .kind
-                        .fits_at(self.pattern, place, self.value[at], self.mode)
+                        .fits_at(self.pattern, place, self.value[at], self.way)
                     {
                         return Answer::NoMatch;
                     }
@@ -184,11 +193,11 @@ impl<'a> Level<'a> {
     /// Tries the rest of the pattern at each place of the value from one on.
     #[cycle(attempt)]
     fn try_everywhere(&self, place: usize, mut at: usize) -> Answer
-        requires start { IsStart self.now.pattern.now place self.now.mode }
+        requires start { IsStart self.now.pattern.now place self.now.way }
         requires no_star { ¬ HasByte self.now.pattern.now place star }
         requires inside { at ≤ length self.now.value.now }
         requires shallow { self.now.depth < 64 }
-        ensures { IsTriedEverywhere result self.now.pattern.now place self.now.value.now at self.now.mode self.now.depth }
+        ensures { IsTriedEverywhere result self.now.pattern.now place self.now.value.now at self.now.way self.now.depth }
     {
         if place == self.pattern.len() {
             return Answer::Match;
@@ -210,11 +219,11 @@ impl<'a> Level<'a> {
     /// Tries the rest of the pattern at each place of the value's component from one on.
     #[cycle(attempt)]
     fn try_component(&self, place: usize, mut at: usize) -> Answer
-        requires start { IsStart self.now.pattern.now place self.now.mode }
+        requires start { IsStart self.now.pattern.now place self.now.way }
         requires no_star { ¬ HasByte self.now.pattern.now place star }
         requires inside { at ≤ length self.now.value.now }
         requires shallow { self.now.depth < 64 }
-        ensures { IsTriedInComponent result self.now.pattern.now place self.now.value.now at self.now.mode self.now.depth }
+        ensures { IsTriedInComponent result self.now.pattern.now place self.now.value.now at self.now.way self.now.depth }
     {
         let end = self.component_end(at);
         if place == self.pattern.len() {
@@ -241,11 +250,11 @@ impl<'a> Level<'a> {
     /// Tries the rest of the pattern here, and after each slash of the value from here on.
     #[cycle(attempt)]
     fn try_directories(&self, place: usize, at: usize) -> Answer
-        requires token { (i : ℕ) × IsBoundary self.now.pattern.now i self.now.mode × DirsAt self.now.mode self.now.pattern.now i place }
+        requires token { (i : ℕ) × IsBoundary self.now.pattern.now i self.now.way × DirsAt self.now.way self.now.pattern.now i place }
         requires inside { at ≤ length self.now.value.now }
         requires shallow { self.now.depth < 64 }
-        ensures { (i : ℕ) → DirsAt self.now.mode self.now.pattern.now i place
-            → IsTriedInDirectories result self.now.pattern.now i place self.now.value.now at self.now.mode self.now.depth }
+        ensures { (i : ℕ) → DirsAt self.now.way self.now.pattern.now i place
+            → IsTriedInDirectories result self.now.pattern.now i place self.now.value.now at self.now.way self.now.depth }
     {
         let below = Level {
             depth: self.depth + 1,
@@ -273,15 +282,16 @@ pub fn attempt(
     mode: Mode,
     depth: usize,
 ) -> Answer
-    requires start { IsStart pattern.now place mode }
+    requires start { IsStart pattern.now place (way_of mode) }
     requires inside { at ≤ length value.now }
     requires shallow { depth ≤ 64 }
-    ensures { IsAttempt result pattern.now place value.now at mode depth }
+    ensures { IsAttempt result pattern.now place value.now at (way_of mode) depth }
 {
+    let way = mode.way();
     let level = Level {
         pattern,
         value,
-        mode,
+        way,
         depth,
     };
     level.attempt(place, at)

@@ -1,6 +1,6 @@
 //! The search of the engine with two marks: turns, and where a token does not fit, a way back to a mark.
 ghost use Rattle.std.specs.Prelude.{◌↔◌, IsTrue, length};
-ghost use Rattle.glob_matcher.specs.Matching.{Splits};
+ghost use Rattle.glob_matcher.specs.Matching.{SplitsBy};
 ghost use Rattle.glob_matcher.specs.Steps.{NeverFall};
 ghost use Rattle.glob_matcher.specs.Private.Budget.{IsWithinLimits};
 
@@ -13,7 +13,7 @@ impl<'c, 'a, S: Ledger, L: Ledger, M: Texts> Engine<'c, 'a, S, L, M> {
     /// Whether the pattern matches the value.
     #[inline(always)]
     pub fn search(&mut self) -> bool
-        ensures exact { IsTrue result ↔ Splits M.value M.pattern M.mode }
+        ensures exact { IsTrue result ↔ SplitsBy M.value M.pattern M.way }
         ensures limits { IsWithinLimits (length M.pattern) (length M.value) self.old self.new }
         ensures grows { NeverFall self.old self.new }
     {

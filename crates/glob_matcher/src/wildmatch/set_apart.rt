@@ -9,9 +9,9 @@ use super::counted_text::CountedText;
 use super::counted_texts::CountedTexts;
 use super::counts::Counts;
 use super::engine::Engine;
-use super::mode::Mode;
 use super::sets::SetRead;
 use super::texts::Texts;
+use super::way::Way;
 use std::marker::Brand;
 use std::sync::ledger::Ledger;
 
@@ -20,13 +20,13 @@ impl<'c, 'a, S: Ledger, L: Ledger, M: Texts> Engine<'c, 'a, S, L, M> {
     #[inline(always)]
     pub fn set_apart(&mut self, place: usize, byte: u8) -> Option<SetRead>
         requires { HasByte M.pattern place open_bracket }
-        ensures read { IsSetRead M.mode M.pattern place byte result }
+        ensures read { IsSetRead M.way M.pattern place byte result }
         ensures count { LookedOver 4 self.old self.new place (read_end M.pattern result) }
         ensures looked { IfSome result (λ set. self.old.looks < self.new.looks) }
     {
-        let mode = self.mode();
+        let way = self.way();
         let texts = &mut self.texts;
-        read_set::<S, L, Brand>(texts.pattern.again(), place, byte, mode, &mut *texts.counts).0
+        read_set::<S, L, Brand>(texts.pattern.again(), place, byte, way, &mut *texts.counts).0
     }
 }
 
@@ -36,21 +36,21 @@ fn read_set<'c, 'a, S: Ledger, L: Ledger, M: Texts>(
     pattern: CountedText<'a, S, L>,
     place: usize,
     byte: u8,
-    mode: Mode,
+    way: Way,
     counts: &'c mut Counts<S, L>,
 ) -> (Option<SetRead>, &'c mut Counts<S, L>)
     requires pattern { pattern ≡ M.pattern }
     requires value { M.value ≡ [] }
-    requires mode { mode ≡ M.mode }
+    requires way { way ≡ M.way }
     requires counts { counts.ghost_name ≡ M.counts }
     requires bracket { HasByte M.pattern place open_bracket }
-    ensures read { IsSetRead M.mode M.pattern place byte result.0 }
+    ensures read { IsSetRead M.way M.pattern place byte result.0 }
     ensures same { result.1.ghost_name ≡ counts.entry.ghost_name }
     ensures count { LookedOver 4 counts.old result.1.now place (read_end M.pattern result.0) }
     ensures looked { IfSome result.0 (λ set. counts.old.looks < result.1.now.looks) }
 {
     let texts = CountedTexts::<'c, 'a, S, L, M>::of(pattern, CountedText::new(&[]), counts);
-    let mut engine = Engine::new(texts, mode);
+    let mut engine = Engine::new(texts, way);
     let set = engine.set_at(place, byte);
     (set, engine.into_counts())
 }

@@ -13,8 +13,8 @@ ghost use Rattle.glob_matcher.specs.Private.Reader.{IsNextItem, IsSetRead, after
 
 use super::engine::Engine;
 use super::items::{Class, ClassName, Item};
-use super::mode::Mode;
 use super::texts::Texts;
+use super::way::Way;
 use std::sync::ledger::Ledger;
 
 /// An item as it is spelled.
@@ -97,10 +97,10 @@ impl Cursor {
 
 /// Whether a set holds a byte, where it is known whether one of its items does: a negated one holds it if none does, but none
 /// holds a slash in path mode.
-fn decides_set(is_held: bool, is_negated: bool, byte: u8, mode: Mode) -> bool
-    ensures { result ≡ (not (is_path mode && byte == slash) && (if is_negated then not is_held else is_held)) }
+fn decides_set(is_held: bool, is_negated: bool, byte: u8, way: Way) -> bool
+    ensures { result ≡ (not (is_path way && byte == slash) && (if is_negated then not is_held else is_held)) }
 {
-    !(mode.is_path() && byte == b'/') && is_held != is_negated
+    !(way.is_path() && byte == b'/') && is_held != is_negated
 }
 
 impl<'c, 'a, S: Ledger, L: Ledger, M: Texts> Engine<'c, 'a, S, L, M> {
@@ -386,22 +386,22 @@ impl<'c, 'a, S: Ledger, L: Ledger, M: Texts> Engine<'c, 'a, S, L, M> {
     #[inline(always)]
     pub fn set_at(&mut self, place: usize, byte: u8) -> Option<SetRead>
         requires { HasByte M.pattern place open_bracket }
-        ensures read { IsSetRead M.mode M.pattern place byte result }
+        ensures read { IsSetRead M.way M.pattern place byte result }
         ensures count { LookedOver 4 self.old self.new place (read_end M.pattern result) }
         ensures looked { IfSome result (λ set. self.old.looks < self.new.looks) }
     {
-        let mode = self.mode();
+        let way = self.way();
         let (is_negated, first) = self.set_opening(place);
         let mut is_held = false;
         let mut cursor = first;
         'items: loop {
             match self.next_item(cursor) {
                 NextItem::Item(spelled) => {
-                    is_held = is_held || spelled.item.holds(byte, mode);
+                    is_held = is_held || spelled.item.holds(byte, way);
                     cursor = spelled.onward();
                 }
                 NextItem::Close => {
-                    let holds = decides_set(is_held, is_negated, byte, mode);
+                    let holds = decides_set(is_held, is_negated, byte, way);
                     return Some(SetRead {
                         end: cursor.place + 1,
                         holds,

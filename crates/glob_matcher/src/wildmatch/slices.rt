@@ -9,19 +9,19 @@ ghost use Rattle.glob_matcher.specs.Steps.{IsBlankOf};
 use super::counted_texts::CountedTexts;
 use super::counts::Counts;
 use super::engine::Engine;
-use super::mode::Mode;
 use super::sets::SetRead;
 use super::texts::{Texts, text_is_short};
 use super::tokens::{TokenKind, TokenRead};
+use super::way::Way;
 use std::marker::Brand;
 use std::sync::ledger::{Blank, Ledger};
 
 /// The token at this place, and the place after it.
-pub fn token_at(pattern: &[u8], place: usize, mode: Mode) -> TokenRead
+pub fn token_at(pattern: &[u8], place: usize, way: Way) -> TokenRead
     requires { place < length pattern.now }
-    ensures { IsToken mode pattern.now place result.kind result.end }
+    ensures { IsToken way pattern.now place result.kind result.end }
 {
-    token_with_counts::<Brand, Brand>(pattern, place, mode, (Blank::new(1), Blank::new(1)))
+    token_with_counts::<Brand, Brand>(pattern, place, way, (Blank::new(1), Blank::new(1)))
 }
 
 /// The same, with new counts.
@@ -29,17 +29,17 @@ pub fn token_at(pattern: &[u8], place: usize, mode: Mode) -> TokenRead
 fn token_with_counts<S: Ledger, L: Ledger>(
     pattern: &[u8],
     place: usize,
-    mode: Mode,
+    way: Way,
     blanks: (Blank, Blank),
 ) -> TokenRead
     requires steps { IsBlankOf S.name S.parts blanks.0 }
     requires looks { IsBlankOf L.name L.parts blanks.1 }
     requires inside { place < length pattern.now }
-    ensures { IsToken mode pattern.now place result.kind result.end }
+    ensures { IsToken way pattern.now place result.kind result.end }
 {
     text_is_short(pattern);
     let mut counts = Counts::new(blanks.0, blanks.1);
-    token_over::<S, L, Brand>(pattern, place, mode, &mut counts).0
+    token_over::<S, L, Brand>(pattern, place, way, &mut counts).0
 }
 
 /// The same, of the pattern in counted looks; and the counts.
@@ -47,18 +47,18 @@ fn token_with_counts<S: Ledger, L: Ledger>(
 fn token_over<'c, 'a, S: Ledger, L: Ledger, M: Texts>(
     pattern: &'a [u8],
     place: usize,
-    mode: Mode,
+    way: Way,
     counts: &'c mut Counts<S, L>,
 ) -> (TokenRead, &'c mut Counts<S, L>)
     requires pattern { pattern.now ≡ M.pattern }
     requires value { M.value ≡ [] }
-    requires mode { mode ≡ M.mode }
+    requires way { way ≡ M.way }
     requires counts { counts.ghost_name ≡ M.counts }
     requires inside { place < length pattern.now }
-    ensures { IsToken mode pattern.now place result.0.kind result.0.end }
+    ensures { IsToken way pattern.now place result.0.kind result.0.end }
 {
     let texts = CountedTexts::<'c, 'a, S, L, M>::new(pattern, &[], counts);
-    let mut engine = Engine::new(texts, mode);
+    let mut engine = Engine::new(texts, way);
     let token = engine.token_at(place);
     (token, engine.into_counts())
 }
@@ -67,7 +67,7 @@ fn token_over<'c, 'a, S: Ledger, L: Ledger, M: Texts>(
 #[derive(Copy, Clone)]
 struct AskedSet<'a> {
     pattern: &'a [u8],
-    mode: Mode,
+    way: Way,
     place: usize,
     byte: u8,
 }
@@ -76,7 +76,7 @@ impl<'a> AskedSet<'a> {
     /// What is read of the set for the byte; `None` where no set begins.
     fn read(self) -> Option<SetRead>
         requires { HasByte self.pattern.now self.place open_bracket }
-        ensures { IsSetRead self.entry.mode self.entry.pattern.now self.entry.place self.entry.byte result }
+        ensures { IsSetRead self.entry.way self.entry.pattern.now self.entry.place self.entry.byte result }
     {
         self.read_with_counts::<Brand, Brand>((Blank::new(1), Blank::new(1)))
     }
@@ -87,7 +87,7 @@ impl<'a> AskedSet<'a> {
         requires steps { IsBlankOf S.name S.parts blanks.0 }
         requires looks { IsBlankOf L.name L.parts blanks.1 }
         requires bracket { HasByte self.pattern.now self.place open_bracket }
-        ensures { IsSetRead self.entry.mode self.entry.pattern.now self.entry.place self.entry.byte result }
+        ensures { IsSetRead self.entry.way self.entry.pattern.now self.entry.place self.entry.byte result }
     {
         text_is_short(self.pattern);
         let mut counts = Counts::new(blanks.0, blanks.1);
@@ -102,13 +102,13 @@ impl<'a> AskedSet<'a> {
     ) -> (Option<SetRead>, &'c mut Counts<S, L>)
         requires pattern { self.pattern.now ≡ M.pattern }
         requires value { M.value ≡ [] }
-        requires mode { self.mode ≡ M.mode }
+        requires way { self.way ≡ M.way }
         requires counts { counts.ghost_name ≡ M.counts }
         requires bracket { HasByte self.pattern.now self.place open_bracket }
-        ensures { IsSetRead self.entry.mode self.entry.pattern.now self.entry.place self.entry.byte result.0 }
+        ensures { IsSetRead self.entry.way self.entry.pattern.now self.entry.place self.entry.byte result.0 }
     {
         let texts = CountedTexts::<'c, 'a, S, L, M>::new(self.pattern, &[], counts);
-        let mut engine = Engine::new(texts, self.mode);
+        let mut engine = Engine::new(texts, self.way);
         let set = engine.set_apart(self.place, self.byte);
         (set, engine.into_counts())
     }
@@ -116,19 +116,19 @@ impl<'a> AskedSet<'a> {
 
 impl TokenKind {
     /// Whether the token of this kind at a place of the pattern is one of a single byte and fits that byte.
-    pub fn fits_at(self, pattern: &[u8], place: usize, byte: u8, mode: Mode) -> bool
+    pub fn fits_at(self, pattern: &[u8], place: usize, byte: u8, way: Way) -> bool
         requires { place < length pattern.now }
-        ensures { (token : Token) (end : ℕ) → TokenAt mode pattern.now place token end → self ≡ kind_of token → IsTrue result ↔ Fits mode token byte }
+        ensures { (token : Token) (end : ℕ) → TokenAt way pattern.now place token end → self ≡ kind_of token → IsTrue result ↔ Fits way token byte }
     {
         let TokenKind::Set = self else {
-            return self.fits(byte, mode);
+            return self.fits(byte, way);
         };
         if pattern[place] != b'[' {
             return false;
         }
         let asked = AskedSet {
             pattern,
-            mode,
+            way,
             place,
             byte,
         };

@@ -50,7 +50,7 @@ fn same(rt: &impl Abort, is_so: bool, asked: &str, pattern: &[u8], value: &[u8])
 
 /// The engine with two marks agrees with the plain program on this pattern and value.
 fn matcher_agrees(rt: &impl Abort, pattern: &[u8], value: &[u8], mode: Mode) {
-    let splits = splits_from(pattern, 0, value, 0, mode);
+    let splits = splits_from(pattern, 0, value, 0, mode.way());
     let is_so = wildmatch(pattern, value, mode) == splits;
     same(rt, is_so, "by two marks", pattern, value);
 }
@@ -63,7 +63,7 @@ fn attempts_agree(rt: &impl Abort, pattern: &[u8], value: &[u8], mode: Mode) {
         }
         for at in 0..value.len() + 1 {
             let answer = attempt(pattern, place, value, at, mode, 0);
-            let splits = splits_from(pattern, place, value, at, mode);
+            let splits = splits_from(pattern, place, value, at, mode.way());
             let is_so = (answer == Answer::Match) == splits;
             same(rt, is_so, "by an attempt", pattern, value);
             aborts_rightly(rt, pattern, place, value, at, mode, &answer);
@@ -88,7 +88,7 @@ fn aborts_rightly(
     }
     for later in at..value.len() + 1 {
         let is_wrong = says_no(answer, value, at, later)
-            && splits_from(pattern, place, value, later, mode);
+            && splits_from(pattern, place, value, later, mode.way());
         same(rt, !is_wrong, "after an abort", pattern, value);
     }
 }

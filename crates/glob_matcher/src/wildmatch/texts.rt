@@ -6,13 +6,13 @@ use std::marker::Brand;
 /// One match, which contracts alone name: its texts, its mode, and the reference to its counts.
 pub trait Texts {
     ghost use Rattle.std.specs.Prelude.{ℕ, ◌<◌, ◌^◌, List, length};
-    ghost use Rattle.glob_matcher.specs.declared.wildmatch.mode.Mode.{Mode};
+    ghost use Rattle.glob_matcher.specs.declared.wildmatch.way.Way.{Way};
 
     ghost pattern: { List ℕ };
 
     ghost value: { List ℕ };
 
-    ghost mode: { Mode };
+    ghost way: { Way };
 
     ghost counts: { ℕ };
 
@@ -22,14 +22,15 @@ pub trait Texts {
 }
 
 impl Texts for Brand {
-    ghost use Rattle.std.specs.Prelude.{[]};
+    ghost use Rattle.std.specs.Prelude.{[], false};
     ghost use Rattle.std.proofs.Common.{arith};
+    ghost use Rattle.glob_matcher.specs.declared.wildmatch.way.Folding.TheVariants.{Off};
 
     ghost pattern = { [] };
 
     ghost value = { [] };
 
-    ghost mode = { record { 0 = 0 } };
+    ghost way = { record { path = false; folding = Off } };
 
     ghost counts = { 0 };
 

@@ -10,8 +10,8 @@ ghost use Rattle.glob_matcher.specs.Private.Reader.{IsToken, IsTokenRead, IsRunR
 ghost use Rattle.glob_matcher.specs.Private.Fitting.{Fits};
 
 use super::engine::Engine;
-use super::mode::Mode;
 use super::texts::Texts;
+use super::way::Way;
 use std::sync::ledger::Ledger;
 
 /// What kind of token stands at a place.
@@ -59,13 +59,13 @@ impl TokenKind {
 
     /// Whether a token of this kind, which is no set, is one of a single byte and fits that byte.
     #[inline(always)]
-    pub fn fits(self, byte: u8, mode: Mode) -> bool
+    pub fn fits(self, byte: u8, way: Way) -> bool
         requires { self ≢ kind.Set }
-        ensures { (token : Token) → self ≡ kind_of token → IsTrue result ↔ Fits mode token byte }
+        ensures { (token : Token) → self ≡ kind_of token → IsTrue result ↔ Fits way token byte }
     {
         match self {
-            TokenKind::Byte(wanted) => mode.alike(byte, wanted),
-            TokenKind::Any => !(mode.is_path() && byte == b'/'),
+            TokenKind::Byte(wanted) => way.alike(byte, wanted),
+            TokenKind::Any => !(way.is_path() && byte == b'/'),
             TokenKind::Set
             | TokenKind::Free
             | TokenKind::Local
@@ -144,7 +144,7 @@ impl<'c, 'a, S: Ledger, L: Ledger, M: Texts> Engine<'c, 'a, S, L, M> {
     /// The run of stars at this place, and the place after it, or after its slash.
     fn run_at(&mut self, place: usize) -> TokenRead
         requires { HasByte M.pattern place star }
-        ensures token { IsToken M.mode M.pattern place result.kind result.end }
+        ensures token { IsToken M.way M.pattern place result.kind result.end }
         ensures count { IsRunRead self.old self.new place result.kind result.end }
     {
         let end = self.run_end(place);
@@ -175,11 +175,15 @@ impl<'c, 'a, S: Ledger, L: Ledger, M: Texts> Engine<'c, 'a, S, L, M> {
     /// The token at this place, and the place after it.
     pub fn token_at(&mut self, place: usize) -> TokenRead
         requires { place < length M.pattern }
-        ensures token { IsToken M.mode M.pattern place result.kind result.end }
+        ensures token { IsToken M.way M.pattern place result.kind result.end }
         ensures count { IsTokenRead self.old self.new place result.kind result.end }
     {
         match self.pattern_byte(place) {
             b'\\' => match self.escaped_at(place) {
+                Some(byte) if self.way().is_dead(byte) => TokenRead {
+                    kind: TokenKind::Nothing,
+                    end: self.pattern_len(),
+                },
                 Some(byte) => TokenRead {
                     kind: TokenKind::Byte(byte),
                     end: place + 2,

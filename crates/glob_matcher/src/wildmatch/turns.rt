@@ -18,12 +18,12 @@ impl<'c, 'a, S: Ledger, L: Ledger, M: Texts> Engine<'c, 'a, S, L, M> {
     /// A turn at a question mark or an escaped byte.
     #[inline(always)]
     fn single_turn(&mut self, state: State, kind: TokenKind, after: usize) -> Turn
-        requires stands { StandsAt M.mode M.pattern M.value state }
-        requires token { IsToken M.mode M.pattern state.place kind after }
+        requires stands { StandsAt M.way M.pattern M.value state }
+        requires token { IsToken M.way M.pattern state.place kind after }
         requires single { is_star kind ≡ false }
         requires other { kind ≢ TokenKind.Set }
         requires place { state.place < length M.pattern }
-        ensures { IsTurn M.mode M.pattern M.value state (8 * (after - state.place) - 1) result self.old self.new }
+        ensures { IsTurn M.way M.pattern M.value state (8 * (after - state.place) - 1) result self.old self.new }
     {
         if !self.fits(kind, state.at) {
             return Turn::Miss(state);
@@ -45,9 +45,9 @@ impl<'c, 'a, S: Ledger, L: Ledger, M: Texts> Engine<'c, 'a, S, L, M> {
     /// A turn at a set, or at a bracket that begins none.
     #[inline(always)]
     fn set_turn(&mut self, state: State) -> Turn
-        requires stands { StandsAt M.mode M.pattern M.value state }
+        requires stands { StandsAt M.way M.pattern M.value state }
         requires bracket { HasByte M.pattern state.place open_bracket }
-        ensures { IsTurn M.mode M.pattern M.value state 1 result self.old self.new }
+        ensures { IsTurn M.way M.pattern M.value state 1 result self.old self.new }
     {
         let Some(set) = self.fits_set(state.place, state.at) else {
             return Turn::NoMatch;
@@ -66,10 +66,10 @@ impl<'c, 'a, S: Ledger, L: Ledger, M: Texts> Engine<'c, 'a, S, L, M> {
     /// the rest of the value.
     #[inline(always)]
     fn free_turn(&mut self, state: State, after: usize) -> Turn
-        requires stands { StandsAt M.mode M.pattern M.value state }
-        requires token { TokenAt M.mode M.pattern state.place Free after }
+        requires stands { StandsAt M.way M.pattern M.value state }
+        requires token { TokenAt M.way M.pattern state.place Free after }
         requires inside { after ≤ length M.pattern }
-        ensures { IsTurn M.mode M.pattern M.value state (8 * (after - state.place) - 4) result self.old self.new }
+        ensures { IsTurn M.way M.pattern M.value state (8 * (after - state.place) - 4) result self.old self.new }
     {
         if after == self.pattern_len() {
             return Turn::Match;
@@ -86,10 +86,10 @@ impl<'c, 'a, S: Ledger, L: Ledger, M: Texts> Engine<'c, 'a, S, L, M> {
     /// A turn at a double star with its slash: both marks are forgotten, and one is set.
     #[inline(always)]
     fn dirs_turn(&mut self, state: State, after: usize) -> Turn
-        requires stands { StandsAt M.mode M.pattern M.value state }
-        requires token { DirsAt M.mode M.pattern state.place after }
+        requires stands { StandsAt M.way M.pattern M.value state }
+        requires token { DirsAt M.way M.pattern state.place after }
         requires inside { after ≤ length M.pattern }
-        ensures { IsTurn M.mode M.pattern M.value state (8 * (after - state.place) - 4) result self.old self.new }
+        ensures { IsTurn M.way M.pattern M.value state (8 * (after - state.place) - 4) result self.old self.new }
     {
         let mark = self.set_mark(after, state.at);
         Turn::On(State {
@@ -103,10 +103,10 @@ impl<'c, 'a, S: Ledger, L: Ledger, M: Texts> Engine<'c, 'a, S, L, M> {
     /// A turn at a run of stars within a component: its mark is set, and the crossing one stays.
     #[inline(always)]
     fn local_turn(&mut self, state: State, after: usize) -> Turn
-        requires stands { StandsAt M.mode M.pattern M.value state }
-        requires token { TokenAt M.mode M.pattern state.place Local after }
+        requires stands { StandsAt M.way M.pattern M.value state }
+        requires token { TokenAt M.way M.pattern state.place Local after }
         requires inside { after ≤ length M.pattern }
-        ensures { IsTurn M.mode M.pattern M.value state (8 * (after - state.place) - 4) result self.old self.new }
+        ensures { IsTurn M.way M.pattern M.value state (8 * (after - state.place) - 4) result self.old self.new }
     {
         let mark = self.set_mark(after, state.at);
         Turn::On(State {
@@ -119,10 +119,10 @@ impl<'c, 'a, S: Ledger, L: Ledger, M: Texts> Engine<'c, 'a, S, L, M> {
     /// A turn at a star, a question mark or an escape.
     #[inline(always)]
     fn special_turn(&mut self, state: State) -> Turn
-        requires stands { StandsAt M.mode M.pattern M.value state }
+        requires stands { StandsAt M.way M.pattern M.value state }
         requires place { state.place < length M.pattern }
         requires other { slice_index M.pattern state.place ≢ open_bracket }
-        ensures { IsTurn M.mode M.pattern M.value state 1 result self.old self.new }
+        ensures { IsTurn M.way M.pattern M.value state 1 result self.old self.new }
     {
         let token = self.token_at(state.place);
         match token.kind {
@@ -142,10 +142,10 @@ impl<'c, 'a, S: Ledger, L: Ledger, M: Texts> Engine<'c, 'a, S, L, M> {
     /// A turn at a slash.
     #[inline(always)]
     fn slash_turn(&mut self, state: State) -> Turn
-        requires stands { StandsAt M.mode M.pattern M.value state }
+        requires stands { StandsAt M.way M.pattern M.value state }
         requires place { state.place < length M.pattern }
         requires is { slice_index M.pattern state.place ≡ slash }
-        ensures { IsTurn M.mode M.pattern M.value state 1 result self.old self.new }
+        ensures { IsTurn M.way M.pattern M.value state 1 result self.old self.new }
     {
         if !self.fits_byte(state.at, b'/') {
             return Turn::Miss(state);
@@ -161,11 +161,11 @@ impl<'c, 'a, S: Ledger, L: Ledger, M: Texts> Engine<'c, 'a, S, L, M> {
     /// Turns at bytes that are tokens by themselves, up to a slash or another token: the marks stay.
     #[inline(always)]
     fn literal_turns(&mut self, state: State) -> Turn
-        requires stands { StandsAt M.mode M.pattern M.value state }
+        requires stands { StandsAt M.way M.pattern M.value state }
         requires place { state.place < length M.pattern }
         requires literal { StandsForItself (slice_index M.pattern state.place) }
         requires other { slice_index M.pattern state.place ≢ slash }
-        ensures { IsTurn M.mode M.pattern M.value state 1 result self.old self.new }
+        ensures { IsTurn M.way M.pattern M.value state 1 result self.old self.new }
     {
         let mut place = state.place;
         let mut at = state.at;
@@ -187,8 +187,8 @@ impl<'c, 'a, S: Ledger, L: Ledger, M: Texts> Engine<'c, 'a, S, L, M> {
     /// is a token by itself, the ones that follow it are tested too, up to a slash.
     #[inline(always)]
     pub fn take_turn(&mut self, state: State) -> Turn
-        requires { StandsAt M.mode M.pattern M.value state }
-        ensures { IsTurn M.mode M.pattern M.value state 0 result self.old self.new }
+        requires { StandsAt M.way M.pattern M.value state }
+        ensures { IsTurn M.way M.pattern M.value state 0 result self.old self.new }
     {
         if state.place >= self.pattern_len() {
             if self.ends_at(state.at) {

@@ -7,15 +7,15 @@
 //! A match runs downwards: `ends` tells what the ends show, `search` takes the turns of `turns` and the ways back of
 //! `backtrack`, which scans by `scan`. They test the value by `fitting` and `marks`, and read the pattern by `tokens` and `sets`.
 ghost use Rattle.std.specs.Prelude.{◌≡◌, ◌↔◌, ◌+◌, ◌≤◌, IsTrue, IfSome, length};
-ghost use Rattle.glob_matcher.specs.Matching.{Splits};
+ghost use Rattle.glob_matcher.specs.Matching.{SplitsBy};
 ghost use Rattle.glob_matcher.specs.Steps.{NeverFall, look_limit, step_limit};
 
 use super::counted_text::CountedText;
 use super::counted_texts::CountedTexts;
 use super::counts::Counts;
 use super::engine::Engine;
-use super::mode::Mode;
 use super::texts::{Texts, text_is_short};
+use super::way::Way;
 use std::marker::Brand;
 use std::sync::ledger::Ledger;
 
@@ -27,10 +27,10 @@ use std::sync::ledger::Ledger;
 pub fn marked<S: Ledger, L: Ledger>(
     pattern: &[u8],
     value: &[u8],
-    mode: Mode,
+    way: Way,
     counts: &mut Counts<S, L>,
 ) -> bool
-    ensures exact { IsTrue result ↔ Splits value.now pattern.now mode }
+    ensures exact { IsTrue result ↔ SplitsBy value.now pattern.now way }
     ensures limit { counts.new.steps ≤ counts.old.steps + step_limit (length pattern.now) (length value.now) }
     ensures looks { counts.new.looks ≤ counts.old.looks + look_limit (length pattern.now) (length value.now) }
     ensures grows { NeverFall counts.old counts.new }
@@ -40,7 +40,7 @@ pub fn marked<S: Ledger, L: Ledger>(
     ends_then_search::<S, L, Brand>(
         CountedText::new(pattern),
         CountedText::new(value),
-        mode,
+        way,
         counts,
     )
     .0
@@ -51,25 +51,25 @@ pub fn marked<S: Ledger, L: Ledger>(
 fn ends_then_search<'c, 'a, S: Ledger, L: Ledger, M: Texts>(
     pattern: CountedText<'a, S, L>,
     value: CountedText<'a, S, L>,
-    mode: Mode,
+    way: Way,
     counts: &'c mut Counts<S, L>,
 ) -> (bool, &'c mut Counts<S, L>)
     requires pattern { pattern ≡ M.pattern }
     requires value { value ≡ M.value }
-    requires mode { mode ≡ M.mode }
+    requires way { way ≡ M.way }
     requires counts { counts.ghost_name ≡ M.counts }
-    ensures exact { IsTrue result.0 ↔ Splits value.entry pattern.entry mode }
+    ensures exact { IsTrue result.0 ↔ SplitsBy value.entry pattern.entry way }
     ensures same { result.1.ghost_name ≡ counts.entry.ghost_name }
     ensures steps { result.1.now.steps ≤ counts.old.steps + step_limit (length pattern.entry) (length value.entry) }
     ensures looks { result.1.now.looks ≤ counts.old.looks + look_limit (length pattern.entry) (length value.entry) }
     ensures grows { NeverFall counts.old result.1.now }
 {
-    let (told, counts) = compare_ends::<S, L, M>(pattern.again(), value.again(), mode, counts);
+    let (told, counts) = compare_ends::<S, L, M>(pattern.again(), value.again(), way, counts);
     // Each arm names its answer: a bit that is handed on costs every call an instruction.
     match told {
         Some(true) => (true, counts),
         Some(false) => (false, counts),
-        None => search_whole::<S, L, M>(pattern, value, mode, counts),
+        None => search_whole::<S, L, M>(pattern, value, way, counts),
     }
 }
 
@@ -78,21 +78,21 @@ fn ends_then_search<'c, 'a, S: Ledger, L: Ledger, M: Texts>(
 fn compare_ends<'c, 'a, S: Ledger, L: Ledger, M: Texts>(
     pattern: CountedText<'a, S, L>,
     value: CountedText<'a, S, L>,
-    mode: Mode,
+    way: Way,
     counts: &'c mut Counts<S, L>,
 ) -> (Option<bool>, &'c mut Counts<S, L>)
     requires pattern { pattern ≡ M.pattern }
     requires value { value ≡ M.value }
-    requires mode { mode ≡ M.mode }
+    requires way { way ≡ M.way }
     requires counts { counts.ghost_name ≡ M.counts }
-    ensures meaning { IfSome result.0 (λ answer. IsTrue answer ↔ Splits value.entry pattern.entry mode) }
+    ensures meaning { IfSome result.0 (λ answer. IsTrue answer ↔ SplitsBy value.entry pattern.entry way) }
     ensures same { result.1.ghost_name ≡ counts.entry.ghost_name }
     ensures steps { result.1.now.steps ≤ counts.old.steps + 1 }
     ensures looks { result.1.now.looks ≤ counts.old.looks + 2 }
     ensures grows { NeverFall counts.old result.1.now }
 {
     let texts = CountedTexts::<'c, 'a, S, L, M>::of(pattern, value, counts);
-    let mut ends = Engine::new(texts, mode);
+    let mut ends = Engine::new(texts, way);
     let answer = ends.ends_tell();
     (answer, ends.into_counts())
 }
@@ -103,21 +103,21 @@ fn compare_ends<'c, 'a, S: Ledger, L: Ledger, M: Texts>(
 fn search_whole<'c, 'a, S: Ledger, L: Ledger, M: Texts>(
     pattern: CountedText<'a, S, L>,
     value: CountedText<'a, S, L>,
-    mode: Mode,
+    way: Way,
     counts: &'c mut Counts<S, L>,
 ) -> (bool, &'c mut Counts<S, L>)
     requires pattern { pattern ≡ M.pattern }
     requires value { value ≡ M.value }
-    requires mode { mode ≡ M.mode }
+    requires way { way ≡ M.way }
     requires counts { counts.ghost_name ≡ M.counts }
-    ensures exact { IsTrue result.0 ↔ Splits value.entry pattern.entry mode }
+    ensures exact { IsTrue result.0 ↔ SplitsBy value.entry pattern.entry way }
     ensures same { result.1.ghost_name ≡ counts.entry.ghost_name }
     ensures steps { result.1.now.steps + 1 ≤ counts.old.steps + step_limit (length pattern.entry) (length value.entry) }
     ensures looks { result.1.now.looks + 2 ≤ counts.old.looks + look_limit (length pattern.entry) (length value.entry) }
     ensures grows { NeverFall counts.old result.1.now }
 {
     let texts = CountedTexts::<'c, 'a, S, L, M>::of(pattern, value, counts);
-    let mut engine = Engine::new(texts, mode);
+    let mut engine = Engine::new(texts, way);
     let answer = engine.search();
     (answer, engine.into_counts())
 }

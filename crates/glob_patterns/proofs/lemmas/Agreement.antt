@@ -5,38 +5,38 @@ use Rattle.std.proofs.Math.Bool.{or-true}
 use Rattle.std.proofs.lemmas.Bool.{eqb-true, false_from_ne_true}
 use Rattle.std.proofs.lemmas.List.{get_or-take, get_or-drop, get_or_default, length-take, length-take-le, length-drop}
 use Rattle.std.proofs.lemmas.List.Folds.{list_any_none}
-use Rattle.glob_matcher.specs.declared.wildmatch.mode.Mode.{Mode}
+use Rattle.glob_matcher.specs.declared.wildmatch.way.Way.{Way}
 use Rattle.glob_matcher.specs.Bytes.{NoSlash, fold, has_slash, slash}
 use Rattle.glob_patterns.specs.Laws.LiteralBytes.{AreAlike, EndsAlike}
 use Rattle.glob_patterns.specs.Private.Fronts.{AgreeFrom, BeginsAlike}
 use Rattle.glob_patterns.proofs.lemmas.LiteralLemmas.{AreAlike-from, AreAlike-at}
 
 -- two stretches of n bytes, as texts of their own
-module _ {mode : Mode} {p v : List ℕ} {i k n : ℕ} (xs ys : List ℕ) (long : length xs ≡ n) (as_long : length ys ≡ n)
+module _ {way : Way} {p v : List ℕ} {i k n : ℕ} (xs ys : List ℕ) (long : length xs ≡ n) (as_long : length ys ≡ n)
     (here : (m : ℕ) → m < n → get_or xs m 0 ≡ get_or p (i + m) 0) (there : (m : ℕ) → m < n → get_or ys m 0 ≡ get_or v (k + m) 0) where
-  agree_alike : AgreeFrom mode p v i k n → AreAlike mode xs ys
-  agree_alike agree = AreAlike-from mode xs ys (long ∙ sym as_long)
+  agree_alike : AgreeFrom way p v i k n → AreAlike way xs ys
+  agree_alike agree = AreAlike-from way xs ys (long ∙ sym as_long)
       (λ m below. let inside : m < n = omega arith in
-      ap (fold mode) (here m inside) ∙ agree.each m inside ∙ ap (fold mode) (sym (there m inside)))
+      ap (fold way) (here m inside) ∙ agree.each m inside ∙ ap (fold way) (sym (there m inside)))
 
-  alike_agree : AreAlike mode xs ys → AgreeFrom mode p v i k n
+  alike_agree : AreAlike way xs ys → AgreeFrom way p v i k n
   alike_agree alike = record {
-    each = λ m below. ap (fold mode) (sym (here m below)) ∙ AreAlike-at mode xs ys alike m (omega arith) ∙ ap (fold mode) (there m below);
+    each = λ m below. ap (fold way) (sym (here m below)) ∙ AreAlike-at way xs ys alike m (omega arith) ∙ ap (fold way) (there m below);
   }
 
 -- a text is compared whole
-pub alike_whole : {mode : Mode} {p v : List ℕ} {n : ℕ} {answer : Bool} → length p ≡ n → length v ≡ n
-    → IsTrue answer ↔ AgreeFrom mode p v 0 0 n → IsTrue answer ↔ AreAlike mode p v
-alike_whole {mode} {p} {v} long as_long agree =
+pub alike_whole : {way : Way} {p v : List ℕ} {n : ℕ} {answer : Bool} → length p ≡ n → length v ≡ n
+    → IsTrue answer ↔ AgreeFrom way p v 0 0 n → IsTrue answer ↔ AreAlike way p v
+alike_whole {way} {p} {v} long as_long agree =
     let same : (xs : List ℕ) (m : ℕ) → get_or xs m 0 ≡ get_or xs (0 + m) 0 = λ xs m. ap (λ (x : ℕ). get_or xs x 0) (omega arith) in (
       λ yes. agree_alike p v long as_long (λ m below. same p m) (λ m below. same v m) (agree.0 yes),
       λ alike. agree.1 (alike_agree p v long as_long (λ m below. same p m) (λ m below. same v m) alike),
     )
 
 -- a front is compared with the value's
-pub alike_front : {mode : Mode} {p v : List ℕ} {n : ℕ} {answer : Bool} (place : ℕ) → n ≡ min place (length p) → n ≤ length v
-    → IsTrue answer ↔ AgreeFrom mode p v 0 0 n → IsTrue answer ↔ BeginsAlike mode v (take place p)
-alike_front {mode} {p} {v} {n} place is fits agree =
+pub alike_front : {way : Way} {p v : List ℕ} {n : ℕ} {answer : Bool} (place : ℕ) → n ≡ min place (length p) → n ≤ length v
+    → IsTrue answer ↔ AgreeFrom way p v 0 0 n → IsTrue answer ↔ BeginsAlike way v (take place p)
+alike_front {way} {p} {v} {n} place is fits agree =
     let long : length (take place p) ≡ n = length-take place p ∙ sym is in
     let few : length (take place p) ≤ length v = omega arith in
     let low : n ≤ place = (let below = min-le_left place (length p) in omega arith) in
@@ -50,9 +50,9 @@ alike_front {mode} {p} {v} {n} place is fits agree =
     )
 
 -- what follows the first byte is compared with the value's end
-pub alike_end : {mode : Mode} {p v : List ℕ} {from k n : ℕ} {answer : Bool} → from ≡ min (length p) 1 → n ≡ length p - from → n ≤ length v → k ≡ length v - n
-    → IsTrue answer ↔ AgreeFrom mode p v from k n → IsTrue answer ↔ EndsAlike mode v (drop 1 p)
-alike_end {mode} {p} {v} {from} {k} {n} first is fits at agree =
+pub alike_end : {way : Way} {p v : List ℕ} {from k n : ℕ} {answer : Bool} → from ≡ min (length p) 1 → n ≡ length p - from → n ≤ length v → k ≡ length v - n
+    → IsTrue answer ↔ AgreeFrom way p v from k n → IsTrue answer ↔ EndsAlike way v (drop 1 p)
+alike_end {way} {p} {v} {from} {k} {n} first is fits at agree =
     let long : length (drop 1 p) ≡ n = length-drop 1 p ∙ omega arith in
     let few : length (drop 1 p) ≤ length v = omega arith in
     let start : length v - length (drop 1 p) ≡ k = omega arith in

@@ -1,17 +1,10 @@
--- The last part of a path has no slash, and so no mode tells slashes apart there.
-use Rattle.std.proofs.Common.{◌≡◌, ℕ, ◌+◌, ◌<◌, false, ◌==◌, List, length, get_or, drop, sym, ◌∙◌, ap, arith, get_or-drop, length-drop, eqb-true}
-use Rattle.std.specs.Prelude.{bit_and}
+-- The last part of a path has no slash.
+use Rattle.std.proofs.Common.{◌≡◌, ℕ, ◌+◌, ◌<◌, false, ◌==◌, List, length, get_or, drop, sym, ◌∙◌, arith, get_or-drop, length-drop, eqb-true}
 use Rattle.std.proofs.lemmas.Bool.{false_from_ne_true}
 use Rattle.std.proofs.lemmas.List.{get_or_default}
 use Rattle.std.proofs.lemmas.List.Folds.{list_any_none}
-use Rattle.std.proofs.lemmas.Nat.{and_assoc}
-use Rattle.glob_matcher.specs.declared.wildmatch.mode.Mode.{Mode}
-use Rattle.glob_matcher.specs.Bytes.{folds, has_slash, slash}
+use Rattle.glob_matcher.specs.Bytes.{has_slash, slash}
 use Rattle.glob_patterns.specs.RepositoryPaths.{IsAfterLastSlash}
-
--- the mode without the bit of slashes agrees on case
-pub folds_without : (mode other : Mode) → other.0 ≡ bit_and mode.0 254 → folds mode ≡ folds other
-folds_without mode other is = ap (λ (n : ℕ). n == 2) (sym (ap (λ (n : ℕ). bit_and n 2) is ∙ and_assoc 2 mode.0 254))
 
 -- behind the last slash there is none
 pub after_last_slash : (path : List ℕ) (k : ℕ) → IsAfterLastSlash path k → has_slash (drop k path) ≡ false

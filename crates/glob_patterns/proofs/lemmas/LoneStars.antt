@@ -2,7 +2,7 @@
 use Rattle.std.proofs.Common.{◌≡◌, ◌⊎◌, ⊎_elim, ℕ, ◌+◌, ◌≤◌, true, false, ◌==◌, List, length, sym, ◌∙◌, subst, arith}
 use Rattle.std.proofs.lemmas.Bool.{eq-eqb, cases_Bool, false≢true}
 use Rattle.std.proofs.lemmas.List.Folds.{list_any_at}
-use Rattle.glob_matcher.specs.declared.wildmatch.mode.Mode.{Mode}
+use Rattle.glob_matcher.specs.declared.wildmatch.way.Way.{Way}
 use Rattle.glob_matcher.specs.Bytes.{HasByte, NoSlash, has_slash, is_path, slash, star}
 use Rattle.glob_matcher.specs.Tokens.{Free, Local, TokenAt, IsRun}
 use Rattle.glob_matcher.specs.Matching.{SplitsFrom}
@@ -19,27 +19,27 @@ lone_star_is_run p i j next here none = record {
   whole = none;
 }
 
-module _ (mode : Mode) (p : List ℕ) (i j : ℕ) (next : j ≡ i + 1) (run : IsRun p i j) where
-  is_free : is_path mode ≡ false → TokenAt mode p i Free j
+module _ (way : Way) (p : List ℕ) (i j : ℕ) (next : j ≡ i + 1) (run : IsRun p i j) where
+  is_free : is_path way ≡ false → TokenAt way p i Free j
   is_free plain = (run, λ path. absurd (false≢true (sym plain ∙ path)))
 
-  is_local : is_path mode ≡ true → TokenAt mode p i Local j
+  is_local : is_path way ≡ true → TokenAt way p i Local j
   is_local path = (run, path, λ b. let many = b.many in absurd (omega arith))
 
   -- what follows a star splits the value from some later place on
-  pub lone_star_out : (v : List ℕ) (k : ℕ) → k ≤ length v → SplitsFrom v k p i mode → (e : ℕ) × (k ≤ e) × (e ≤ length v) × SplitsFrom v e p j mode
+  pub lone_star_out : (v : List ℕ) (k : ℕ) → k ≤ length v → SplitsFrom v k p i way → (e : ℕ) × (k ≤ e) × (e ≤ length v) × SplitsFrom v e p j way
   lone_star_out v k inside all = ⊎_elim
-      (λ path. (let out = local_out mode p v i j k (is_local path) inside all in (out.0, out.1, out.2, out.4)))
-      (λ plain. free_out mode p v i j k (is_free plain) inside all)
-      (cases_Bool (is_path mode))
+      (λ path. (let out = local_out way p v i j k (is_local path) inside all in (out.0, out.1, out.2, out.4)))
+      (λ plain. free_out way p v i j k (is_free plain) inside all)
+      (cases_Bool (is_path way))
 
   -- a star takes the bytes between two places, where the mode is plain or the value has no slash
-  pub lone_star_in : (v : List ℕ) (k e : ℕ) → k ≤ e → e ≤ length v → (is_path mode ≡ false) ⊎ (has_slash v ≡ false)
-      → SplitsFrom v e p j mode → SplitsFrom v k p i mode
+  pub lone_star_in : (v : List ℕ) (k e : ℕ) → k ≤ e → e ≤ length v → (is_path way ≡ false) ⊎ (has_slash v ≡ false)
+      → SplitsFrom v e p j way → SplitsFrom v k p i way
   lone_star_in v k e low high open_or_bare later =
-      let bare : is_path mode ≡ true → NoSlash v 0 (length v) =
-      λ path. ⊎_elim (λ (plain : is_path mode ≡ false). absurd (false≢true (sym plain ∙ path))) (no_slash v) open_or_bare in
+      let bare : is_path way ≡ true → NoSlash v 0 (length v) =
+      λ path. ⊎_elim (λ (plain : is_path way ≡ false). absurd (false≢true (sym plain ∙ path))) (no_slash v) open_or_bare in
       ⊎_elim
-      (λ path. local_in mode p v i j k e (is_local path) low high (record { at = λ m from below. (bare path).at m (omega arith) (omega arith) }) later)
-      (λ plain. free_in mode p v i j k e (is_free plain) low high later)
-      (cases_Bool (is_path mode))
+      (λ path. local_in way p v i j k e (is_local path) low high (record { at = λ m from below. (bare path).at m (omega arith) (omega arith) }) later)
+      (λ plain. free_in way p v i j k e (is_free plain) low high later)
+      (cases_Bool (is_path way))

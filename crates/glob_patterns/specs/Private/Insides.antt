@@ -1,6 +1,6 @@
 -- Texts that are a star, a literal and a star, and the values that have the literal.
 use Rattle.std.specs.Prelude.{◌≡◌, ℕ, ◌+◌, ◌-◌, ◌*◌, ◌<◌, ◌≤◌, Bool, Option, None, Some, List, length, slice_index}
-use Rattle.glob_matcher.specs.declared.wildmatch.mode.Mode.{Mode}
+use Rattle.glob_matcher.specs.declared.wildmatch.way.Way.{Way}
 use Rattle.glob_matcher.specs.Bytes.{StandsForItself, star}
 use Rattle.glob_patterns.specs.Private.Fronts.{AgreeFrom}
 
@@ -12,10 +12,10 @@ pub record IsBetweenStars (text : List ℕ) : Type 0 where
   pub literal : (m : ℕ) → 1 ≤ m → m < length text - 1 → StandsForItself (slice_index text m)
 
 -- from some place on the value has the bytes between the first of the text and its last, up to case where the mode folds
-pub record HasInside (mode : Mode) (value text : List ℕ) : Type 0 where
+pub record HasInside (way : Way) (value text : List ℕ) : Type 0 where
   pub place : ℕ
   pub fits : place + (length text - 2) ≤ length value
-  pub agree : AgreeFrom mode text value 1 place (length text - 2)
+  pub agree : AgreeFrom way text value 1 place (length text - 2)
 
 -- how many looks an answer takes at most: more where there is one, since the matcher is then not asked
 abbrev pub answer_limit : Option Bool → ℕ → ℕ → ℕ

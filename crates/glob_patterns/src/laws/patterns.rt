@@ -4,16 +4,20 @@ ghost use Rattle.std.specs.List.{list_any, starts_with};
 ghost use Rattle.std.specs.Str.{IsUtf8};
 ghost use Rattle.std.specs.declared.cmp.Ordering.TheVariants.{Equal, Less};
 ghost use Rattle.glob_matcher.specs.declared.wildmatch.mode.Mode as wildmatch;
+ghost use Rattle.glob_matcher.specs.declared.wildmatch.way.Way.{Way};
 ghost use Rattle.glob_patterns.specs.declared.mode.Mode as pattern;
 ghost use Rattle.glob_patterns.specs.declared.pattern.Pattern.{Pattern};
 ghost use Rattle.glob_patterns.specs.declared.pattern.case.Case.{Case};
 ghost use Rattle.glob_patterns.specs.Laws.LiteralBytes.{AreAlike, EndsAlike, HasAlike, HasAlikePair, IsUnescapedUpTo, is_joining};
 ghost use Rattle.glob_matcher.specs.Bytes.{HasByte, is_special};
-ghost use Rattle.glob_matcher.specs.Matching.{Splits};
+ghost use Rattle.glob_matcher.specs.Matching.{Splits, SplitsBy};
 ghost use Rattle.glob_patterns.specs.PatternParts.{text_of, SamePattern, pattern_cmp};
 ghost use Rattle.glob_patterns.specs.Equations.GitLines.{git_reading_of};
 ghost use Rattle.glob_patterns.specs.Equations.Readings.{reading_of};
 ghost use Rattle.glob_patterns.specs.GitLines.{GitReads, begins_with_escaped_sign};
+ghost use Rattle.glob_patterns.specs.GitPaths.{AnswersAsGit, FrontAndRest};
+ghost use Rattle.glob_patterns.specs.Laws.Fronts.{StarsAreApart};
+ghost use Rattle.glob_patterns.specs.RepositoryPaths.{Answers};
 ghost use Rattle.glob_patterns.specs.Patterns.{HasReading, Reads, display_of, is_absolute, is_negative, shown_line};
 
 use crate::pattern::{Case, Pattern};
@@ -21,35 +25,41 @@ use std::hash::Hash;
 
 /// A text without `*`, `?`, `[` and `\` matches exactly the values that are equal to it, up to case where the mode folds.
 pub fn literal_text_splits_itself()
-    ensures { (text value : List ℕ) (mode : wildmatch.Mode) → list_any is_special text ≡ false
-        → Splits value text mode ↔ AreAlike mode value text }
+    ensures { (text value : List ℕ) (way : Way) → list_any is_special text ≡ false
+        → SplitsBy value text way ↔ AreAlike way value text }
 {}
 
-/// A value that is matched ends as the text does, up to case where the mode folds: as far back as the text has none of
-/// `*`, `?`, `[`, `]`, `\` and `/`.
+/// A value that is matched, whole or by front and rest, ends as the text does, up to case where the mode folds: as far back as the text
+/// has none of `*`, `?`, `[`, `]`, `\` and `/`.
 pub fn matched_values_end_as_the_text()
-    ensures { (front end value : List ℕ) (mode : wildmatch.Mode) → list_any is_joining end ≡ false
-        → Splits value (front ++ end) mode → EndsAlike mode value end }
+    ensures whole { (front end value : List ℕ) (way : Way) → list_any is_joining end ≡ false
+        → SplitsBy value (front ++ end) way → EndsAlike way value end }
+    ensures parted { (front end value : List ℕ) (way : Way) → list_any is_joining end ≡ false
+        → FrontAndRest value (front ++ end) way → EndsAlike way value end }
 {}
 
 /// A value that is matched has each byte of the text that is none of `*`, `?`, `[`, `]`, `\` and `/`, and that stands
 /// before the first `[` and the first `\`, up to case where the mode folds.
 pub fn matched_values_have_the_literal_bytes()
-    ensures { (text value : List ℕ) (mode : wildmatch.Mode) (i b : ℕ) → IsUnescapedUpTo text i → HasByte text i b → is_joining b ≡ false
-        → Splits value text mode → HasAlike mode value b }
+    ensures whole { (text value : List ℕ) (way : Way) (i b : ℕ) → IsUnescapedUpTo text i → HasByte text i b → is_joining b ≡ false
+        → SplitsBy value text way → HasAlike way value b }
+    ensures parted { (text value : List ℕ) (way : Way) (i b : ℕ) → IsUnescapedUpTo text i → HasByte text i b → is_joining b ≡ false
+        → FrontAndRest value text way → HasAlike way value b }
 {}
 
 /// A value that is matched has any two such bytes that stand side by side in the text side by side, too.
 pub fn matched_values_have_the_literal_pairs()
-    ensures { (text value : List ℕ) (mode : wildmatch.Mode) (i a b : ℕ) → IsUnescapedUpTo text (i + 1) → HasByte text i a → HasByte text (i + 1) b
-        → is_joining a ≡ false → is_joining b ≡ false → Splits value text mode → HasAlikePair mode value a b }
+    ensures whole { (text value : List ℕ) (way : Way) (i a b : ℕ) → IsUnescapedUpTo text (i + 1) → HasByte text i a → HasByte text (i + 1) b
+        → is_joining a ≡ false → is_joining b ≡ false → SplitsBy value text way → HasAlikePair way value a b }
+    ensures parted { (text value : List ℕ) (way : Way) (i a b : ℕ) → IsUnescapedUpTo text (i + 1) → HasByte text i a → HasByte text (i + 1) b
+        → is_joining a ≡ false → is_joining b ≡ false → FrontAndRest value text way → HasAlikePair way value a b }
 {}
 
 /// Two answers that are each yes exactly if the text matches the value are the same. So [`Pattern::matches`] and
 /// [`glob_matcher::wildmatch::wildmatch`] agree.
 pub fn two_answers_agree()
-    ensures { (text value : List ℕ) (mode : wildmatch.Mode) (first second : Bool)
-        → IsTrue first ↔ Splits value text mode → IsTrue second ↔ Splits value text mode → first ≡ second }
+    ensures { (text value : List ℕ) (way : Way) (first second : Bool)
+        → IsTrue first ↔ SplitsBy value text way → IsTrue second ↔ SplitsBy value text way → first ≡ second }
 {}
 
 /// A line has at most one reading.
@@ -90,6 +100,19 @@ pub fn git_line_is_shown()
 pub fn both_readings_of_a_line_agree()
     ensures { (line text : List ℕ) (mode : pattern.Mode) (place : Option ℕ) → begins_with_escaped_sign line ≡ false
         → line ≢ codes "/" → line ≢ codes "!/" → Reads line true text mode place → GitReads line text mode place }
+{}
+
+/// Where no two stars stand directly behind a text's front, or a slash or nothing stands before them, front and rest match what the whole
+/// text matches.
+pub fn a_front_without_stars_behind_it_changes_nothing()
+    ensures { (text value : List ℕ) (way : Way) → StarsAreApart text → FrontAndRest value text way ↔ SplitsBy value text way }
+{}
+
+/// So, where case counts, such a text answers for a path as Git reads it exactly where it does in path mode.
+pub fn both_answers_for_a_path_agree()
+    ensures { (text : List ℕ) (mode : pattern.Mode) (path : List ℕ) (basename_start : Option ℕ) (is_dir : Option Bool)
+        → StarsAreApart text
+        → AnswersAsGit text mode path basename_start is_dir Case.Sensitive ↔ Answers text mode path basename_start is_dir Case.Sensitive (record { 0 = 1 }) }
 {}
 
 /// A text that is UTF-8 is displayed byte for byte.

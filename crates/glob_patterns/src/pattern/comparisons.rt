@@ -1,7 +1,7 @@
 //! The comparisons that decide without the matcher whether a value matches. They read both texts in counted looks alone.
 ghost use Rattle.std.specs.Prelude.{◌≡◌, ◌↔◌, ◌||◌, ◌+◌, ◌*◌, ◌<◌, ◌≤◌, false, not, IsTrue, IfSome, length, slice_index, take, drop};
 ghost use Rattle.glob_matcher.specs.Bytes.{HasByte, fold, has_slash, is_path, slash, star};
-ghost use Rattle.glob_matcher.specs.Matching.{Splits};
+ghost use Rattle.glob_matcher.specs.Matching.{SplitsBy};
 ghost use Rattle.glob_matcher.specs.Private.Takes.{Takes};
 ghost use Rattle.glob_patterns.specs.Laws.LiteralBytes.{AreAlike, EndsAlike};
 ghost use Rattle.glob_patterns.specs.Patterns.{IsPattern};
@@ -28,7 +28,7 @@ pub(super) enum Shown {
     /// The text doesn't match it.
     Miss,
     /// Neither: the matcher is to be asked, in this mode.
-    Open(wildmatch::Mode),
+    Open(wildmatch::Way),
 }
 
 /// The text of a pattern beside a value. Contracts see the counts, and the two texts by `M`.
@@ -37,7 +37,7 @@ pub(super) struct Comparison<'c, 'a, S: Ledger, L: Ledger, M: Texts> {
     texts: CountedTexts<'c, 'a, S, L, M>,
     /// Whether it is known that the value has no slash.
     is_bare: bool,
-    mode: wildmatch::Mode,
+    way: wildmatch::Way,
 }
 
 impl<'c, 'a, S: Ledger, L: Ledger, M: Texts> Model for Comparison<'c, 'a, S, L, M> {
@@ -49,7 +49,7 @@ impl<'c, 'a, S: Ledger, L: Ledger, M: Texts> Model for Comparison<'c, 'a, S, L, 
 
     ghost view = { λ c. c.texts };
 
-    ghost invariant = { λ c. (c.mode ≡ M.mode) × (IsTrue c.is_bare → has_slash M.value ≡ false) };
+    ghost invariant = { λ c. (c.way ≡ M.way) × (IsTrue c.is_bare → has_slash M.value ≡ false) };
 }
 
 impl<'c, 'a, S: Ledger, L: Ledger, M: Texts> Comparison<'c, 'a, S, L, M> {
@@ -58,16 +58,16 @@ impl<'c, 'a, S: Ledger, L: Ledger, M: Texts> Comparison<'c, 'a, S, L, M> {
     pub(super) fn new(
         texts: CountedTexts<'c, 'a, S, L, M>,
         is_bare: bool,
-        mode: wildmatch::Mode,
+        way: wildmatch::Way,
     ) -> Self
-        requires mode { mode ≡ M.mode }
+        requires way { way ≡ M.way }
         requires bare { IsTrue is_bare → has_slash M.value ≡ false }
         ensures { result ≡ texts.entry }
     {
         Comparison {
             texts,
             is_bare,
-            mode,
+            way,
         }
     }
 
@@ -83,13 +83,13 @@ impl<'c, 'a, S: Ledger, L: Ledger, M: Texts> Comparison<'c, 'a, S, L, M> {
     /// What the comparisons show.
     #[inline(always)]
     pub(super) fn shown(&mut self, pattern_mode: Mode, first_wildcard_pos: Option<usize>) -> Shown
-        ensures meaning { IsPattern M.pattern pattern_mode first_wildcard_pos → IsShown result M.value M.pattern M.mode }
+        ensures meaning { IsPattern M.pattern pattern_mode first_wildcard_pos → IsShown result M.value M.pattern M.way }
         ensures count { Takes self.old self.new 0 (shown_limit result (length M.pattern) (length M.value)) }
     {
         match self.answer(pattern_mode, first_wildcard_pos) {
             Some(true) => Shown::Match,
             Some(false) => Shown::Miss,
-            None => Shown::Open(self.matcher_mode()),
+            None => Shown::Open(self.matcher_way()),
         }
     }
 
@@ -98,7 +98,7 @@ impl<'c, 'a, S: Ledger, L: Ledger, M: Texts> Comparison<'c, 'a, S, L, M> {
     #[inline(always)]
     fn answer(&mut self, pattern_mode: Mode, first_wildcard_pos: Option<usize>) -> Option<bool>
         ensures meaning { IsPattern M.pattern pattern_mode first_wildcard_pos →
-            IfSome result (λ answer. IsTrue answer ↔ Splits M.value M.pattern M.mode) }
+            IfSome result (λ answer. IsTrue answer ↔ SplitsBy M.value M.pattern M.way) }
         ensures count { Takes self.old self.new 0 (answer_limit result (length M.pattern) (length M.value)) }
     {
         let Some(pos) = first_wildcard_pos else {
@@ -126,7 +126,7 @@ impl<'c, 'a, S: Ledger, L: Ledger, M: Texts> Comparison<'c, 'a, S, L, M> {
     /// literal. A long value is left to the matcher.
     #[inline(always)]
     fn between_stars(&mut self) -> Option<bool>
-        ensures meaning { IfSome result (λ answer. IsTrue answer ↔ Splits M.value M.pattern M.mode) }
+        ensures meaning { IfSome result (λ answer. IsTrue answer ↔ SplitsBy M.value M.pattern M.way) }
         ensures count { Takes self.old self.new 0 (answer_limit result (length M.pattern) (length M.value)) }
     {
         if self.texts.value_len() > LONGEST_SEARCHED
@@ -160,7 +160,7 @@ impl<'c, 'a, S: Ledger, L: Ledger, M: Texts> Comparison<'c, 'a, S, L, M> {
     #[inline(always)]
     fn has_inside(&mut self) -> bool
         requires { 3 ≤ length M.pattern }
-        ensures exact { IsTrue result ↔ HasInside M.mode M.value M.pattern }
+        ensures exact { IsTrue result ↔ HasInside M.way M.value M.pattern }
         ensures count { Takes self.old self.new 0 (2 * length M.pattern * (length M.value + 1)) }
     {
         let len = self.texts.pattern_len() - 2;
@@ -179,7 +179,7 @@ impl<'c, 'a, S: Ledger, L: Ledger, M: Texts> Comparison<'c, 'a, S, L, M> {
     /// Whether the two texts are equal, up to case where the mode folds.
     #[inline(always)]
     fn are_alike(&mut self) -> bool
-        ensures exact { IsTrue result ↔ AreAlike M.mode M.pattern M.value }
+        ensures exact { IsTrue result ↔ AreAlike M.way M.pattern M.value }
         ensures count { Takes self.old self.new 0 (2 * length M.pattern) }
     {
         let len = self.texts.pattern_len();
@@ -192,7 +192,7 @@ impl<'c, 'a, S: Ledger, L: Ledger, M: Texts> Comparison<'c, 'a, S, L, M> {
     /// Whether the value begins with the bytes of the text before a place, up to case where the mode folds.
     #[inline(always)]
     pub(super) fn begins_alike(&mut self, place: usize) -> bool
-        ensures exact { IsTrue result ↔ BeginsAlike M.mode M.value (take place M.pattern) }
+        ensures exact { IsTrue result ↔ BeginsAlike M.way M.value (take place M.pattern) }
         ensures count { Takes self.old self.new 0 (2 * length M.pattern) }
     {
         let len = place.min(self.texts.pattern_len());
@@ -205,7 +205,7 @@ impl<'c, 'a, S: Ledger, L: Ledger, M: Texts> Comparison<'c, 'a, S, L, M> {
     /// Whether the value ends in what follows the first byte of the text, up to case where the mode folds.
     #[inline(always)]
     fn ends_alike(&mut self) -> bool
-        ensures exact { IsTrue result ↔ EndsAlike M.mode M.value (drop 1 M.pattern) }
+        ensures exact { IsTrue result ↔ EndsAlike M.way M.value (drop 1 M.pattern) }
         ensures count { Takes self.old self.new 0 (2 * length M.pattern) }
     {
         let from = self.texts.pattern_len().min(1);
@@ -223,7 +223,7 @@ impl<'c, 'a, S: Ledger, L: Ledger, M: Texts> Comparison<'c, 'a, S, L, M> {
     fn agree_from(&mut self, place: usize, at: usize, count: usize) -> bool
         requires pattern { place + count ≤ length M.pattern }
         requires value { at + count ≤ length M.value }
-        ensures exact { IsTrue result ↔ AgreeFrom M.mode M.pattern M.value place at count }
+        ensures exact { IsTrue result ↔ AgreeFrom M.way M.pattern M.value place at count }
         ensures count { Takes self.old self.new 0 (2 * count) }
     {
         'bytes: for i in 0..count {
@@ -239,15 +239,12 @@ impl<'c, 'a, S: Ledger, L: Ledger, M: Texts> Comparison<'c, 'a, S, L, M> {
     fn agree_at(&mut self, place: usize, at: usize) -> bool
         requires pattern { place < length M.pattern }
         requires value { at < length M.value }
-        ensures exact { IsTrue result ↔ (fold M.mode (slice_index M.pattern place) ≡ fold M.mode (slice_index M.value at)) }
+        ensures exact { IsTrue result ↔ (fold M.way (slice_index M.pattern place) ≡ fold M.way (slice_index M.value at)) }
         ensures count { Takes self.old self.new 0 2 }
     {
         let one = self.texts.pattern_byte(place);
         let other = self.texts.value_byte(at);
-        if one == other {
-            return true;
-        }
-        self.mode.contains(wildmatch::Mode::IGNORE_CASE) && one.eq_ignore_ascii_case(&other)
+        self.way.alike(one, other)
     }
 
     /// The byte at a place inside the text.
@@ -263,10 +260,10 @@ impl<'c, 'a, S: Ledger, L: Ledger, M: Texts> Comparison<'c, 'a, S, L, M> {
     /// Whether a star may take all bytes of the value: in plain mode, and where the value has no slash.
     #[inline(always)]
     fn is_one_component(&mut self) -> bool
-        ensures exact { result ≡ (not (is_path M.mode) || not (has_slash M.value)) }
+        ensures exact { result ≡ (not (is_path M.way) || not (has_slash M.value)) }
         ensures count { Takes self.old self.new 0 (length M.value) }
     {
-        if self.is_bare || !self.mode.contains(wildmatch::Mode::NO_MATCH_SLASH_LITERAL) {
+        if self.is_bare || !self.way.is_path() {
             return true;
         }
         let len = self.texts.value_len();
@@ -291,17 +288,16 @@ impl<'c, 'a, S: Ledger, L: Ledger, M: Texts> Comparison<'c, 'a, S, L, M> {
     /// The mode in which the matcher is asked. Where the value has no slash, plain mode answers sooner, and answers the same for
     /// a text that doesn't begin with two stars.
     #[inline(always)]
-    fn matcher_mode(&mut self) -> wildmatch::Mode
-        ensures same { Splits M.value M.pattern result ↔ Splits M.value M.pattern M.mode }
+    fn matcher_way(&mut self) -> wildmatch::Way
+        ensures same { SplitsBy M.value M.pattern result ↔ SplitsBy M.value M.pattern M.way }
         ensures count { Takes self.old self.new 0 2 }
     {
         // laws do nothing: they are called for what they ensure
-        laws::no_slash_is_special_where_the_value_has_none();
+        laws::no_slash_is_special_in_ways_that_fold_alike();
         if !self.is_bare || self.begins_with_two_stars() {
-            return self.mode;
+            return self.way;
         }
-        self.mode
-            .difference(wildmatch::Mode::NO_MATCH_SLASH_LITERAL)
+        self.way.in_plain_mode()
     }
 
     /// Whether the text begins with two stars.

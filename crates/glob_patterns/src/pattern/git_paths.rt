@@ -4,7 +4,7 @@ ghost use Rattle.std.specs.Prelude.{◌≡◌, ◌↔◌, ◌+◌, ◌*◌, ◌�
 ghost use Rattle.std.specs.Option.{ForSome};
 ghost use Rattle.glob_matcher.specs.Private.Takes.{Takes};
 ghost use Rattle.glob_matcher.specs.Steps.{IsBlankOf, NeverFall, step_limit};
-ghost use Rattle.glob_patterns.specs.GitPaths.{AnswersAsGit, FrontAndRest, git_mode};
+ghost use Rattle.glob_patterns.specs.GitPaths.{AnswersAsGit, FrontAndRest, git_way};
 ghost use Rattle.glob_patterns.specs.PatternLimits.{pattern_look_limit};
 ghost use Rattle.glob_patterns.specs.Patterns.{IsPattern};
 ghost use Rattle.glob_patterns.specs.RepositoryPaths.{IsAfterLastSlash};
@@ -12,20 +12,24 @@ ghost use Rattle.glob_patterns.specs.Private.Asked.{IsAnsweredAsGit};
 ghost use Rattle.glob_patterns.specs.Private.Fronts.{BeginsAlike};
 
 use super::comparisons::Comparison;
-use super::paths::{Asked, with_case};
+use super::paths::Asked;
 use super::view::PatternView;
 use super::{Case, Mode, Pattern};
 use bitflags::Flags;
 use glob_matcher::wildmatch;
-use glob_matcher::wildmatch::{CountedTexts, Counts, Texts, text_is_short};
+use glob_matcher::wildmatch::{CountedTexts, Counts, Folding, Texts, Way, text_is_short};
 use std::marker::Brand;
 use std::sync::ledger::{Blank, Ledger};
 
-/// The mode in which a pattern that Git reads matches paths.
-fn git_mode(case: Case) -> wildmatch::Mode
-    ensures { result ≡ git_mode case }
+/// The way in which a pattern that Git reads matches paths.
+fn git_way(case: Case) -> Way
+    ensures { result ≡ git_way case }
 {
-    with_case(wildmatch::Mode::NO_MATCH_SLASH_LITERAL, case)
+    let folding = match case {
+        Case::Sensitive => Folding::Off,
+        Case::Fold => Folding::Exact,
+    };
+    Way::new(true, folding)
 }
 
 impl Pattern {
@@ -86,13 +90,12 @@ impl<'a> PatternView<'a> {
         ensures { IsPattern self.entry.text.now self.entry.mode self.entry.first_wildcard_pos →
             IsTrue result ↔ AnswersAsGit self.entry.text.now self.entry.mode path.now basename_start_pos is_dir case }
     {
-        let mode = git_mode(case);
         let asked = Asked {
             path,
             basename_start_pos,
             is_dir,
             case,
-            mode,
+            mode: wildmatch::Mode::NO_MATCH_SLASH_LITERAL,
         };
         self.answers_as_git_with_new_counts::<Brand, Brand>(asked, (Blank::new(1), Blank::new(1)))
     }
@@ -105,7 +108,6 @@ impl<'a> PatternView<'a> {
         blanks: (Blank, Blank),
     ) -> bool
         requires basename { ForSome asked.basename_start_pos (IsAfterLastSlash asked.path.now) }
-        requires mode { asked.mode ≡ git_mode asked.case }
         requires steps { IsBlankOf S.name S.parts blanks.0 }
         requires looks { IsBlankOf L.name L.parts blanks.1 }
         ensures { IsPattern self.entry.text.now self.entry.mode self.entry.first_wildcard_pos →
@@ -134,13 +136,12 @@ impl<'a> PatternView<'a> {
             ≤ counts.old.looks + pattern_look_limit (length self.entry.text.now) (length path.now) }
         ensures grows { NeverFall counts.old counts.new }
     {
-        let mode = git_mode(case);
         let asked = Asked {
             path,
             basename_start_pos,
             is_dir,
             case,
-            mode,
+            mode: wildmatch::Mode::NO_MATCH_SLASH_LITERAL,
         };
         self.answers_as_git(asked, counts)
     }
@@ -152,8 +153,7 @@ impl<'a> PatternView<'a> {
         asked: Asked<'_>,
         counts: &mut Counts<S, L>,
     ) -> bool
-        requires basename { ForSome asked.basename_start_pos (IsAfterLastSlash asked.path.now) }
-        requires mode { asked.mode ≡ git_mode asked.case }
+        requires { ForSome asked.basename_start_pos (IsAfterLastSlash asked.path.now) }
         ensures exact { IsPattern self.entry.text.now self.entry.mode self.entry.first_wildcard_pos →
             IsTrue result ↔ IsAnsweredAsGit self.entry.text.now self.entry.mode asked.entry }
         ensures steps { counts.new.steps ≤ counts.old.steps + step_limit (length self.entry.text.now) (length asked.entry.path.now) }
@@ -164,11 +164,12 @@ impl<'a> PatternView<'a> {
         if self.mode.contains(Mode::MUST_BE_DIR) && asked.is_dir != Some(true) {
             return false;
         }
+        let way = git_way(asked.case);
         if !self.mode.looks_at_name() {
-            return self.decide_by_front(asked.path, asked.mode, counts);
+            return self.decide_by_front(asked.path, way, counts);
         }
         let start = asked.subject_start(self.mode);
-        self.decide(&asked.path[start..], start > 0, asked.mode, counts)
+        self.decide(&asked.path[start..], start > 0, way, counts)
     }
 
     /// Whether the value begins as the literal front of the text does, and the rest of the text matches what follows.
@@ -176,11 +177,11 @@ impl<'a> PatternView<'a> {
     fn decide_by_front<S: Ledger, L: Ledger>(
         self,
         value: &[u8],
-        mode: wildmatch::Mode,
+        way: Way,
         counts: &mut Counts<S, L>,
     ) -> bool
         ensures exact { IsPattern self.entry.text.now self.entry.mode self.entry.first_wildcard_pos →
-            IsTrue result ↔ FrontAndRest value.now self.entry.text.now mode }
+            IsTrue result ↔ FrontAndRest value.now self.entry.text.now way }
         ensures steps { counts.new.steps ≤ counts.old.steps + step_limit (length self.entry.text.now) (length value.now) }
         ensures looks { counts.new.looks
             ≤ counts.old.looks + pattern_look_limit (length self.entry.text.now) (length value.now) }
@@ -188,15 +189,15 @@ impl<'a> PatternView<'a> {
     {
         let front_end = match self.first_wildcard_pos {
             Some(place) if place > 0 && place <= self.text.len() => place,
-            _ => return self.decide(value, false, mode, counts),
+            _ => return self.decide(value, false, way, counts),
         };
         text_is_short(self.text);
         text_is_short(value);
-        let (begins, counts) = self.front_compared::<S, L, Brand>(value, front_end, mode, counts);
+        let (begins, counts) = self.front_compared::<S, L, Brand>(value, front_end, way, counts);
         if !begins {
             return false;
         }
-        wildmatch::marked(&self.text[front_end..], &value[front_end..], mode, counts)
+        wildmatch::marked(&self.text[front_end..], &value[front_end..], way, counts)
     }
 
     /// Whether the value begins with the bytes of the text before a place, and the counts of what that took.
@@ -205,19 +206,19 @@ impl<'a> PatternView<'a> {
         self,
         value: &'a [u8],
         place: usize,
-        mode: wildmatch::Mode,
+        way: Way,
         counts: &'c mut Counts<S, L>,
     ) -> (bool, &'c mut Counts<S, L>)
         requires pattern { self.text.now ≡ M.pattern }
         requires value { value.now ≡ M.value }
-        requires mode { mode ≡ M.mode }
+        requires way { way ≡ M.way }
         requires counts { counts.ghost_name ≡ M.counts }
-        ensures exact { IsTrue result.0 ↔ BeginsAlike mode value.now (take place self.entry.text.now) }
+        ensures exact { IsTrue result.0 ↔ BeginsAlike way value.now (take place self.entry.text.now) }
         ensures same { result.1.ghost_name ≡ counts.entry.ghost_name }
         ensures count { Takes counts.old result.1.now 0 (2 * length self.entry.text.now) }
     {
         let texts = CountedTexts::<'c, 'a, S, L, M>::new(self.text, value, counts);
-        let mut comparison = Comparison::new(texts, false, mode);
+        let mut comparison = Comparison::new(texts, false, way);
         let begins = comparison.begins_alike(place);
         (begins, comparison.into_counts())
     }

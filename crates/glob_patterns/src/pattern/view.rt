@@ -2,7 +2,7 @@
 ghost use Rattle.std.specs.Prelude.{◌≡◌, ◌↔◌, ◌+◌, ◌*◌, ◌≤◌, length, true, false, IsNone, IsTrue, MatchOption, IfSome};
 ghost use Rattle.std.specs.Option.{ForSome};
 ghost use Rattle.glob_matcher.specs.Bytes.{HasByte, has_slash, slash};
-ghost use Rattle.glob_matcher.specs.Matching.{Splits};
+ghost use Rattle.glob_matcher.specs.Matching.{Splits, SplitsBy};
 ghost use Rattle.glob_matcher.specs.Private.Takes.{Takes};
 ghost use Rattle.glob_matcher.specs.Steps.{IsBlankOf, NeverFall, step_limit};
 ghost use Rattle.glob_patterns.specs.PatternLimits.{pattern_look_limit};
@@ -110,7 +110,7 @@ impl<'a> PatternView<'a> {
             ≤ counts.old.looks + pattern_look_limit (length self.entry.text.now) (length value.now) }
         ensures grows { NeverFall counts.old counts.new }
     {
-        self.decide(value, false, mode, counts)
+        self.decide(value, false, mode.way(), counts)
     }
 
     /// Whether the text matches the value, as [`PatternView::matches_with_counts`] answers it. Where `is_bare`, the value has no
@@ -120,12 +120,12 @@ impl<'a> PatternView<'a> {
         self,
         value: &[u8],
         is_bare: bool,
-        mode: wildmatch::Mode,
+        way: wildmatch::Way,
         counts: &mut Counts<S, L>,
     ) -> bool
         requires { IsTrue is_bare → has_slash value.now ≡ false }
         ensures exact { IsPattern self.entry.text.now self.entry.mode self.entry.first_wildcard_pos →
-            IsTrue result ↔ Splits value.now self.entry.text.now mode }
+            IsTrue result ↔ SplitsBy value.now self.entry.text.now way }
         ensures steps { counts.new.steps ≤ counts.old.steps + step_limit (length self.entry.text.now) (length value.now) }
         ensures looks { counts.new.looks
             ≤ counts.old.looks + pattern_look_limit (length self.entry.text.now) (length value.now) }
@@ -133,12 +133,12 @@ impl<'a> PatternView<'a> {
     {
         text_is_short(self.text);
         text_is_short(value);
-        let (shown, counts) = self.compared::<S, L, Brand>(value, is_bare, mode, counts);
+        let (shown, counts) = self.compared::<S, L, Brand>(value, is_bare, way, counts);
         // Each arm names its answer: a bit that is handed on costs every call an instruction.
         match shown {
             Shown::Match => true,
             Shown::Miss => false,
-            Shown::Open(mode) => wildmatch::marked(self.text, value, mode, counts),
+            Shown::Open(way) => wildmatch::marked(self.text, value, way, counts),
         }
     }
 
@@ -148,21 +148,21 @@ impl<'a> PatternView<'a> {
         self,
         value: &'a [u8],
         is_bare: bool,
-        mode: wildmatch::Mode,
+        way: wildmatch::Way,
         counts: &'c mut Counts<S, L>,
     ) -> (Shown, &'c mut Counts<S, L>)
         requires pattern { self.text.now ≡ M.pattern }
         requires value { value.now ≡ M.value }
-        requires mode { mode ≡ M.mode }
+        requires way { way ≡ M.way }
         requires counts { counts.ghost_name ≡ M.counts }
         requires bare { IsTrue is_bare → has_slash value.now ≡ false }
         ensures meaning { IsPattern self.entry.text.now self.entry.mode self.entry.first_wildcard_pos →
-            IsShown result.0 value.now self.entry.text.now mode }
+            IsShown result.0 value.now self.entry.text.now way }
         ensures same { result.1.ghost_name ≡ counts.entry.ghost_name }
         ensures count { Takes counts.old result.1.now 0 (shown_limit result.0 (length self.entry.text.now) (length value.now)) }
     {
         let texts = CountedTexts::<'c, 'a, S, L, M>::new(self.text, value, counts);
-        let mut comparison = Comparison::new(texts, is_bare, mode);
+        let mut comparison = Comparison::new(texts, is_bare, way);
         let shown = comparison.shown(self.mode, self.first_wildcard_pos);
         (shown, comparison.into_counts())
     }
@@ -255,8 +255,8 @@ impl<'a> PatternView<'a> {
         if self.mode.contains(Mode::MUST_BE_DIR) && asked.is_dir != Some(true) {
             return false;
         }
-        let mode = with_case(asked.mode, asked.case);
+        let way = with_case(asked.mode, asked.case).way();
         let start = asked.subject_start(self.mode);
-        self.decide(&asked.path[start..], start > 0, mode, counts)
+        self.decide(&asked.path[start..], start > 0, way, counts)
     }
 }

@@ -3,6 +3,7 @@ use Rattle.std.proofs.Common.{◌≡◌, ◌⊎◌, inl, inr, ⊎_elim, ℕ, zer
 use Rattle.std.specs.Prelude.{slice_get}
 use Rattle.std.proofs.lemmas.Option.{same_Some}
 use Rattle.gix_glob.specs.declared.pattern.Case.{Case}
+use Rattle.glob_lists.specs.declared.rules.Rules.{Rules}
 use Rattle.gix_glob.specs.Bytes.{slash}
 use Rattle.gix_glob.specs.Entries.{Entry}
 use Rattle.gix_glob.specs.EntryLists.{EntryList}
@@ -62,27 +63,27 @@ module _ {V : Type 0} (lists : List (EntryList V)) (base : List ℕ) (emptied : 
 
   -- ---- what answers
 
-  answers_before : (path : List ℕ) (is_dir : Bool) (case : Case) (i m : ℕ) → PairAnswers emptied path is_dir case i m → PairAnswers lists path is_dir case i m
-  answers_before path is_dir case i m h = record { list = h.list; there = stands i m h.list h.answers.entry h.there h.answers.there; answers = h.answers }
+  answers_before : (path : List ℕ) (is_dir : Bool) (rules : Rules) (i m : ℕ) → PairAnswers emptied path is_dir rules i m → PairAnswers lists path is_dir rules i m
+  answers_before path is_dir rules i m h = record { list = h.list; there = stands i m h.list h.answers.entry h.there h.answers.there; answers = h.answers }
 
-  answers_after : (path : List ℕ) (is_dir : Bool) (case : Case) → NothingLeft case (Some base) path → (i m : ℕ) → PairAnswers lists path is_dir case i m → PairAnswers emptied path is_dir case i m
-  answers_after path is_dir case none i m h = ⊎_elim
-      (λ (based : h.list.base ≡ Some base). absurd (none h.answers.answers.rest (subst (λ b. RestOf case b path h.answers.answers.rest) based h.answers.answers.left)))
+  answers_after : (path : List ℕ) (is_dir : Bool) (rules : Rules) → NothingLeft rules.case (Some base) path → (i m : ℕ) → PairAnswers lists path is_dir rules i m → PairAnswers emptied path is_dir rules i m
+  answers_after path is_dir rules none i m h = ⊎_elim
+      (λ (based : h.list.base ≡ Some base). absurd (none h.answers.answers.rest (subst (λ b. RestOf rules.case b path h.answers.answers.rest) based h.answers.answers.left)))
       (λ (other : slice_get emptied i ≡ Some h.list). record { list = h.list; there = other; answers = h.answers })
       (stands_or_based i h.list h.there)
 
-  pub decides_before : (path : List ℕ) (is_dir : Bool) (case : Case) → NothingLeft case (Some base) path → (pair : Option (ℕ × ℕ)) → Decides emptied path is_dir case pair → Decides lists path is_dir case pair
-  decides_before path is_dir case none None h = λ i m answers. h i m (answers_after path is_dir case none i m answers)
-  decides_before path is_dir case none (Some p) h = record {
-    answers = answers_before path is_dir case p.0 p.1 h.answers;
-    last = λ i m answers. h.last i m (answers_after path is_dir case none i m answers);
+  pub decides_before : (path : List ℕ) (is_dir : Bool) (rules : Rules) → NothingLeft rules.case (Some base) path → (pair : Option (ℕ × ℕ)) → Decides emptied path is_dir rules pair → Decides lists path is_dir rules pair
+  decides_before path is_dir rules none None h = λ i m answers. h i m (answers_after path is_dir rules none i m answers)
+  decides_before path is_dir rules none (Some p) h = record {
+    answers = answers_before path is_dir rules p.0 p.1 h.answers;
+    last = λ i m answers. h.last i m (answers_after path is_dir rules none i m answers);
   }
 
-  decides_after : (path : List ℕ) (is_dir : Bool) (case : Case) → NothingLeft case (Some base) path → (pair : Option (ℕ × ℕ)) → Decides lists path is_dir case pair → Decides emptied path is_dir case pair
-  decides_after path is_dir case none None h = λ i m answers. h i m (answers_before path is_dir case i m answers)
-  decides_after path is_dir case none (Some p) h = record {
-    answers = answers_after path is_dir case none p.0 p.1 h.answers;
-    last = λ i m answers. h.last i m (answers_before path is_dir case i m answers);
+  decides_after : (path : List ℕ) (is_dir : Bool) (rules : Rules) → NothingLeft rules.case (Some base) path → (pair : Option (ℕ × ℕ)) → Decides lists path is_dir rules pair → Decides emptied path is_dir rules pair
+  decides_after path is_dir rules none None h = λ i m answers. h i m (answers_before path is_dir rules i m answers)
+  decides_after path is_dir rules none (Some p) h = record {
+    answers = answers_after path is_dir rules none p.0 p.1 h.answers;
+    last = λ i m answers. h.last i m (answers_before path is_dir rules i m answers);
   }
 
   -- ---- what ignores
@@ -96,8 +97,8 @@ module _ {V : Type 0} (lists : List (EntryList V)) (base : List ℕ) (emptied : 
     positive = h.positive;
   }
 
-  positive_after : (pair : ℕ × ℕ) (path : List ℕ) (is_dir : Bool) (case : Case) → PairAnswers emptied path is_dir case pair.0 pair.1 → IsPositiveAt lists pair → IsPositiveAt emptied pair
-  positive_after pair path is_dir case answers h =
+  positive_after : (pair : ℕ × ℕ) (path : List ℕ) (is_dir : Bool) (rules : Rules) → PairAnswers emptied path is_dir rules pair.0 pair.1 → IsPositiveAt lists pair → IsPositiveAt emptied pair
+  positive_after pair path is_dir rules answers h =
       let before = stands pair.0 pair.1 answers.list answers.answers.entry answers.there answers.answers.there in
       record {
         list = h.list;
@@ -107,10 +108,10 @@ module _ {V : Type 0} (lists : List (EntryList V)) (base : List ℕ) (emptied : 
         positive = h.positive;
       }
 
-  pub ignores_before : (case : Case) (folder : List ℕ) → NothingLeft case (Some base) folder → (pair : ℕ × ℕ) → Ignores emptied case folder pair → Ignores lists case folder pair
-  ignores_before case folder none pair h = (decides_before folder true case none (Some pair) h.0, positive_before pair h.1)
+  pub ignores_before : (rules : Rules) (folder : List ℕ) → NothingLeft rules.case (Some base) folder → (pair : ℕ × ℕ) → Ignores emptied rules folder pair → Ignores lists rules folder pair
+  ignores_before rules folder none pair h = (decides_before folder true rules none (Some pair) h.0, positive_before pair h.1)
 
-  pub ignores_after : (case : Case) (folder : List ℕ) → NothingLeft case (Some base) folder → (pair : ℕ × ℕ) → Ignores lists case folder pair → Ignores emptied case folder pair
-  ignores_after case folder none pair h =
-      let decides = decides_after folder true case none (Some pair) h.0 in
-      (decides, positive_after pair folder true case decides.answers h.1)
+  pub ignores_after : (rules : Rules) (folder : List ℕ) → NothingLeft rules.case (Some base) folder → (pair : ℕ × ℕ) → Ignores lists rules folder pair → Ignores emptied rules folder pair
+  ignores_after rules folder none pair h =
+      let decides = decides_after folder true rules none (Some pair) h.0 in
+      (decides, positive_after pair folder true rules decides.answers h.1)

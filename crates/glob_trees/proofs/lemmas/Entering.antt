@@ -6,7 +6,7 @@ use Rattle.std.proofs.Math.Seq.{drop-append_seam, drop-length, take-append_seam}
 use Rattle.std.proofs.lemmas.List.{drop-append-le}
 use Rattle.std.proofs.lemmas.List.Elements.{All-push, All-take}
 use Rattle.std.proofs.lemmas.Option.{same_Some}
-use Rattle.gix_glob.specs.declared.pattern.Case.{Case}
+use Rattle.glob_lists.specs.declared.rules.Rules.{Rules}
 use Rattle.gix_glob.specs.Bytes.{slash}
 use Rattle.gix_glob.specs.EntryLists.{EntryList}
 use Rattle.gix_glob.specs.Stripping.{NothingLeft}
@@ -35,17 +35,17 @@ module _ {V : Type 0} (lists : List (EntryList V)) (list : EntryList V) where
   bases_less : BasesAreFolders (lists ++ unless_empty list) → BasesAreFolders lists
   bases_less bases = subst (All HasFolder) (take-append_seam lists (unless_empty list)) (All-take HasFolder (length lists) (lists ++ unless_empty list) bases)
 
-  module _ (case : Case) (path : List ℕ) (nothing : NothingLeft case list.base path) (pair : ℕ × ℕ) where
-    pub ignores_with : Ignores lists case path pair → Ignores (lists ++ unless_empty list) case path pair
+  module _ (rules : Rules) (path : List ℕ) (nothing : NothingLeft rules.case list.base path) (pair : ℕ × ℕ) where
+    pub ignores_with : Ignores lists rules path pair → Ignores (lists ++ unless_empty list) rules path pair
     ignores_with ignored = ⊎_elim
-        (λ (none : unless_empty list ≡ []). subst (λ ls. Ignores (lists ++ ls) case path pair) (sym none) (subst (λ ls. Ignores ls case path pair) (sym (append-nil lists)) ignored))
-        (λ (some : unless_empty list ≡ list ∷ []). subst (λ ls. Ignores (lists ++ ls) case path pair) (sym some) (ignores_more lists list case path nothing pair ignored))
+        (λ (none : unless_empty list ≡ []). subst (λ ls. Ignores (lists ++ ls) rules path pair) (sym none) (subst (λ ls. Ignores ls rules path pair) (sym (append-nil lists)) ignored))
+        (λ (some : unless_empty list ≡ list ∷ []). subst (λ ls. Ignores (lists ++ ls) rules path pair) (sym some) (ignores_more lists list rules path nothing pair ignored))
         (empty_or_not list)
 
-    pub ignores_without : Ignores (lists ++ unless_empty list) case path pair → Ignores lists case path pair
+    pub ignores_without : Ignores (lists ++ unless_empty list) rules path pair → Ignores lists rules path pair
     ignores_without ignored = ⊎_elim
-        (λ (none : unless_empty list ≡ []). subst (λ ls. Ignores ls case path pair) (append-nil lists) (subst (λ ls. Ignores (lists ++ ls) case path pair) none ignored))
-        (λ (some : unless_empty list ≡ list ∷ []). ignores_less lists list case path nothing pair (subst (λ ls. Ignores (lists ++ ls) case path pair) some ignored))
+        (λ (none : unless_empty list ≡ []). subst (λ ls. Ignores ls rules path pair) (append-nil lists) (subst (λ ls. Ignores (lists ++ ls) rules path pair) none ignored))
+        (λ (some : unless_empty list ≡ list ∷ []). ignores_less lists list rules path nothing pair (subst (λ ls. Ignores (lists ++ ls) rules path pair) some ignored))
         (empty_or_not list)
 
 -- what ends alike begins alike
@@ -55,14 +55,14 @@ front_same xs ys x ends (inr some) same = (last_same xs ys x x (subst (λ l. xs 
 
 -- ---- a byte more
 
-module _ {V : Type 0} (shows : Folder → EntryList V → Type 0) (case : Case) (lists : List (EntryList V)) (front : List ℕ) where
-  pub none_more : (b : ℕ) → HasNoneIgnored lists case front → ((pair : ℕ × ℕ) → ¬ Ignores lists case front pair) → HasNoneIgnored lists case (front ++ b ∷ [])
+module _ {V : Type 0} (shows : Folder → EntryList V → Type 0) (rules : Rules) (lists : List (EntryList V)) (front : List ℕ) where
+  pub none_more : (b : ℕ) → HasNoneIgnored lists rules front → ((pair : ℕ × ℕ) → ¬ Ignores lists rules front pair) → HasNoneIgnored lists rules (front ++ b ∷ [])
   none_more b none kept folder pair above ignored = ⊎_elim
-      (λ (here : (folder ≡ front) × (b ≡ slash)). kept pair (subst (λ f. Ignores lists case f pair) here.0 ignored))
+      (λ (here : (folder ≡ front) × (b ≡ slash)). kept pair (subst (λ f. Ignores lists rules f pair) here.0 ignored))
       (λ (higher : IsAbove folder front). none folder pair higher ignored)
       (above_more folder front b above)
 
-  pub entered_byte : (n b : ℕ) (own : List (EntryList V)) → ¬ (b ≡ slash) → AreEntered shows n lists case front own → AreEntered shows n lists case (front ++ b ∷ []) own
+  pub entered_byte : (n b : ℕ) (own : List (EntryList V)) → ¬ (b ≡ slash) → AreEntered shows n lists rules front own → AreEntered shows n lists rules (front ++ b ∷ []) own
   entered_byte n b own other e = record {
     many = e.many;
     bases = e.bases;
@@ -74,15 +74,15 @@ module _ {V : Type 0} (shows : Folder → EntryList V → Type 0) (case : Case) 
         (above_more folder front b above);
   }
 
-module _ {V : Type 0} (shows : Folder → EntryList V → Type 0) (case : Case) (n : ℕ) where
+module _ {V : Type 0} (shows : Folder → EntryList V → Type 0) (rules : Rules) (n : ℕ) where
   -- a path that begins with a slash enters no folder there
-  pub entered_slash : (lists own : List (EntryList V)) → AreEntered shows n lists case [] own → ((pair : ℕ × ℕ) → ¬ Ignores lists case [] pair) → AreEntered shows n lists case (slash ∷ []) own
+  pub entered_slash : (lists own : List (EntryList V)) → AreEntered shows n lists rules [] own → ((pair : ℕ × ℕ) → ¬ Ignores lists rules [] pair) → AreEntered shows n lists rules (slash ∷ []) own
   entered_slash lists own e kept = record {
     many = e.many;
     bases = e.bases;
     shown = e.shown;
     standing = e.standing;
-    none = none_more shows case lists [] slash e.none kept;
+    none = none_more shows rules lists [] slash e.none kept;
   }
 
   -- ---- a folder more
@@ -95,8 +95,8 @@ module _ {V : Type 0} (shows : Folder → EntryList V → Type 0) (case : Case) 
   stands_more lists own list many standing =
       drop-append-le n lists (unless_empty list) many ∙ ap (λ ls. ls ++ unless_empty list) standing ∙ sym (with_entries_more own list)
 
-  pub entered_folder : (lists own : List (EntryList V)) (x : ℕ) (xs : List ℕ) (list : EntryList V) → AreEntered shows n lists case (x ∷ xs) own → ((pair : ℕ × ℕ) → ¬ Ignores lists case (x ∷ xs) pair) → IsListOf shows (x ∷ xs) list
-      → AreEntered shows n (lists ++ unless_empty list) case ((x ∷ xs) ++ slash ∷ []) (own ++ list ∷ [])
+  pub entered_folder : (lists own : List (EntryList V)) (x : ℕ) (xs : List ℕ) (list : EntryList V) → AreEntered shows n lists rules (x ∷ xs) own → ((pair : ℕ × ℕ) → ¬ Ignores lists rules (x ∷ xs) pair) → IsListOf shows (x ∷ xs) list
+      → AreEntered shows n (lists ++ unless_empty list) rules ((x ∷ xs) ++ slash ∷ []) (own ++ list ∷ [])
   entered_folder lists own x xs list e kept of =
       let many = e.many in
       record {
@@ -106,12 +106,12 @@ module _ {V : Type 0} (shows : Folder → EntryList V → Type 0) (case : Case) 
         standing = stands_more lists own list e.many e.standing;
         none = λ folder pair above ignored.
             let shorter = above_is_shorter folder ((x ∷ xs) ++ slash ∷ []) above in
-            let nothing : NothingLeft case list.base folder = subst (λ b. NothingLeft case b folder) (sym of.based) (nothing_left_shorter case ((x ∷ xs) ++ slash ∷ []) folder shorter) in
-            none_more shows case lists (x ∷ xs) slash e.none kept folder pair above (ignores_without lists list case folder nothing pair ignored);
+            let nothing : NothingLeft rules.case list.base folder = subst (λ b. NothingLeft rules.case b folder) (sym of.based) (nothing_left_shorter rules.case ((x ∷ xs) ++ slash ∷ []) folder shorter) in
+            none_more shows rules lists (x ∷ xs) slash e.none kept folder pair above (ignores_without lists list rules folder nothing pair ignored);
       }
 
   -- the top, past the lists that stand before all folders
-  pub entered_top : (lists : List (EntryList V)) (list : EntryList V) → length lists ≡ n → BasesAreFolders lists → IsListOf shows [] list → AreEntered shows n (lists ++ unless_empty list) case [] (list ∷ [])
+  pub entered_top : (lists : List (EntryList V)) (list : EntryList V) → length lists ≡ n → BasesAreFolders lists → IsListOf shows [] list → AreEntered shows n (lists ++ unless_empty list) rules [] (list ∷ [])
   entered_top lists list count bases of =
       let past : drop n lists ≡ [] = subst (λ k. drop k lists ≡ []) count (drop-length lists) in
       record {
@@ -131,9 +131,9 @@ is_last front fs f listed = ⊎_elim
     (λ (h : HasLastFolder front). let same = last_same fs (folders_to (h.first ∷ h.more)) f (h.first ∷ h.more) (sym listed ∙ h.listed) in inr (h, same.1, same.0))
     (last_folder front)
 
-module _ {V : Type 0} (shows : Folder → EntryList V → Type 0) (case : Case) (n : ℕ) (front : List ℕ) (fs : List Folder) (f : Folder) (listed : folders_to front ≡ fs ++ f ∷ []) where
+module _ {V : Type 0} (shows : Folder → EntryList V → Type 0) (rules : Rules) (n : ℕ) (front : List ℕ) (fs : List Folder) (f : Folder) (listed : folders_to front ≡ fs ++ f ∷ []) where
   -- the last folder is left
-  module _ (lists own : List (EntryList V)) (list : EntryList V) (e : AreEntered shows n (lists ++ unless_empty list) case front (own ++ list ∷ [])) where
+  module _ (lists own : List (EntryList V)) (list : EntryList V) (e : AreEntered shows n (lists ++ unless_empty list) rules front (own ++ list ∷ [])) where
     few_at : (ends : List (EntryList V)) → (ends ≡ []) ⊎ (ends ≡ list ∷ []) → unless_empty list ≡ ends → n ≤ length lists
     few_at ends (inl none) is = let many = e.many in omega (arith, length-append lists (unless_empty list), ap length (is ∙ none))
     few_at ends (inr some) is =
@@ -143,7 +143,7 @@ module _ {V : Type 0} (shows : Folder → EntryList V → Type 0) (case : Case) 
     few : n ≤ length lists
     few = few_at (unless_empty list) (empty_or_not list) refl
 
-    left_deep : (h : HasLastFolder front) → f ≡ (h.first ∷ h.more) → fs ≡ folders_to (h.first ∷ h.more) → AreEntered shows n lists case f own
+    left_deep : (h : HasLastFolder front) → f ≡ (h.first ∷ h.more) → fs ≡ folders_to (h.first ∷ h.more) → AreEntered shows n lists rules f own
     left_deep h is above =
         let zips = zip_last (IsListOf shows) (folders_to front) own list e.shown in
         let same = last_same fs zips.init f zips.last (sym listed ∙ zips.joined) in
@@ -157,18 +157,18 @@ module _ {V : Type 0} (shows : Folder → EntryList V → Type 0) (case : Case) 
           standing = front_same (drop n lists) (with_entries own) list (unless_empty list) (empty_or_not list) (sym (drop-append-le n lists (unless_empty list) few) ∙ e.standing ∙ with_entries_more own list);
           none = λ folder pair higher ignored.
               let shorter : length folder < length ((h.first ∷ h.more) ++ slash ∷ []) = let less = above_is_shorter folder f higher in omega (arith, ap length is, length-append (h.first ∷ h.more) (slash ∷ [])) in
-              let nothing : NothingLeft case list.base folder = subst (λ b. NothingLeft case b folder) (sym base) (nothing_left_shorter case ((h.first ∷ h.more) ++ slash ∷ []) folder shorter) in
-              e.none folder pair (above_above folder f front higher deep) (ignores_with lists list case folder nothing pair ignored);
+              let nothing : NothingLeft rules.case list.base folder = subst (λ b. NothingLeft rules.case b folder) (sym base) (nothing_left_shorter rules.case ((h.first ∷ h.more) ++ slash ∷ []) folder shorter) in
+              e.none folder pair (above_above folder f front higher deep) (ignores_with lists list rules folder nothing pair ignored);
         }
 
-    pub entered_left : ¬ (f ≡ []) → (AreEntered shows n lists case f own) × (folders_to f ≡ fs)
+    pub entered_left : ¬ (f ≡ []) → (AreEntered shows n lists rules f own) × (folders_to f ≡ fs)
     entered_left some = ⊎_elim
         (λ (none : f ≡ []). absurd (some none))
         (λ (deep : (h : HasLastFolder front) × (f ≡ (h.first ∷ h.more)) × (fs ≡ folders_to (h.first ∷ h.more))). (left_deep deep.0 deep.1 deep.2, ap folders_to deep.1 ∙ sym deep.2))
         (is_last front fs f listed)
 
   -- the last folder stays: what lies right in it begins with the folder and a slash
-  stays_deep : (lists own : List (EntryList V)) → AreEntered shows n lists case front own → (h : HasLastFolder front) → f ≡ (h.first ∷ h.more) → AreEntered shows n lists case (start_of f) own × (folders_to (start_of f) ≡ folders_to front)
+  stays_deep : (lists own : List (EntryList V)) → AreEntered shows n lists rules front own → (h : HasLastFolder front) → f ≡ (h.first ∷ h.more) → AreEntered shows n lists rules (start_of f) own × (folders_to (start_of f) ≡ folders_to front)
   stays_deep lists own e h is =
       let starts : start_of f ≡ (h.first ∷ h.more) ++ slash ∷ [] = ap start_of is in
       let same : folders_to (start_of f) ≡ folders_to front = ap folders_to starts ∙ folders_slash h.first h.more ∙ sym h.listed in (
@@ -178,14 +178,14 @@ module _ {V : Type 0} (shows : Folder → EntryList V → Type 0) (case : Case) 
           shown = subst (λ gs. AllZip (IsListOf shows) gs own) (sym same) e.shown;
           standing = e.standing;
           none = λ folder pair above ignored. ⊎_elim
-              (λ (here : (folder ≡ (h.first ∷ h.more)) × (slash ≡ slash)). e.none (h.first ∷ h.more) pair h.above (subst (λ g. Ignores lists case g pair) here.0 ignored))
+              (λ (here : (folder ≡ (h.first ∷ h.more)) × (slash ≡ slash)). e.none (h.first ∷ h.more) pair h.above (subst (λ g. Ignores lists rules g pair) here.0 ignored))
               (λ (higher : IsAbove folder (h.first ∷ h.more)). e.none folder pair (above_above folder (h.first ∷ h.more) front higher h.above) ignored)
               (above_more folder (h.first ∷ h.more) slash (subst (IsAbove folder) starts above));
         },
         same,
       )
 
-  stays_top : (lists own : List (EntryList V)) → AreEntered shows n lists case front own → f ≡ [] → fs ≡ [] → AreEntered shows n lists case (start_of f) own × (folders_to (start_of f) ≡ folders_to front)
+  stays_top : (lists own : List (EntryList V)) → AreEntered shows n lists rules front own → f ≡ [] → fs ≡ [] → AreEntered shows n lists rules (start_of f) own × (folders_to (start_of f) ≡ folders_to front)
   stays_top lists own e is above =
       let starts : start_of f ≡ [] = ap start_of is in
       let same : folders_to (start_of f) ≡ folders_to front = ap folders_to starts ∙ sym (listed ∙ ap (λ gs. gs ++ f ∷ []) above ∙ ap (λ g. g ∷ []) is) in (
@@ -199,7 +199,7 @@ module _ {V : Type 0} (shows : Folder → EntryList V → Type 0) (case : Case) 
         same,
       )
 
-  pub entered_stays : (lists own : List (EntryList V)) → AreEntered shows n lists case front own → AreEntered shows n lists case (start_of f) own × (folders_to (start_of f) ≡ folders_to front)
+  pub entered_stays : (lists own : List (EntryList V)) → AreEntered shows n lists rules front own → AreEntered shows n lists rules (start_of f) own × (folders_to (start_of f) ≡ folders_to front)
   entered_stays lists own e = ⊎_elim
       (λ (only : folders_to front ≡ [] ∷ []). let same = last_same fs [] f [] (sym listed ∙ only) in stays_top lists own e same.1 same.0)
       (λ (h : HasLastFolder front). stays_deep lists own e h (last_same fs (folders_to (h.first ∷ h.more)) f (h.first ∷ h.more) (sym listed ∙ h.listed)).1)

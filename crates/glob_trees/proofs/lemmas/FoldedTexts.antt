@@ -1,9 +1,10 @@
 -- Texts that are the same after folding: what one is made of makes the other, and their slashes stand at the same places.
-use Rattle.std.proofs.Common.{◌≡◌, ℕ, zero, suc, ◌<◌, List, [], ◌∷◌, ◌++◌, length, get_or, map, refl, sym, ap, subst, ◌∙◌}
+use Rattle.std.proofs.Common.{◌≡◌, ℕ, zero, suc, ◌<◌, List, [], ◌∷◌, ◌++◌, length, get_or, map, refl, sym, ap, subst, ◌∙◌, false}
 use Rattle.std.proofs.lemmas.List.{length-map}
 use Rattle.gix_glob.specs.declared.pattern.Case.{Case}
 use Rattle.gix_glob.specs.declared.pattern.Case.TheVariants.{Sensitive, Fold}
-use Rattle.gix_glob.specs.declared.wildmatch.Mode.{Mode}
+use Rattle.gix_glob.specs.declared.wildmatch.Way.{Way}
+use Rattle.gix_glob.specs.declared.wildmatch.Folding.TheVariants.{Both}
 use Rattle.gix_glob.specs.Bytes.{HasByte, fold, slash}
 use Rattle.gix_glob.specs.Folding.{folding_of}
 use Rattle.gix_glob.specs.Stripping.{folding_by}
@@ -45,28 +46,28 @@ module _ (f : ℕ → ℕ) where
 
 -- ---- slashes
 
-module _ (mode : Mode) where
-  pub slash_as : (a b : ℕ) → fold mode a ≡ fold mode b → a ≡ slash → b ≡ slash
-  slash_as a b same is = fold_slash mode b (sym same ∙ ap (fold mode) is)
+module _ (way : Way) where
+  pub slash_as : (a b : ℕ) → fold way a ≡ fold way b → a ≡ slash → b ≡ slash
+  slash_as a b same is = fold_slash way b (sym same ∙ ap (fold way) is)
 
-  pub has_slash_as : (text other : List ℕ) → folding_of mode text ≡ folding_of mode other → (i : ℕ) → HasByte text i slash → HasByte other i slash
+  pub has_slash_as : (text other : List ℕ) → folding_of way text ≡ folding_of way other → (i : ℕ) → HasByte text i slash → HasByte other i slash
   has_slash_as text other same i here = record {
-    inside = subst (λ n. i < n) (as_long (fold mode) text other same) here.inside;
-    is = slash_as (get_or text i 0) (get_or other i 0) (byte_as (fold mode) text other same i) here.is;
+    inside = subst (λ n. i < n) (as_long (fold way) text other same) here.inside;
+    is = slash_as (get_or text i 0) (get_or other i 0) (byte_as (fold way) text other same i) here.is;
   }
 
-  pub slash_first : (below other : List ℕ) → folding_of mode (slash ∷ below) ≡ folding_of mode other → (more : List ℕ) × (other ≡ slash ∷ more) × (folding_of mode below ≡ folding_of mode more)
+  pub slash_first : (below other : List ℕ) → folding_of way (slash ∷ below) ≡ folding_of way other → (more : List ℕ) × (other ≡ slash ∷ more) × (folding_of way below ≡ folding_of way more)
   slash_first below [] same = absurd (cc)
   slash_first below (b ∷ more) same =
-      let heads : fold mode slash ≡ fold mode b = cc in
+      let heads : fold way slash ≡ fold way b = cc in
       (more, ap (λ c. c ∷ more) (slash_as slash b heads refl), cc)
 
 -- ---- texts as bases are compared
 
 pub made_by : (case : Case) (front rest other : List ℕ) → folding_by case (front ++ rest) ≡ folding_by case other → IsMadeAs (folding_by case) front rest other
 made_by Sensitive front rest other same = record { first = front; second = rest; joined = sym same; fronts = refl; rests = refl }
-made_by Fold front rest other same = made_as (fold (record { 0 = 2 })) front rest other same
+made_by Fold front rest other same = made_as (fold (record { path = false; folding = Both })) front rest other same
 
 pub slash_by : (case : Case) (below other : List ℕ) → folding_by case (slash ∷ below) ≡ folding_by case other → (more : List ℕ) × (other ≡ slash ∷ more)
 slash_by Sensitive below other same = (below, sym same)
-slash_by Fold below other same = let first = slash_first (record { 0 = 2 }) below other same in (first.0, first.1)
+slash_by Fold below other same = let first = slash_first (record { path = false; folding = Both }) below other same in (first.0, first.1)

@@ -4,7 +4,7 @@ use Rattle.std.specs.Prelude.{slice_get}
 use Rattle.std.proofs.lemmas.List.{length-map}
 use Rattle.std.proofs.lemmas.Option.{same_Some}
 use Rattle.gix_glob.specs.Bytes.{HasByte, slash}
-use Rattle.gix_glob.specs.declared.pattern.Case.{Case}
+use Rattle.glob_lists.specs.declared.rules.Rules.{Rules}
 use Rattle.gix_glob.specs.declared.search.pattern.list.List as patterns
 use Rattle.gix_glob.specs.EntryLists.{EntryList, entry_list_of}
 use Rattle.glob_trees.specs.declared.entered.Entered.{Entered}
@@ -59,7 +59,7 @@ module _ {S T X F V : Type 0} (shows : S → Folder → EntryList V → Type 0) 
     under_all inside none = under_rest _ _ _ _ _ _ _ _ _ _ path (length path - count) count (omega (arith, inside)) none under_at
 
 -- the lists that stand before those of all folders are there, where folders are entered
-module _ {T X V : Type 0} (seen : X → V) (shows : Folder → EntryList V → Type 0) (n : ℕ) (case : Case) (lists : List (patterns.List T X)) (front : List ℕ) (own : List (EntryList V)) (e : AreEntered shows n (map (entry_list_of seen) lists) case front own) where
+module _ {T X V : Type 0} (seen : X → V) (shows : Folder → EntryList V → Type 0) (n : ℕ) (rules : Rules) (lists : List (patterns.List T X)) (front : List ℕ) (own : List (EntryList V)) (e : AreEntered shows n (map (entry_list_of seen) lists) rules front own) where
   pub many_fronts : n ≤ length lists
   many_fronts = let many = e.many in omega (arith, length-map lists (entry_list_of seen))
 

@@ -8,7 +8,7 @@ use Rattle.std.proofs.lemmas.Bool.Decides.{Decides-eqb}
 use Rattle.std.proofs.lemmas.List.{length-set, map-append, take-append-drop, take-append-le, drop-append-le}
 use Rattle.std.proofs.lemmas.List.Elements.{Contains-append_cases, Contains-append_left, Contains-append_right, Contains-push, Contains-push_cases}
 use Rattle.std.proofs.lemmas.Option.{same_Some, slice_get_within}
-use Rattle.gix_glob.specs.declared.pattern.Case.{Case}
+use Rattle.glob_lists.specs.declared.rules.Rules.{Rules}
 use Rattle.gix_glob.specs.declared.search.pattern.list.List as patterns
 use Rattle.gix_glob.specs.Bytes.{HasByte, slash}
 use Rattle.gix_glob.specs.EntryLists.{EntryList, entry_list_of}
@@ -137,10 +137,10 @@ view_kept seen way place own off (Some list) h = (ap (λ l. l ∷ []) h.0 ∙ sy
 
 -- ---- the top
 
-pub at_top : {T X V : Type 0} (shows : Folder → EntryList V → Type 0) (gave : Folder → Type 0) (seen : X → V) (n : ℕ) (case : Case) (lists : List (EntryList V)) (list : EntryList V) (names : FolderNames) (has_list : Bool)
+pub at_top : {T X V : Type 0} (shows : Folder → EntryList V → Type 0) (gave : Folder → Type 0) (seen : X → V) (n : ℕ) (rules : Rules) (lists : List (EntryList V)) (list : EntryList V) (names : FolderNames) (has_list : Bool)
     → length lists ≡ n → BasesAreFolders lists → IsListOf shows [] list → ((folder : Folder) → gave folder → folder ≡ []) → names.count ≡ 1 → ((outer : ℕ) (name : List ℕ) → names.found outer name ≡ None) → (IsTrue has_list ↔ (unless_empty list ≡ list ∷ []))
-    → AreUnderWay {T = T} {X = X} shows gave seen n case (lists ++ unless_empty list) [] ((record { place = 0; length = 0; has_list = has_list }) ∷ []) names (None ∷ []) []
-at_top {T} {X} {V} shows gave seen n case lists list names has_list count bases of given one none listed =
+    → AreUnderWay {T = T} {X = X} shows gave seen n rules (lists ++ unless_empty list) [] ((record { place = 0; length = 0; has_list = has_list }) ∷ []) names (None ∷ []) []
+at_top {T} {X} {V} shows gave seen n rules lists list names has_list count bases of given one none listed =
     let top : Facts V = record { folder = []; above = []; own = list } in
     let past : drop n lists ≡ [] = subst (λ k. drop k lists ≡ []) count (drop-length lists) in
     record {
@@ -151,7 +151,7 @@ at_top {T} {X} {V} shows gave seen n case lists list names has_list count bases 
         known = λ place inside. record { of = of; unignored = λ deep. absurd (deep refl) };
         kept = held_at_top;
       };
-      stands = entered_top shows case n lists list count bases of;
+      stands = entered_top shows rules n lists list count bases of;
       on_way = (record { inside = omega (arith); named = refl; long = refl; listed = listed }, tt);
       places = refl;
       ends = record {
@@ -170,25 +170,25 @@ at_top {T} {X} {V} shows gave seen n case lists list names has_list count bases 
 
 -- ---- the same, with what calls leave
 
-pub moved : {T X V : Type 0} (shows : Folder → EntryList V → Type 0) (gave : Folder → Type 0) (seen : X → V) (n : ℕ) (case : Case) (lists new_lists : List (EntryList V)) (start new_start : List ℕ) (way new_way : List FolderOnWay) (names : FolderNames) (held new_held : List (Option (patterns.List T X))) (front : List ℕ)
-    → new_lists ≡ lists → new_start ≡ start → new_way ≡ way → new_held ≡ held → AreUnderWay shows gave seen n case lists start way names held front → AreUnderWay shows gave seen n case new_lists new_start new_way names new_held front
-moved shows gave seen n case lists new_lists start new_start way new_way names held new_held front same_lists same_start same_way same_held under =
-    subst (λ l. AreUnderWay shows gave seen n case l new_start new_way names new_held front) (sym same_lists)
-    (subst (λ s. AreUnderWay shows gave seen n case lists s new_way names new_held front) (sym same_start)
-    (subst (λ w. AreUnderWay shows gave seen n case lists start w names new_held front) (sym same_way)
-    (subst (λ h. AreUnderWay shows gave seen n case lists start way names h front) (sym same_held) under)))
+pub moved : {T X V : Type 0} (shows : Folder → EntryList V → Type 0) (gave : Folder → Type 0) (seen : X → V) (n : ℕ) (rules : Rules) (lists new_lists : List (EntryList V)) (start new_start : List ℕ) (way new_way : List FolderOnWay) (names : FolderNames) (held new_held : List (Option (patterns.List T X))) (front : List ℕ)
+    → new_lists ≡ lists → new_start ≡ start → new_way ≡ way → new_held ≡ held → AreUnderWay shows gave seen n rules lists start way names held front → AreUnderWay shows gave seen n rules new_lists new_start new_way names new_held front
+moved shows gave seen n rules lists new_lists start new_start way new_way names held new_held front same_lists same_start same_way same_held under =
+    subst (λ l. AreUnderWay shows gave seen n rules l new_start new_way names new_held front) (sym same_lists)
+    (subst (λ s. AreUnderWay shows gave seen n rules lists s new_way names new_held front) (sym same_start)
+    (subst (λ w. AreUnderWay shows gave seen n rules lists start w names new_held front) (sym same_way)
+    (subst (λ h. AreUnderWay shows gave seen n rules lists start way names h front) (sym same_held) under)))
 
 -- ---- the last folder
 
-module _ {T X V : Type 0} (shows : Folder → EntryList V → Type 0) (gave : Folder → Type 0) (seen : X → V) (n : ℕ) (case : Case) (lists : List (EntryList V)) (start : List ℕ) (way : List FolderOnWay) (names : FolderNames) (held : List (Option (patterns.List T X))) where
-  module _ (front : List ℕ) (under : AreUnderWay shows gave seen n case lists start way names held front) where
+module _ {T X V : Type 0} (shows : Folder → EntryList V → Type 0) (gave : Folder → Type 0) (seen : X → V) (n : ℕ) (rules : Rules) (lists : List (EntryList V)) (start : List ℕ) (way : List FolderOnWay) (names : FolderNames) (held : List (Option (patterns.List T X))) where
+  module _ (front : List ℕ) (under : AreUnderWay shows gave seen n rules lists start way names held front) where
     pub zips_last : ZipsLast (IsOnWay under.facts (length held)) (folders_to front) under.ends.above under.ends.last
     zips_last = zip_last (IsOnWay under.facts (length held)) (folders_to front) under.ends.above under.ends.last (subst (AllZip (IsOnWay under.facts (length held)) (folders_to front)) under.ends.joined under.on_way)
 
     pub starts_as : start ≡ start_of zips_last.last
     starts_as = let here = zips_last.here in under.ends.starts ∙ ap start_of here.named
 
-    pub same_way : (other : List ℕ) → AreEntered shows n lists case other (own_lists under.facts way) → folders_to other ≡ folders_to front → AreUnderWay shows gave seen n case lists start way names held other
+    pub same_way : (other : List ℕ) → AreEntered shows n lists rules other (own_lists under.facts way) → folders_to other ≡ folders_to front → AreUnderWay shows gave seen n rules lists start way names held other
     same_way other stands same = record {
       facts = under.facts;
       known = under.known;
@@ -200,27 +200,27 @@ module _ {T X V : Type 0} (shows : Folder → EntryList V → Type 0) (gave : Fo
     }
 
     -- what lies right in the last folder
-    pub under_start : AreUnderWay shows gave seen n case lists start way names held start
+    pub under_start : AreUnderWay shows gave seen n rules lists start way names held start
     under_start =
-        let stays = entered_stays shows case n front zips_last.init zips_last.last zips_last.joined lists (own_lists under.facts way) under.stands in
-        subst (AreUnderWay shows gave seen n case lists start way names held) (sym starts_as) (same_way (start_of zips_last.last) stays.0 stays.1)
+        let stays = entered_stays shows rules n front zips_last.init zips_last.last zips_last.joined lists (own_lists under.facts way) under.stands in
+        subst (AreUnderWay shows gave seen n rules lists start way names held) (sym starts_as) (same_way (start_of zips_last.last) stays.0 stays.1)
 
   module _ (path : List ℕ) where
     -- a byte more, which is no slash
-    pub under_byte : (place : ℕ) → place < length path → ¬ (slice_index path place ≡ slash) → AreUnderWay shows gave seen n case lists start way names held (take place path) → AreUnderWay shows gave seen n case lists start way names held (take (place + 1) path)
+    pub under_byte : (place : ℕ) → place < length path → ¬ (slice_index path place ≡ slash) → AreUnderWay shows gave seen n rules lists start way names held (take place path) → AreUnderWay shows gave seen n rules lists start way names held (take (place + 1) path)
     under_byte place inside other under =
-        same_way (take place path) under (take (place + 1) path) (passing shows case n lists (own_lists under.facts way) path place inside other under.stands) (passing_way path place inside other)
+        same_way (take place path) under (take (place + 1) path) (passing shows rules n lists (own_lists under.facts way) path place inside other under.stands) (passing_way path place inside other)
 
     -- all bytes more, of which none is a slash
-    pub under_rest : (more place : ℕ) → place + more ≡ length path → ((j : ℕ) → place ≤ j → ¬ HasByte path j slash) → AreUnderWay shows gave seen n case lists start way names held (take place path) → AreUnderWay shows gave seen n case lists start way names held path
-    under_rest zero place ends none under = subst (AreUnderWay shows gave seen n case lists start way names held) (take_all place path (omega arith)) under
+    pub under_rest : (more place : ℕ) → place + more ≡ length path → ((j : ℕ) → place ≤ j → ¬ HasByte path j slash) → AreUnderWay shows gave seen n rules lists start way names held (take place path) → AreUnderWay shows gave seen n rules lists start way names held path
+    under_rest zero place ends none under = subst (AreUnderWay shows gave seen n rules lists start way names held) (take_all place path (omega arith)) under
     under_rest (suc more) place ends none under =
         under_rest more (place + 1) (omega arith) (λ j from. none j (omega arith))
         (under_byte place (omega arith) (λ is. none place (omega arith) (record { inside = omega arith; is = is })) under)
 
   -- ---- a folder in the last one
 
-  module _ (x : ℕ) (xs : List ℕ) (under : AreUnderWay shows gave seen n case lists start way names held (x ∷ xs)) where
+  module _ (x : ℕ) (xs : List ℕ) (under : AreUnderWay shows gave seen n rules lists start way names held (x ∷ xs)) where
     -- its name there
     pub name_here : start_of (under.facts under.ends.last.place).folder ++ drop under.ends.last.length (x ∷ xs) ≡ x ∷ xs
     name_here =
@@ -303,12 +303,12 @@ module _ {T X V : Type 0} (shows : Folder → EntryList V → Type 0) (gave : Fo
       list_here : IsListOf shows (x ∷ xs) (under.facts place).own
       list_here = let known = under.known.known place found_here.0 in subst (λ f. IsListOf shows f (under.facts place).own) folder_here known.of
 
-      unignored_here : (pair : ℕ × ℕ) → ¬ Ignores lists case (x ∷ xs) pair
+      unignored_here : (pair : ℕ × ℕ) → ¬ Ignores lists rules (x ∷ xs) pair
       unignored_here pair ignored =
           let known = under.known.known place found_here.0 in
           known.unignored (λ none. some (sym folder_here ∙ none)) pair
-          (subst (λ f. Ignores (take n lists ++ (under.facts place).above) case f pair) (sym folder_here)
-          (subst (λ ls. Ignores (take n lists ++ ls) case (x ∷ xs) pair) (sym above_here) (subst (λ ls. Ignores ls case (x ∷ xs) pair) (sym all_lists) ignored)))
+          (subst (λ f. Ignores (take n lists ++ (under.facts place).above) rules f pair) (sym folder_here)
+          (subst (λ ls. Ignores (take n lists ++ ls) rules (x ∷ xs) pair) (sym above_here) (subst (λ ls. Ignores ls rules (x ∷ xs) pair) (sym all_lists) ignored)))
 
       off_way : ¬ Contains (places_of way) place
       off_way h = not_on_own_way (x ∷ xs) some (subst (Contains (folders_to (x ∷ xs))) folder_here (on_way_named under.facts (length held) (folders_to (x ∷ xs)) way under.on_way place h))
@@ -320,11 +320,11 @@ module _ {T X V : Type 0} (shows : Folder → EntryList V → Type 0) (gave : Fo
         on_way_again : IsOnWay under.facts (length held) (x ∷ xs) (record { place = place; length = length (start_of (x ∷ xs)); has_list = is_some kept })
         on_way_again = record { inside = found_here.0; named = folder_here; long = refl; listed = held_here.1 }
 
-        known_again : (more : List (EntryList V)) → AreKnown seen shows (take n (lists ++ more)) case under.facts names (slice_set held place None) (places_of way ++ place ∷ [])
+        known_again : (more : List (EntryList V)) → AreKnown seen shows (take n (lists ++ more)) rules under.facts names (slice_set held place None) (places_of way ++ place ∷ [])
         known_again more = record {
           count = under.known.count ∙ sym (length-set held place None);
           links = λ outer name other found. let old = under.known.links outer name other found in (subst (λ k. other < k) (sym (length-set held place None)) old.0, old.1, subst (λ k. outer < k) (sym (length-set held place None)) old.2);
-          known = λ other inside. subst (λ ls. IsKnown shows ls case (under.facts other)) (sym (fronts_stay more)) (under.known.known other (subst (λ k. other < k) (length-set held place None) inside));
+          known = λ other inside. subst (λ ls. IsKnown shows ls rules (under.facts other)) (sym (fronts_stay more)) (under.known.known other (subst (λ k. other < k) (length-set held place None) inside));
           kept = λ other o stands. ⊎_elim
               (λ (same : other ≡ place).
               let none : o ≡ None = set_here held place None o (subst (λ k. slice_get (slice_set held place None) k ≡ Some o) same stands) in
@@ -333,18 +333,18 @@ module _ {T X V : Type 0} (shows : Folder → EntryList V → Type 0) (gave : Fo
               (cases_eq other place);
         }
 
-        pub again : AreUnderWay shows gave seen n case (lists ++ map (entry_list_of seen) (option_to_list kept)) (start_of (x ∷ xs)) (way ++ (record { place = place; length = length (start_of (x ∷ xs)); has_list = is_some kept }) ∷ []) names (slice_set held place None) ((x ∷ xs) ++ slash ∷ [])
+        pub again : AreUnderWay shows gave seen n rules (lists ++ map (entry_list_of seen) (option_to_list kept)) (start_of (x ∷ xs)) (way ++ (record { place = place; length = length (start_of (x ∷ xs)); has_list = is_some kept }) ∷ []) names (slice_set held place None) ((x ∷ xs) ++ slash ∷ [])
         again =
             let last : FolderOnWay = record { place = place; length = length (start_of (x ∷ xs)); has_list = is_some kept } in
             let own = (under.facts place).own in
             let view = held_here.0 in
             let places = map-append (λ (there : FolderOnWay). there.place) way (last ∷ []) in
-            let stands = entered_folder shows case n lists (own_lists under.facts way) x xs own under.stands unignored_here list_here in
+            let stands = entered_folder shows rules n lists (own_lists under.facts way) x xs own under.stands unignored_here list_here in
             record {
               facts = under.facts;
-              known = subst (AreKnown seen shows (take n (lists ++ map (entry_list_of seen) (option_to_list kept))) case under.facts names (slice_set held place None)) (sym places) (known_again (map (entry_list_of seen) (option_to_list kept)));
-              stands = subst (λ ls. AreEntered shows n (lists ++ ls) case ((x ∷ xs) ++ slash ∷ []) (own_lists under.facts (way ++ last ∷ []))) (sym view)
-                  (subst (AreEntered shows n (lists ++ unless_empty own) case ((x ∷ xs) ++ slash ∷ [])) (sym (map-append (λ (there : FolderOnWay). (under.facts there.place).own) way (last ∷ []))) stands);
+              known = subst (AreKnown seen shows (take n (lists ++ map (entry_list_of seen) (option_to_list kept))) rules under.facts names (slice_set held place None)) (sym places) (known_again (map (entry_list_of seen) (option_to_list kept)));
+              stands = subst (λ ls. AreEntered shows n (lists ++ ls) rules ((x ∷ xs) ++ slash ∷ []) (own_lists under.facts (way ++ last ∷ []))) (sym view)
+                  (subst (AreEntered shows n (lists ++ unless_empty own) rules ((x ∷ xs) ++ slash ∷ [])) (sym (map-append (λ (there : FolderOnWay). (under.facts there.place).own) way (last ∷ []))) stands);
               on_way = subst (λ k. AllZip (IsOnWay under.facts k) (folders_to ((x ∷ xs) ++ slash ∷ [])) (way ++ last ∷ [])) (sym (length-set held place None))
                   (subst (λ fs. AllZip (IsOnWay under.facts (length held)) fs (way ++ last ∷ [])) (sym (folders_slash x xs)) (zip_more (IsOnWay under.facts (length held)) (folders_to (x ∷ xs)) way (x ∷ xs) last under.on_way on_way_again));
               places = places_with names place (length (start_of (x ∷ xs))) (is_some kept) places_here is;
@@ -360,7 +360,7 @@ module _ {T X V : Type 0} (shows : Folder → EntryList V → Type 0) (gave : Fo
 
     -- ---- it was just asked for
 
-    module _ (list : EntryList V) (of : IsListOf shows (x ∷ xs) list) (unignored : (pair : ℕ × ℕ) → ¬ Ignores lists case (x ∷ xs) pair) (more : FolderNames) (place : ℕ) (adds : AddsFolder names more under.ends.last.place (drop under.ends.last.length (x ∷ xs)) place) (none : names.found under.ends.last.place (drop under.ends.last.length (x ∷ xs)) ≡ None) where
+    module _ (list : EntryList V) (of : IsListOf shows (x ∷ xs) list) (unignored : (pair : ℕ × ℕ) → ¬ Ignores lists rules (x ∷ xs) pair) (more : FolderNames) (place : ℕ) (adds : AddsFolder names more under.ends.last.place (drop under.ends.last.length (x ∷ xs)) place) (none : names.found under.ends.last.place (drop under.ends.last.length (x ∷ xs)) ≡ None) where
       abbrev asked : Facts V
       asked = record { folder = x ∷ xs; above = drop n lists; own = list }
 
@@ -418,13 +418,13 @@ module _ {T X V : Type 0} (shows : Folder → EntryList V → Type 0) (gave : Fo
             omega (arith, one_more, at_end, inside),
           )
 
-      known_at : (fronts : List (EntryList V)) → fronts ≡ take n lists → IsKnown shows fronts case asked
+      known_at : (fronts : List (EntryList V)) → fronts ≡ take n lists → IsKnown shows fronts rules asked
       known_at fronts same = record {
         of = of;
-        unignored = λ deep pair ignored. unignored pair (subst (λ ls. Ignores ls case (x ∷ xs) pair) (ap (λ ls. ls ++ drop n lists) same ∙ all_lists) ignored);
+        unignored = λ deep pair ignored. unignored pair (subst (λ ls. Ignores ls rules (x ∷ xs) pair) (ap (λ ls. ls ++ drop n lists) same ∙ all_lists) ignored);
       }
 
-      known_then : AreKnown seen shows (take n (lists ++ unless_empty list)) case facts_then more (held ++ None ∷ []) (places_of way ++ place ∷ [])
+      known_then : AreKnown seen shows (take n (lists ++ unless_empty list)) rules facts_then more (held ++ None ∷ []) (places_of way ++ place ∷ [])
       known_then = record {
         count = adds.count ∙ ap (λ k. k + 1) (sym adds.next) ∙ sym one_more;
         links = λ outer name other found. ⊎_elim
@@ -432,12 +432,12 @@ module _ {T X V : Type 0} (shows : Folder → EntryList V → Type 0) (gave : Fo
             (λ (apart : (outer ≡ under.ends.last.place) × (name ≡ drop under.ends.last.length (x ∷ xs)) → ⊥). old_link outer name other (sym (adds.others outer name apart) ∙ found))
             (is_it outer name);
         known = λ other inside. ⊎_elim
-            (λ (same : other ≡ place). subst (λ k. IsKnown shows (take n (lists ++ unless_empty list)) case (facts_then k)) (sym same)
-            (subst (λ (k : Facts V). IsKnown shows (take n (lists ++ unless_empty list)) case k) (sym (facts_here under.facts place asked)) (known_at (take n (lists ++ unless_empty list)) (fronts_stay (unless_empty list)))))
+            (λ (same : other ≡ place). subst (λ k. IsKnown shows (take n (lists ++ unless_empty list)) rules (facts_then k)) (sym same)
+            (subst (λ (k : Facts V). IsKnown shows (take n (lists ++ unless_empty list)) rules k) (sym (facts_here under.facts place asked)) (known_at (take n (lists ++ unless_empty list)) (fronts_stay (unless_empty list)))))
             (λ (apart : other ≡ place → ⊥).
             let before : other < place = grind (arith, one_more, inside, apart) in
-            subst (λ (k : Facts V). IsKnown shows (take n (lists ++ unless_empty list)) case k) (sym (facts_other under.facts place asked other before))
-            (subst (λ ls. IsKnown shows ls case (under.facts other)) (sym (fronts_stay (unless_empty list))) (under.known.known other (subst (λ k. other < k) at_end before))))
+            subst (λ (k : Facts V). IsKnown shows (take n (lists ++ unless_empty list)) rules k) (sym (facts_other under.facts place asked other before))
+            (subst (λ ls. IsKnown shows ls rules (under.facts other)) (sym (fronts_stay (unless_empty list))) (under.known.known other (subst (λ k. other < k) at_end before))))
             (cases_eq other place);
         kept = λ other o stands. ⊎_elim
             (λ (was : slice_get held other ≡ Some o).
@@ -464,7 +464,7 @@ module _ {T X V : Type 0} (shows : Folder → EntryList V → Type 0) (gave : Fo
         places_then : ArePlaces more.found (reverse (folders_to ((x ∷ xs) ++ slash ∷ []))) (reverse (places_of (way ++ (record { place = place; length = length (start_of (x ∷ xs)); has_list = has_list }) ∷ [])))
         places_then = places_with more place (length (start_of (x ∷ xs))) has_list (places_stay names.found more.found stays _ _ places_here) adds.here
 
-        pub anew : AreUnderWay shows real seen n case (lists ++ unless_empty list) (start_of (x ∷ xs)) (way ++ (record { place = place; length = length (start_of (x ∷ xs)); has_list = has_list }) ∷ []) more (held ++ None ∷ []) ((x ∷ xs) ++ slash ∷ [])
+        pub anew : AreUnderWay shows real seen n rules (lists ++ unless_empty list) (start_of (x ∷ xs)) (way ++ (record { place = place; length = length (start_of (x ∷ xs)); has_list = has_list }) ∷ []) more (held ++ None ∷ []) ((x ∷ xs) ++ slash ∷ [])
         anew =
             let last : FolderOnWay = record { place = place; length = length (start_of (x ∷ xs)); has_list = has_list } in
             let here = facts_here under.facts place asked in
@@ -472,8 +472,8 @@ module _ {T X V : Type 0} (shows : Folder → EntryList V → Type 0) (gave : Fo
             map-append (λ (there : FolderOnWay). (facts_then there.place).own) way (last ∷ []) ∙ ap (λ ls. ls ++ (facts_then place).own ∷ []) (own_stays under.facts place asked (folders_to (x ∷ xs)) way on_way_before) ∙ ap (λ (k : Facts V). own_lists under.facts way ++ k.own ∷ []) here in
             record {
               facts = facts_then;
-              known = subst (AreKnown seen shows (take n (lists ++ unless_empty list)) case facts_then more (held ++ None ∷ [])) (sym (map-append (λ (there : FolderOnWay). there.place) way (last ∷ []))) known_then;
-              stands = subst (AreEntered shows n (lists ++ unless_empty list) case ((x ∷ xs) ++ slash ∷ [])) (sym own) (entered_folder shows case n lists (own_lists under.facts way) x xs list under.stands unignored of);
+              known = subst (AreKnown seen shows (take n (lists ++ unless_empty list)) rules facts_then more (held ++ None ∷ [])) (sym (map-append (λ (there : FolderOnWay). there.place) way (last ∷ []))) known_then;
+              stands = subst (AreEntered shows n (lists ++ unless_empty list) rules ((x ∷ xs) ++ slash ∷ [])) (sym own) (entered_folder shows rules n lists (own_lists under.facts way) x xs list under.stands unignored of);
               on_way = subst (λ k. AllZip (IsOnWay facts_then k) (folders_to ((x ∷ xs) ++ slash ∷ [])) (way ++ last ∷ [])) (sym one_more)
                   (subst (λ fs. AllZip (IsOnWay facts_then (place + 1)) fs (way ++ last ∷ [])) (sym (folders_slash x xs))
                   (zip_more (IsOnWay facts_then (place + 1)) (folders_to (x ∷ xs)) way (x ∷ xs) last (on_way_stays under.facts place asked (folders_to (x ∷ xs)) way on_way_before) on_way_then));
@@ -493,59 +493,59 @@ module _ {T X V : Type 0} (shows : Folder → EntryList V → Type 0) (gave : Fo
 
 -- ---- the same, of a front that isn't the top
 
-module _ {T X V : Type 0} (shows : Folder → EntryList V → Type 0) (gave : Folder → Type 0) (seen : X → V) (n : ℕ) (case : Case) (lists : List (EntryList V)) (start : List ℕ) (way : List FolderOnWay) (names : FolderNames) (held : List (Option (patterns.List T X))) where
+module _ {T X V : Type 0} (shows : Folder → EntryList V → Type 0) (gave : Folder → Type 0) (seen : X → V) (n : ℕ) (rules : Rules) (lists : List (EntryList V)) (start : List ℕ) (way : List FolderOnWay) (names : FolderNames) (held : List (Option (patterns.List T X))) where
   -- the name of what lies in the last folder
-  pub fits : (front : List ℕ) → ¬ (front ≡ []) → AreUnderWay shows gave seen n case lists start way names held front → (last : FolderOnWay) → EndsWith way last → last.length ≤ length front
+  pub fits : (front : List ℕ) → ¬ (front ≡ []) → AreUnderWay shows gave seen n rules lists start way names held front → (last : FolderOnWay) → EndsWith way last → last.length ≤ length front
   fits [] deep under last is = absurd (deep refl)
   fits (x ∷ xs) deep under last is =
-      let long = last_long shows gave seen n case lists start way names held x xs under in
-      let short = start_fits shows gave seen n case lists start way names held x xs under in
+      let long = last_long shows gave seen n rules lists start way names held x xs under in
+      let short = start_fits shows gave seen n rules lists start way names held x xs under in
       subst (λ (w : FolderOnWay). w.length ≤ length (x ∷ xs)) (sym (is under.ends.above under.ends.last under.ends.joined)) (omega (arith, long, short))
 
-  pub start_within : (front : List ℕ) → ¬ (front ≡ []) → AreUnderWay shows gave seen n case lists start way names held front → length start ≤ length front
+  pub start_within : (front : List ℕ) → ¬ (front ≡ []) → AreUnderWay shows gave seen n rules lists start way names held front → length start ≤ length front
   start_within [] deep under = absurd (deep refl)
-  start_within (x ∷ xs) deep under = start_fits shows gave seen n case lists start way names held x xs under
+  start_within (x ∷ xs) deep under = start_fits shows gave seen n rules lists start way names held x xs under
 
   -- how what lies in it begins
-  pub start_next : (front : List ℕ) → ¬ (front ≡ []) → AreUnderWay shows gave seen n case lists start way names held front → start ++ drop (length start) (front ++ slash ∷ []) ≡ start_of front
+  pub start_next : (front : List ℕ) → ¬ (front ≡ []) → AreUnderWay shows gave seen n rules lists start way names held front → start ++ drop (length start) (front ++ slash ∷ []) ≡ start_of front
   start_next [] deep under = absurd (deep refl)
-  start_next (x ∷ xs) deep under = start_then shows gave seen n case lists start way names held x xs under
+  start_next (x ∷ xs) deep under = start_then shows gave seen n rules lists start way names held x xs under
 
   -- it was given once
-  pub once : (front : List ℕ) → ¬ (front ≡ []) → (under : AreUnderWay shows gave seen n case lists start way names held front) → names.found under.ends.last.place (drop under.ends.last.length front) ≡ None → ¬ gave front
+  pub once : (front : List ℕ) → ¬ (front ≡ []) → (under : AreUnderWay shows gave seen n rules lists start way names held front) → names.found under.ends.last.place (drop under.ends.last.length front) ≡ None → ¬ gave front
   once [] deep under none given = absurd (deep refl)
   once (x ∷ xs) deep under none given =
-      let found = found_once shows gave seen n case lists start way names held x xs under given in
+      let found = found_once shows gave seen n rules lists start way names held x xs under given in
       let clash : None ≡ Some found.0 = sym none ∙ found.1 in
       absurd (cc)
 
-  pub entered_again : (front : List ℕ) → ¬ (front ≡ []) → (under : AreUnderWay shows gave seen n case lists start way names held front) → (place : ℕ) → names.found under.ends.last.place (drop under.ends.last.length front) ≡ Some place → (kept : Option (patterns.List T X)) → slice_get held place ≡ Some kept
-      → AreUnderWay shows gave seen n case (lists ++ map (entry_list_of seen) (option_to_list kept)) (start_of front) (way ++ (record { place = place; length = length (start_of front); has_list = is_some kept }) ∷ []) names (slice_set held place None) (front ++ slash ∷ [])
+  pub entered_again : (front : List ℕ) → ¬ (front ≡ []) → (under : AreUnderWay shows gave seen n rules lists start way names held front) → (place : ℕ) → names.found under.ends.last.place (drop under.ends.last.length front) ≡ Some place → (kept : Option (patterns.List T X)) → slice_get held place ≡ Some kept
+      → AreUnderWay shows gave seen n rules (lists ++ map (entry_list_of seen) (option_to_list kept)) (start_of front) (way ++ (record { place = place; length = length (start_of front); has_list = is_some kept }) ∷ []) names (slice_set held place None) (front ++ slash ∷ [])
   entered_again [] deep under = absurd (deep refl)
-  entered_again (x ∷ xs) deep under = again shows gave seen n case lists start way names held x xs under
+  entered_again (x ∷ xs) deep under = again shows gave seen n rules lists start way names held x xs under
 
-  pub entered_anew : (front : List ℕ) → ¬ (front ≡ []) → (under : AreUnderWay shows gave seen n case lists start way names held front) → (list : EntryList V) → IsListOf shows front list → ((pair : ℕ × ℕ) → ¬ Ignores lists case front pair)
+  pub entered_anew : (front : List ℕ) → ¬ (front ≡ []) → (under : AreUnderWay shows gave seen n rules lists start way names held front) → (list : EntryList V) → IsListOf shows front list → ((pair : ℕ × ℕ) → ¬ Ignores lists rules front pair)
       → (more : FolderNames) (place : ℕ) → AddsFolder names more under.ends.last.place (drop under.ends.last.length front) place → names.found under.ends.last.place (drop under.ends.last.length front) ≡ None
       → (real : Folder → Type 0) → ((folder : Folder) → real folder → ¬ (folder ≡ front) → gave folder) → (has_list : Bool) → (IsTrue has_list ↔ (unless_empty list ≡ list ∷ []))
-      → AreUnderWay shows real seen n case (lists ++ unless_empty list) (start_of front) (way ++ (record { place = place; length = length (start_of front); has_list = has_list }) ∷ []) more (held ++ None ∷ []) (front ++ slash ∷ [])
+      → AreUnderWay shows real seen n rules (lists ++ unless_empty list) (start_of front) (way ++ (record { place = place; length = length (start_of front); has_list = has_list }) ∷ []) more (held ++ None ∷ []) (front ++ slash ∷ [])
   entered_anew [] deep under = absurd (deep refl)
-  entered_anew (x ∷ xs) deep under = anew shows gave seen n case lists start way names held x xs under
+  entered_anew (x ∷ xs) deep under = anew shows gave seen n rules lists start way names held x xs under
 
   -- the last folder is known
-  pub last_inside : (front : List ℕ) → (under : AreUnderWay shows gave seen n case lists start way names held front) → under.ends.last.place < names.count
+  pub last_inside : (front : List ℕ) → (under : AreUnderWay shows gave seen n rules lists start way names held front) → under.ends.last.place < names.count
   last_inside front under =
-      let here = (zips_last shows gave seen n case lists start way names held front under).here in
+      let here = (zips_last shows gave seen n rules lists start way names held front under).here in
       let inside = here.inside in
       omega (arith, inside, under.known.count)
 
-  pub long_as_start : (front : List ℕ) → (under : AreUnderWay shows gave seen n case lists start way names held front) → (last : FolderOnWay) → EndsWith way last → last.length ≡ length start
+  pub long_as_start : (front : List ℕ) → (under : AreUnderWay shows gave seen n rules lists start way names held front) → (last : FolderOnWay) → EndsWith way last → last.length ≡ length start
   long_as_start front under last is =
-      let here = (zips_last shows gave seen n case lists start way names held front under).here in
-      ap (λ (w : FolderOnWay). w.length) (is under.ends.above under.ends.last under.ends.joined) ∙ here.long ∙ ap length (sym (starts_as shows gave seen n case lists start way names held front under))
+      let here = (zips_last shows gave seen n rules lists start way names held front under).here in
+      ap (λ (w : FolderOnWay). w.length) (is under.ends.above under.ends.last under.ends.joined) ∙ here.long ∙ ap length (sym (starts_as shows gave seen n rules lists start way names held front under))
 
   -- a path that begins with a slash enters no folder there
-  pub under_slash : (front : List ℕ) → front ≡ [] → AreUnderWay shows gave seen n case lists start way names held front → ((pair : ℕ × ℕ) → ¬ Ignores lists case front pair) → AreUnderWay shows gave seen n case lists start way names held (front ++ slash ∷ [])
-  under_slash [] none under kept = same_way shows gave seen n case lists start way names held [] under (slash ∷ []) (entered_slash shows case n lists (own_lists under.facts way) under.stands kept) refl
+  pub under_slash : (front : List ℕ) → front ≡ [] → AreUnderWay shows gave seen n rules lists start way names held front → ((pair : ℕ × ℕ) → ¬ Ignores lists rules front pair) → AreUnderWay shows gave seen n rules lists start way names held (front ++ slash ∷ [])
+  under_slash [] none under kept = same_way shows gave seen n rules lists start way names held [] under (slash ∷ []) (entered_slash shows rules n lists (own_lists under.facts way) under.stands kept) refl
   under_slash (x ∷ xs) none under kept = absurd (cc)
 
   -- what a source showed it shows on, and it gave no list more
@@ -559,7 +559,7 @@ module _ {T X V : Type 0} (shows : Folder → EntryList V → Type 0) (gave : Fo
     zip_goes_on (f ∷ folders) [] zip = absurd zip
     zip_goes_on (f ∷ folders) (l ∷ own) zip = (list_goes_on f l zip.0, zip_goes_on folders own zip.1)
 
-    pub under_goes_on : (front : List ℕ) → AreUnderWay shows gave seen n case lists start way names held front → AreUnderWay shows_on gave_then seen n case lists start way names held front
+    pub under_goes_on : (front : List ℕ) → AreUnderWay shows gave seen n rules lists start way names held front → AreUnderWay shows_on gave_then seen n rules lists start way names held front
     under_goes_on front under = record {
       facts = under.facts;
       known = record {

@@ -5,7 +5,7 @@ use Rattle.std.specs.List.{AllZip}
 use Rattle.std.proofs.Math.Seq.{take-append_seam}
 use Rattle.std.proofs.lemmas.Bool.{cases_eq}
 use Rattle.std.proofs.lemmas.List.{drop-append-le, map-append, take-append-drop, take-append-le}
-use Rattle.gix_glob.specs.declared.pattern.Case.{Case}
+use Rattle.glob_lists.specs.declared.rules.Rules.{Rules}
 use Rattle.gix_glob.specs.declared.search.pattern.list.List as patterns
 use Rattle.gix_glob.specs.Bytes.{slash}
 use Rattle.gix_glob.specs.EntryLists.{EntryList, entry_list_of}
@@ -31,13 +31,13 @@ start_longer : (folder above : Folder) → ¬ (folder ≡ []) → start_of above
 start_longer [] above deep joined = absurd (deep refl)
 start_longer (x ∷ xs) above deep joined = sym (ap (λ t. t ++ slash ∷ []) joined) ∙ append_assoc (start_of above) (drop (length (start_of above)) (x ∷ xs)) (slash ∷ [])
 
-module _ {T X V : Type 0} (shows : Folder → EntryList V → Type 0) (gave : Folder → Type 0) (seen : X → V) (n : ℕ) (case : Case) (lists : List (EntryList V)) (start : List ℕ) (way : List FolderOnWay) (names : FolderNames) (held : List (Option (patterns.List T X))) (front : List ℕ) (under : AreUnderWay shows gave seen n case lists start way names held front) (deep : 0 < length start) where
+module _ {T X V : Type 0} (shows : Folder → EntryList V → Type 0) (gave : Folder → Type 0) (seen : X → V) (n : ℕ) (rules : Rules) (lists : List (EntryList V)) (start : List ℕ) (way : List FolderOnWay) (names : FolderNames) (held : List (Option (patterns.List T X))) (front : List ℕ) (under : AreUnderWay shows gave seen n rules lists start way names held front) (deep : 0 < length start) where
   pub zips : ZipsLast (IsOnWay under.facts (length held)) (folders_to front) under.ends.above under.ends.last
-  zips = zips_last shows gave seen n case lists start way names held front under
+  zips = zips_last shows gave seen n rules lists start way names held front under
 
   starts : start ≡ start_of zips.last
   unfolding zips
-  starts = starts_as shows gave seen n case lists start way names held front under
+  starts = starts_as shows gave seen n rules lists start way names held front under
 
   folder_deep : ¬ (zips.last ≡ [])
   folder_deep none = omega (arith, ap length (starts ∙ ap start_of none))
@@ -53,10 +53,10 @@ module _ {T X V : Type 0} (shows : Folder → EntryList V → Type 0) (gave : Fo
   list_on_way = let here = zips.here in here.listed
 
   module _ (less : List (EntryList V)) (listed : lists ≡ less ++ unless_empty (under.facts under.ends.last.place).own) where
-    left : AreEntered shows n less case zips.last (own_lists under.facts under.ends.above) × (folders_to zips.last ≡ zips.init)
+    left : AreEntered shows n less rules zips.last (own_lists under.facts under.ends.above) × (folders_to zips.last ≡ zips.init)
     left =
-        entered_left shows case n front zips.init zips.last zips.joined less (own_lists under.facts under.ends.above) (under.facts under.ends.last.place).own
-        (subst (AreEntered shows n (less ++ unless_empty (under.facts under.ends.last.place).own) case front) own_split (subst (λ ls. AreEntered shows n ls case front (own_lists under.facts way)) listed under.stands))
+        entered_left shows rules n front zips.init zips.last zips.joined less (own_lists under.facts under.ends.above) (under.facts under.ends.last.place).own
+        (subst (AreEntered shows n (less ++ unless_empty (under.facts under.ends.last.place).own) rules front) own_split (subst (λ ls. AreEntered shows n ls rules front (own_lists under.facts way)) listed under.stands))
         folder_deep
 
     pub few : n ≤ length less
@@ -111,7 +111,7 @@ module _ {T X V : Type 0} (shows : Folder → EntryList V → Type 0) (gave : Fo
 
     pub leaves : (now : List (Option (patterns.List T X))) → length now ≡ length held → ((place : ℕ) (o : Option (patterns.List T X)) → slice_get now place ≡ Some o → HoldsOwn seen (places_of under.ends.above) place (under.facts place).own o)
         → (last : FolderOnWay) → EndsWith under.ends.above last
-        → AreUnderWay shows gave seen n case less (take last.length start) under.ends.above names now zips.last
+        → AreUnderWay shows gave seen n rules less (take last.length start) under.ends.above names now zips.last
     leaves now same keeps last is =
         let it : last ≡ outer.1 = is outer.0 outer.1 outer.2 in
         let begins : take last.length start ≡ start_of above.last = ap (λ (w : FolderOnWay). take w.length start) it ∙ start_above in
@@ -121,7 +121,7 @@ module _ {T X V : Type 0} (shows : Folder → EntryList V → Type 0) (gave : Fo
           known = record {
             count = under.known.count ∙ sym same;
             links = λ i name place found. let old = under.known.links i name place found in (subst (λ k. place < k) (sym same) old.0, old.1, subst (λ k. i < k) (sym same) old.2);
-            known = λ place inside. subst (λ ls. IsKnown shows ls case (under.facts place)) (sym fronts_less) (under.known.known place (subst (λ k. place < k) same inside));
+            known = λ place inside. subst (λ ls. IsKnown shows ls rules (under.facts place)) (sym fronts_less) (under.known.known place (subst (λ k. place < k) same inside));
             kept = keeps;
           };
           stands = left.0;

@@ -2,7 +2,7 @@
 use Rattle.std.proofs.Common.{◌≡◌, ◌⊎◌, inl, inr, ⊎_elim, ℕ, zero, suc, true, Bool, List, [], ◌∷◌, ◌++◌, Some, sym, ◌∙◌, subst}
 use Rattle.std.specs.Prelude.{slice_get}
 use Rattle.std.proofs.lemmas.Option.{same_Some}
-use Rattle.gix_glob.specs.declared.pattern.Case.{Case}
+use Rattle.glob_lists.specs.declared.rules.Rules.{Rules}
 use Rattle.gix_glob.specs.EntryLists.{EntryList}
 use Rattle.gix_glob.specs.Stripping.{NothingLeft, RestOf}
 use Rattle.glob_lists.specs.Deciding.{PairAnswers}
@@ -21,17 +21,17 @@ module _ {X : Type 0} (last : X) where
   at_more (y ∷ xs) zero x is = inl is
   at_more (y ∷ xs) (suc i) x is = at_more xs i x is
 
-module _ {V : Type 0} (lists : List (EntryList V)) (last : EntryList V) (case : Case) (path : List ℕ) (nothing : NothingLeft case last.base path) where
-  answers_more : (is_dir : Bool) (i m : ℕ) → PairAnswers lists path is_dir case i m → PairAnswers (lists ++ last ∷ []) path is_dir case i m
+module _ {V : Type 0} (lists : List (EntryList V)) (last : EntryList V) (rules : Rules) (path : List ℕ) (nothing : NothingLeft rules.case last.base path) where
+  answers_more : (is_dir : Bool) (i m : ℕ) → PairAnswers lists path is_dir rules i m → PairAnswers (lists ++ last ∷ []) path is_dir rules i m
   answers_more is_dir i m h = record { list = h.list; there = more_at last lists i h.list h.there; answers = h.answers }
 
-  answers_less : (is_dir : Bool) (i m : ℕ) → PairAnswers (lists ++ last ∷ []) path is_dir case i m → PairAnswers lists path is_dir case i m
+  answers_less : (is_dir : Bool) (i m : ℕ) → PairAnswers (lists ++ last ∷ []) path is_dir rules i m → PairAnswers lists path is_dir rules i m
   answers_less is_dir i m h = ⊎_elim
       (λ (there : slice_get lists i ≡ Some h.list). record { list = h.list; there = there; answers = h.answers })
-      (λ (same : last ≡ h.list). absurd (nothing h.answers.answers.rest (subst (λ (l : EntryList V). RestOf case l.base path h.answers.answers.rest) (sym same) h.answers.answers.left)))
+      (λ (same : last ≡ h.list). absurd (nothing h.answers.answers.rest (subst (λ (l : EntryList V). RestOf rules.case l.base path h.answers.answers.rest) (sym same) h.answers.answers.left)))
       (at_more last lists i h.list h.there)
 
-  pub ignores_more : (pair : ℕ × ℕ) → Ignores lists case path pair → Ignores (lists ++ last ∷ []) case path pair
+  pub ignores_more : (pair : ℕ × ℕ) → Ignores lists rules path pair → Ignores (lists ++ last ∷ []) rules path pair
   ignores_more pair h = (
     record {
       answers = answers_more true pair.0 pair.1 h.0.answers;
@@ -46,7 +46,7 @@ module _ {V : Type 0} (lists : List (EntryList V)) (last : EntryList V) (case : 
     },
   )
 
-  pub ignores_less : (pair : ℕ × ℕ) → Ignores (lists ++ last ∷ []) case path pair → Ignores lists case path pair
+  pub ignores_less : (pair : ℕ × ℕ) → Ignores (lists ++ last ∷ []) rules path pair → Ignores lists rules path pair
   ignores_less pair h =
       let answers = answers_less true pair.0 pair.1 h.0.answers in (
         record {

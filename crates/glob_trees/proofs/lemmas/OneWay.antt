@@ -4,7 +4,7 @@ use Rattle.std.specs.List.{AllZip, Contains}
 use Rattle.std.proofs.lemmas.Bool.{cases_eq}
 use Rattle.std.proofs.lemmas.List.{take-append-drop}
 use Rattle.std.proofs.lemmas.List.Elements.{Contains-append_cases, Contains-append_left, Contains-append_right, Contains-push, Contains-push_cases}
-use Rattle.gix_glob.specs.declared.pattern.Case.{Case}
+use Rattle.glob_lists.specs.declared.rules.Rules.{Rules}
 use Rattle.gix_glob.specs.Bytes.{slash}
 use Rattle.gix_glob.specs.EntryLists.{EntryList}
 use Rattle.gix_glob.specs.Stripping.{NothingLeft}
@@ -104,24 +104,24 @@ later (b ∷ rest) first before f after is =
 
 -- ---- lists of deeper folders say nothing of a folder above
 
-module _ {V : Type 0} (shows : Folder → EntryList V → Type 0) (case : Case) (top : List ℕ) (pair : ℕ × ℕ) where
-  nothing_of : (g : Folder) (list : EntryList V) → IsListOf shows g list → ¬ (g ≡ []) → length top ≤ length g → NothingLeft case list.base top
+module _ {V : Type 0} (shows : Folder → EntryList V → Type 0) (rules : Rules) (top : List ℕ) (pair : ℕ × ℕ) where
+  nothing_of : (g : Folder) (list : EntryList V) → IsListOf shows g list → ¬ (g ≡ []) → length top ≤ length g → NothingLeft rules.case list.base top
   nothing_of [] list of deep long = absurd (deep refl)
-  nothing_of (x ∷ xs) list of deep long = subst (λ b. NothingLeft case b top) (sym of.based) (nothing_left_shorter case ((x ∷ xs) ++ slash ∷ []) top (omega (arith, long, length-append (x ∷ xs) (slash ∷ []))))
+  nothing_of (x ∷ xs) list of deep long = subst (λ b. NothingLeft rules.case b top) (sym of.based) (nothing_left_shorter rules.case ((x ∷ xs) ++ slash ∷ []) top (omega (arith, long, length-append (x ∷ xs) (slash ∷ []))))
 
-  ignores_more_of : (folders : List Folder) (own lists : List (EntryList V)) → AllZip (IsListOf shows) folders own → ((g : Folder) → Contains folders g → length top ≤ length g × ¬ (g ≡ [])) → Ignores lists case top pair → Ignores (lists ++ with_entries own) case top pair
-  ignores_more_of folders [] lists zip long ignored = subst (λ ls. Ignores ls case top pair) (sym (append-nil lists)) ignored
+  ignores_more_of : (folders : List Folder) (own lists : List (EntryList V)) → AllZip (IsListOf shows) folders own → ((g : Folder) → Contains folders g → length top ≤ length g × ¬ (g ≡ [])) → Ignores lists rules top pair → Ignores (lists ++ with_entries own) rules top pair
+  ignores_more_of folders [] lists zip long ignored = subst (λ ls. Ignores ls rules top pair) (sym (append-nil lists)) ignored
   ignores_more_of [] (l ∷ own) lists zip long ignored = absurd zip
   ignores_more_of (g ∷ folders) (l ∷ own) lists zip long ignored =
       let here = long g (Contains-append_left (g ∷ []) folders g (Contains-push [] g)) in
-      subst (λ ls. Ignores ls case top pair) (append_assoc lists (unless_empty l) (with_entries own))
+      subst (λ ls. Ignores ls rules top pair) (append_assoc lists (unless_empty l) (with_entries own))
       (ignores_more_of folders own (lists ++ unless_empty l) zip.1 (λ other h. long other (Contains-append_right (g ∷ []) folders other h))
-      (ignores_with lists l case top (nothing_of g l zip.0 here.1 here.0) pair ignored))
+      (ignores_with lists l rules top (nothing_of g l zip.0 here.1 here.0) pair ignored))
 
 -- ---- two ways
 
-module _ {V : Type 0} (shows : Folder → EntryList V → Type 0) (one : ShowsOne shows) (n : ℕ) (case : Case) (path : List ℕ) where
-  no_further : (lists other : List (EntryList V)) → take n lists ≡ take n other → (short : AreOnTheWay shows n lists case path) → (long : AreOnTheWay shows n other case path) → (rest : List Folder) → long.entered ≡ short.entered ++ rest → short.further ≡ rest ++ long.further → rest ≡ []
+module _ {V : Type 0} (shows : Folder → EntryList V → Type 0) (one : ShowsOne shows) (n : ℕ) (rules : Rules) (path : List ℕ) where
+  no_further : (lists other : List (EntryList V)) → take n lists ≡ take n other → (short : AreOnTheWay shows n lists rules path) → (long : AreOnTheWay shows n other rules path) → (rest : List Folder) → long.entered ≡ short.entered ++ rest → short.further ≡ rest ++ long.further → rest ≡ []
   no_further lists other fronts short long [] longer shorter = refl
   no_further lists other fronts short long (f ∷ rest) longer shorter =
       let ends = short.ends f (rest ++ long.further) shorter in
@@ -139,7 +139,7 @@ module _ {V : Type 0} (shows : Folder → EntryList V → Type 0) (one : ShowsOn
           ∙ sym (append_assoc (take n lists) (with_entries short.own) (with_entries zips.1))
           ∙ ap (λ ls. ls ++ with_entries zips.1) (ap (λ ls. take n lists ++ ls) (sym short.standing) ∙ take-append-drop n lists)
 
-      at : (entered : List Folder) → entered ≡ short.entered → folders_to path ≡ entered ++ f ∷ (rest ++ long.further) → Contains short.entered [] → (pair : ℕ × ℕ) (top : List ℕ) → IsAbove top (f ++ slash ∷ []) → Ignores lists case top pair → ⊥
+      at : (entered : List Folder) → entered ≡ short.entered → folders_to path ≡ entered ++ f ∷ (rest ++ long.further) → Contains short.entered [] → (pair : ℕ × ℕ) (top : List ℕ) → IsAbove top (f ++ slash ∷ []) → Ignores lists rules top pair → ⊥
       at [] same joined has pair top above ignored = none_contained [] (subst (λ fs. Contains fs []) (sym same) has)
       at (first ∷ before) same joined has pair top above ignored =
           let tail = later path first before f (rest ++ long.further) joined in
@@ -157,8 +157,8 @@ module _ {V : Type 0} (shows : Folder → EntryList V → Type 0) (one : ShowsOn
           let there : Contains long.entered f = subst (λ fs. Contains fs f) (sym longer) (Contains-append_right short.entered (f ∷ rest) f (Contains-append_left (f ∷ []) rest f (Contains-push [] f))) in
           ⊎_elim
           (λ (is : f ≡ []). tail.1 is)
-          (λ (asked : IsAbove f path × HasNoneIgnored other case (f ++ slash ∷ [])).
-          asked.1 top pair above (subst (λ ls. Ignores ls case top pair) (sym others) (ignores_more_of shows case top pair (f ∷ rest) zips.1 lists zips.4 deeper ignored)))
+          (λ (asked : IsAbove f path × HasNoneIgnored other rules (f ++ slash ∷ [])).
+          asked.1 top pair above (subst (λ ls. Ignores ls rules top pair) (sym others) (ignores_more_of shows rules top pair (f ∷ rest) zips.1 lists zips.4 deeper ignored)))
           (long.unignored f there)
         where
           length_some : (xs : List ℕ) → ¬ (xs ≡ []) → 0 < length xs
@@ -168,13 +168,13 @@ module _ {V : Type 0} (shows : Folder → EntryList V → Type 0) (one : ShowsOn
           deep_f : 0 < length f → ¬ (length f ≤ 0)
           deep_f some none = omega (arith)
 
-  same_at : (lists other : List (EntryList V)) → take n lists ≡ take n other → (a : AreOnTheWay shows n lists case path) → (b : AreOnTheWay shows n other case path) → (rest : List Folder) → b.entered ≡ a.entered ++ rest → rest ≡ [] → lists ≡ other
+  same_at : (lists other : List (EntryList V)) → take n lists ≡ take n other → (a : AreOnTheWay shows n lists rules path) → (b : AreOnTheWay shows n other rules path) → (rest : List Folder) → b.entered ≡ a.entered ++ rest → rest ≡ [] → lists ≡ other
   same_at lists other fronts a b rest longer none =
       let same : b.entered ≡ a.entered = longer ∙ ap (λ fs. a.entered ++ fs) none ∙ append-nil a.entered in
       let own : a.own ≡ b.own = same_own shows one a.entered a.own b.own a.shown (subst (λ fs. AllZip (IsListOf shows) fs b.own) same b.shown) in
       sym (take-append-drop n lists) ∙ ap (λ ls. ls ++ drop n lists) fronts ∙ ap (λ ls. take n other ++ ls) (a.standing ∙ ap with_entries own ∙ sym b.standing) ∙ take-append-drop n other
 
-  pub one_way : (lists other : List (EntryList V)) → take n lists ≡ take n other → AreOnTheWay shows n lists case path → AreOnTheWay shows n other case path → lists ≡ other
+  pub one_way : (lists other : List (EntryList V)) → take n lists ≡ take n other → AreOnTheWay shows n lists rules path → AreOnTheWay shows n other rules path → lists ≡ other
   one_way lists other fronts a b = ⊎_elim
       (λ (longer : (rest : List Folder) × (b.entered ≡ a.entered ++ rest) × (a.further ≡ rest ++ b.further)). same_at lists other fronts a b longer.0 longer.1 (no_further lists other fronts a b longer.0 longer.1 longer.2))
       (λ (shorter : (rest : List Folder) × (a.entered ≡ b.entered ++ rest) × (b.further ≡ rest ++ a.further)). sym (same_at other lists (sym fronts) b a shorter.0 shorter.1 (no_further other lists (sym fronts) b a shorter.0 shorter.1 shorter.2)))

@@ -3,7 +3,7 @@ use Rattle.std.proofs.Common.{◌≡◌, ⊎_elim, ℕ, ◌+◌, ◌<◌, ◌≤
 use Rattle.std.specs.List.{Contains}
 use Rattle.std.proofs.lemmas.Bool.{cases_eq}
 use Rattle.std.proofs.lemmas.List.{take-append-le}
-use Rattle.gix_glob.specs.declared.pattern.Case.{Case}
+use Rattle.glob_lists.specs.declared.rules.Rules.{Rules}
 use Rattle.gix_glob.specs.Bytes.{HasByte, slash}
 use Rattle.gix_glob.specs.EntryLists.{EntryList}
 use Rattle.glob_trees.specs.declared.entered.Entered.{Entered}
@@ -49,8 +49,8 @@ above_first (x ∷ xs) rest folder below is =
     let same : (x ∷ xs) ≡ folder = cc in
     ([], ap (λ f. f ++ slash ∷ []) (sym same))
 
-module _ {V : Type 0} (shows : Folder → EntryList V → Type 0) (n : ℕ) (lists : List (EntryList V)) (case : Case) (path : List ℕ) (own : List (EntryList V)) where
-  pub stopped : (front : List ℕ) (pair : ℕ × ℕ) → AreEntered shows n lists case front own → IsAbove front path → Ignores lists case front pair → AreOnTheWay shows n lists case path
+module _ {V : Type 0} (shows : Folder → EntryList V → Type 0) (n : ℕ) (lists : List (EntryList V)) (rules : Rules) (path : List ℕ) (own : List (EntryList V)) where
+  pub stopped : (front : List ℕ) (pair : ℕ × ℕ) → AreEntered shows n lists rules front own → IsAbove front path → Ignores lists rules front pair → AreOnTheWay shows n lists rules path
   stopped front pair e above ignored = record {
     entered = folders_to front;
     further = further front (slash ∷ above.0);
@@ -59,11 +59,11 @@ module _ {V : Type 0} (shows : Folder → EntryList V → Type 0) (n : ℕ) (lis
     own = own;
     shown = e.shown;
     standing = e.standing;
-    unignored = λ folder h. asked_above shows n lists case path own front folder e above h;
+    unignored = λ folder h. asked_above shows n lists rules path own front folder e above h;
     ends = λ folder below is. (pair, record { folder = front; above = above_first front above.0 folder below is; ignored = ignored; topmost = e.none });
   }
 
-  pub arrived : AreEntered shows n lists case path own → AreOnTheWay shows n lists case path
+  pub arrived : AreEntered shows n lists rules path own → AreOnTheWay shows n lists rules path
   arrived e = record {
     entered = folders_to path;
     further = [];
@@ -72,7 +72,7 @@ module _ {V : Type 0} (shows : Folder → EntryList V → Type 0) (n : ℕ) (lis
     own = own;
     shown = e.shown;
     standing = e.standing;
-    unignored = λ folder h. asked_to_path shows n lists case path own folder e h;
+    unignored = λ folder h. asked_to_path shows n lists rules path own folder e h;
     ends = λ folder below is. absurd (cc);
   }
 
@@ -107,10 +107,10 @@ pub pushed : {X : Type 0} (ok : Bool) (old new more : List X) → ok ≡ true �
 pushed true old new more is items = items
 pushed false old new more is items = absurd (cc)
 
-pub passing : {V : Type 0} (shows : Folder → EntryList V → Type 0) (case : Case) (n : ℕ) (lists own : List (EntryList V)) (path : List ℕ) (place : ℕ) → place < length path → ¬ (slice_index path place ≡ slash)
-    → AreEntered shows n lists case (take place path) own → AreEntered shows n lists case (take (place + 1) path) own
-passing shows case n lists own path place inside other e =
-    subst (λ t. AreEntered shows n lists case t own) (sym (path_more path place inside)) (entered_byte shows case lists (take place path) n (slice_index path place) own other e)
+pub passing : {V : Type 0} (shows : Folder → EntryList V → Type 0) (rules : Rules) (n : ℕ) (lists own : List (EntryList V)) (path : List ℕ) (place : ℕ) → place < length path → ¬ (slice_index path place ≡ slash)
+    → AreEntered shows n lists rules (take place path) own → AreEntered shows n lists rules (take (place + 1) path) own
+passing shows rules n lists own path place inside other e =
+    subst (λ t. AreEntered shows n lists rules t own) (sym (path_more path place inside)) (entered_byte shows rules lists (take place path) n (slice_index path place) own other e)
 
 pub passing_way : (path : List ℕ) (place : ℕ) → place < length path → ¬ (slice_index path place ≡ slash) → folders_to (take (place + 1) path) ≡ folders_to (take place path)
 passing_way path place inside other = ap folders_to (path_more path place inside) ∙ folders_other (take place path) (slice_index path place) other
@@ -122,7 +122,7 @@ way_grows path place inside folder h =
 pub keeps_on_further : {S T X F V : Type 0} (shows : S → Folder → EntryList V → Type 0) (old mid new : Entered T S X F) → KeepsOn shows old mid → KeepsOn shows mid new → KeepsOn shows old new
 keeps_on_further shows old mid new first next = record {
   front_count = next.front_count ∙ first.front_count;
-  case = next.case ∙ first.case;
+  rules = next.rules ∙ first.rules;
   fronts = subst (λ k. take k new.lists.items ≡ take k mid.lists.items) first.front_count next.fronts ∙ first.fronts;
   goes_on = λ folder list shown. next.goes_on folder list (first.goes_on folder list shown);
 }

@@ -1,7 +1,7 @@
 -- The folders that were entered, and what is kept of each folder.
 use Rattle.std.specs.Prelude.{◌≡◌, ◌⊎◌, ℕ, ◌<◌, ◌≤◌, List, [], ◌∷◌, ◌++◌, drop, length, map, reverse, slice_get, take, Option, Some, MatchOption, IsTrue, ◌↔◌}
 use Rattle.std.specs.List.{AllZip, Contains}
-use Rattle.gix_glob.specs.declared.pattern.Case.{Case}
+use Rattle.glob_lists.specs.declared.rules.Rules.{Rules}
 use Rattle.gix_glob.specs.declared.search.pattern.list.List as patterns
 use Rattle.gix_glob.specs.EntryLists.{EntryList, entry_list_of}
 use Rattle.glob_lists.specs.Deciding.{BasesAreFolders}
@@ -14,12 +14,12 @@ use Rattle.glob_trees.specs.Ways.{Folder, GoesOn, IsListOf, folders_to, start_of
 
 -- The lists past the first `front_count` are those of the folders on the way to what lies at the front of a path that have entries,
 -- and none of these folders is ignored.
-pub record AreEntered {V : Type 0} (shows : Folder → EntryList V → Type 0) (front_count : ℕ) (lists : List (EntryList V)) (case : Case) (front : List ℕ) (own : List (EntryList V)) : Type 0 where
+pub record AreEntered {V : Type 0} (shows : Folder → EntryList V → Type 0) (front_count : ℕ) (lists : List (EntryList V)) (rules : Rules) (front : List ℕ) (own : List (EntryList V)) : Type 0 where
   pub many : front_count ≤ length lists
   pub bases : BasesAreFolders lists
   pub shown : AllZip (IsListOf shows) (folders_to front) own
   pub standing : drop front_count lists ≡ with_entries own
-  pub none : HasNoneIgnored lists case front
+  pub none : HasNoneIgnored lists rules front
 
 -- what is known of a folder: its path, the lists with entries of the folders above it, and its own list
 pub record Facts (V : Type 0) : Type 0 where
@@ -37,9 +37,9 @@ pub record IsInner {V : Type 0} (outer : Facts V) (name : List ℕ) (inner : Fac
   pub above : inner.above ≡ lists_to outer
 
 -- a folder that was asked for: the source shows its list, and the lists above it don't ignore it
-pub record IsKnown {V : Type 0} (shows : Folder → EntryList V → Type 0) (fronts : List (EntryList V)) (case : Case) (facts : Facts V) : Type 0 where
+pub record IsKnown {V : Type 0} (shows : Folder → EntryList V → Type 0) (fronts : List (EntryList V)) (rules : Rules) (facts : Facts V) : Type 0 where
   pub of : IsListOf shows facts.folder facts.own
-  pub unignored : ¬ (facts.folder ≡ []) → (pair : ℕ × ℕ) → ¬ Ignores (fronts ++ facts.above) case facts.folder pair
+  pub unignored : ¬ (facts.folder ≡ []) → (pair : ℕ × ℕ) → ¬ Ignores (fronts ++ facts.above) rules facts.folder pair
 
 -- a folder on the way: at which place it is known, how many bytes of a path name it, and whether its list has entries
 pub record IsOnWay {V : Type 0} (facts : ℕ → Facts V) (count : ℕ) (folder : Folder) (there : FolderOnWay) : Type 0 where
@@ -62,10 +62,10 @@ HoldsOwn {T} {X} seen way place own kept = MatchOption kept
     (λ (list : patterns.List T X). (entry_list_of seen list ≡ own) × (unless_empty own ≡ own ∷ []))
 
 -- what is known of the folders by whose places something is kept, and of the names by which they are found
-pub record AreKnown {T X V : Type 0} (seen : X → V) (shows : Folder → EntryList V → Type 0) (fronts : List (EntryList V)) (case : Case) (facts : ℕ → Facts V) (names : FolderNames) (held : List (Option (patterns.List T X))) (way : List ℕ) : Type 0 where
+pub record AreKnown {T X V : Type 0} (seen : X → V) (shows : Folder → EntryList V → Type 0) (fronts : List (EntryList V)) (rules : Rules) (facts : ℕ → Facts V) (names : FolderNames) (held : List (Option (patterns.List T X))) (way : List ℕ) : Type 0 where
   pub count : names.count ≡ length held
   pub links : (outer : ℕ) (name : List ℕ) (place : ℕ) → names.found outer name ≡ Some place → (place < length held) × IsInner (facts outer) name (facts place) × (outer < length held)
-  pub known : (place : ℕ) → place < length held → IsKnown shows fronts case (facts place)
+  pub known : (place : ℕ) → place < length held → IsKnown shows fronts rules (facts place)
   pub kept : (place : ℕ) (list : Option (patterns.List T X)) → slice_get held place ≡ Some list → HoldsOwn seen way place (facts place).own list
 
 -- the folder entered last: the others stand before it
@@ -82,10 +82,10 @@ AreAtHand gave names = (folder : Folder) → gave folder → (places : List ℕ)
 
 -- The folders on the way to what lies at the front of a path are entered: their lists with entries stand past the first
 -- `front_count`, and `start` is how the path of what lies in the last of them begins.
-pub record AreUnderWay {T X V : Type 0} (shows : Folder → EntryList V → Type 0) (gave : Folder → Type 0) (seen : X → V) (front_count : ℕ) (case : Case) (lists : List (EntryList V)) (start : List ℕ) (way : List FolderOnWay) (names : FolderNames) (held : List (Option (patterns.List T X))) (front : List ℕ) : Type 0 where
+pub record AreUnderWay {T X V : Type 0} (shows : Folder → EntryList V → Type 0) (gave : Folder → Type 0) (seen : X → V) (front_count : ℕ) (rules : Rules) (lists : List (EntryList V)) (start : List ℕ) (way : List FolderOnWay) (names : FolderNames) (held : List (Option (patterns.List T X))) (front : List ℕ) : Type 0 where
   pub facts : ℕ → Facts V
-  pub known : AreKnown seen shows (take front_count lists) case facts names held (places_of way)
-  pub stands : AreEntered shows front_count lists case front (own_lists facts way)
+  pub known : AreKnown seen shows (take front_count lists) rules facts names held (places_of way)
+  pub stands : AreEntered shows front_count lists rules front (own_lists facts way)
   pub on_way : AllZip (IsOnWay facts (length held)) (folders_to front) way
   pub places : ArePlaces names.found (reverse (folders_to front)) (reverse (places_of way))
   pub ends : EndsIn facts (drop front_count lists) start way
@@ -95,7 +95,7 @@ module _ {S T X F V : Type 0} (shows : S → Folder → EntryList V → Type 0) 
   -- the same of what was entered
   abbrev pub IsUnderWay : Entered T S X F → List ℕ → Type 0
   IsUnderWay entered front =
-      AreUnderWay (shows entered.source) (gave entered.source) seen entered.front_count entered.case (map (entry_list_of seen) entered.lists.items) entered.folder.items entered.way.items (names_of entered.known) entered.kept.items front
+      AreUnderWay (shows entered.source) (gave entered.source) seen entered.front_count entered.rules (map (entry_list_of seen) entered.lists.items) entered.folder.items entered.way.items (names_of entered.known) entered.kept.items front
 
   -- the folders on the way to something are entered
   abbrev pub IsSomewhere : Entered T S X F → Type 0
@@ -136,6 +136,6 @@ pub record HasFronts {S T X F V : Type 0} (seen : X → V) (entered : Entered T 
 -- what stays from call to call: the lists that stand before those of all folders, the case, and what the source showed
 pub record KeepsOn {S T X F V : Type 0} (shows : S → Folder → EntryList V → Type 0) (old new : Entered T S X F) : Type 0 where
   pub front_count : new.front_count ≡ old.front_count
-  pub case : new.case ≡ old.case
+  pub rules : new.rules ≡ old.rules
   pub fronts : take old.front_count new.lists.items ≡ take old.front_count old.lists.items
   pub goes_on : GoesOn shows old.source new.source

@@ -26,7 +26,7 @@ escaped_sign text tail begins = ⊎_elim
     ap (λ (t : List ℕ). sign_of true (codes "\\" ++ (t ++ tail))) (sym ((starts_is Decides-eqb text (codes "#") _ refl).0 number)))
     (or_cases _ _ begins)
 
-not_false : (b : Bool) → not b ≡ true → b ≡ false
+pub not_false : (b : Bool) → not b ≡ true → b ≡ false
 not_false true h = absurd (false≢true h)
 not_false false h = refl
 

@@ -1,11 +1,14 @@
 -- The line that decides about a told path, and what is kept account of, as what the source shows grows.
-use Rattle.std.proofs.Common.{◌≡◌, ◌⊎◌, inl, inr, ℕ, Bool, true, false, ◌||◌, List, [], ◌∷◌, ◌++◌, map, take, Option, None, Some, IfSome, Result, Ok, Err, IsErr, refl, sym, ap, subst, ◌∙◌, if◌then◌else◌, append-nil}
+use Rattle.std.proofs.Common.{◌≡◌, ◌⊎◌, inl, inr, ◌≢◌, ℕ, ◌≤◌, Bool, true, false, ◌||◌, List, [], ◌∷◌, ◌++◌, map, take, Option, None, Some, IfOk, IfSome, Result, Ok, Err, IsErr, refl, sym, ap, subst, ◌∙◌, if◌then◌else◌, length, append-nil, length-append, arith}
 use Rattle.std.specs.Prelude.{is_some}
 use Rattle.std.specs.List.{list_any}
 use Rattle.std.proofs.lemmas.Bool.{false≢true}
+use Rattle.std.proofs.Math.Seq.{take-append_seam, take-length}
 use Rattle.std.proofs.lemmas.List.{take-map}
 use Rattle.std.proofs.lemmas.List.Folds.{list_any-append}
-use Rattle.gix_glob.specs.declared.pattern.Case.{Case}
+use Rattle.std.proofs.lemmas.Result.{IfOk-weaker}
+use Rattle.glob_lists.specs.declared.rules.Rules.{Rules}
+use Rattle.gix_glob.specs.Bytes.{slash}
 use Rattle.gix_glob.specs.EntryLists.{EntryList, entry_list_of}
 use Rattle.glob_lists.specs.Paths.{IsPlainPath}
 use Rattle.glob_trees.specs.TreeParts.{HasMappingAt, TreeParts}
@@ -21,11 +24,11 @@ use Rattle.tree_answers.specs.Records.{IsRefusal}
 use Rattle.tree_commands.specs.declared.check_ignore.fault.IgnoreFault.{IgnoreFault}
 use Rattle.tree_commands.specs.declared.check_ignore.fault.IgnoreFault.TheVariants.{BadlyQuoted}
 use Rattle.tree_commands.specs.Private.Faults.{IsOfName}
-use Rattle.tree_commands.specs.CheckIgnore.{IsDeciding, IsIgnoreAnswer, IsLineAt, IsLineFor, IsStatus, Question, Refuses, counted, question_of, text_about}
-use Rattle.tree_commands.specs.Private.Finding.{FindsTold, IsFound, KeepsTree, lists_of, told_kind}
+use Rattle.tree_commands.specs.CheckIgnore.{IsDeciding, IsDecidingForTop, IsIgnoreAnswer, IsLineAt, IsLineFor, IsLineOf, IsStatus, Question, Refuses, asked_path, counted, question_of, text_about}
+use Rattle.tree_commands.specs.Private.Finding.{Finds, FindsTold, IsFound, IsFoundForTop, KeepsTree, lists_of}
 use Rattle.tree_answers.proofs.lemmas.RecordLemmas.{AllZip-append}
 use Rattle.tree_commands.proofs.lemmas.AnswerLemmas.{AllZip-weaker}
-use Rattle.tree_commands.proofs.lemmas.FindingLemmas.{stands_there}
+use Rattle.tree_commands.proofs.lemmas.FindingLemmas.{stands_for_top, stands_there}
 
 -- ---- what is shown stays shown
 
@@ -34,8 +37,8 @@ or_false true = refl
 or_false false = refl
 
 module _ (before after : Folder → EntryList (Unit {0}) → Type 0) (on : (folder : Folder) (list : EntryList (Unit {0})) → before folder list → after folder list) where
-  way_stays : (front_count : ℕ) (lists : List (EntryList (Unit {0}))) (case : Case) (path : List ℕ) → AreOnTheWay before front_count lists case path → AreOnTheWay after front_count lists case path
-  way_stays front_count lists case path way = record {
+  way_stays : (front_count : ℕ) (lists : List (EntryList (Unit {0}))) (rules : Rules) (path : List ℕ) → AreOnTheWay before front_count lists rules path → AreOnTheWay after front_count lists rules path
+  way_stays front_count lists rules path way = record {
     entered = way.entered;
     further = way.further;
     joined = way.joined;
@@ -52,7 +55,7 @@ module _ (before after : Folder → EntryList (Unit {0}) → Type 0) (on : (fold
     deciding_stays path known line d = record {
       lists = d.lists;
       fronts = d.fronts;
-      on_way = way_stays question.front_count d.lists question.case path d.on_way;
+      on_way = way_stays question.front_count d.lists question.rules path d.on_way;
       is_dir = d.is_dir;
       kind = d.kind;
       pair = d.pair;
@@ -60,17 +63,26 @@ module _ (before after : Folder → EntryList (Unit {0}) → Type 0) (on : (fold
       there = d.there;
     }
 
-    decided_stays : (path : List ℕ) (known : Option Bool) (line : Option Decision)
-        → (¬ IsPlainPath path × (line ≡ None)) ⊎ (IsPlainPath path × IsDeciding question before path known line)
-        → (¬ IsPlainPath path × (line ≡ None)) ⊎ (IsPlainPath path × IsDeciding question after path known line)
-    decided_stays path known line (inl none) = inl none
-    decided_stays path known line (inr (plain, d)) = inr (plain, deciding_stays path known line d)
+    top_stays : (line : Option Decision) → IsDecidingForTop question before line → IsDecidingForTop question after line
+    top_stays line d = record {
+      lists = d.lists;
+      fronts = d.fronts;
+      on_way = way_stays question.front_count d.lists question.rules [] d.on_way;
+      pair = d.pair;
+      decides = d.decides;
+      there = d.there;
+    }
+
+    decided_stays : (asked : List ℕ) (known : Option Bool) (line : Option Decision) → IsLineOf question before asked known line → IsLineOf question after asked known line
+    decided_stays asked known line (inl (none, d)) = inl (none, top_stays line d)
+    decided_stays asked known line (inr (inl unplain)) = inr (inl unplain)
+    decided_stays asked known line (inr (inr (plain, d))) = inr (inr (plain, deciding_stays asked known line d))
 
     pub line_stays : (told : List ℕ) (line : Option Decision) → IsLineFor question before told line → IsLineFor question after told line
     line_stays told line h = record {
       path = h.path;
       leads = h.leads;
-      decided = decided_stays h.path (if names_folder false (parts_of told) then Some true else question.kind_of h.path) line h.decided;
+      decided = decided_stays (asked_path (names_folder false (parts_of told)) h.path) (question.kind_of h.path) line h.decided;
     }
 
     pub answers_stay : StaysAllowed (IsIgnoreAnswer question before) (IsIgnoreAnswer question after)
@@ -112,15 +124,15 @@ module _ {S T X : Type 0} (shows : S → Folder → EntryList (Unit {0}) → Typ
       ∙ (ap (map (entry_list_of {V = Unit {0}} (λ _. tt))) keeps.fronts
       ∙ sym (take-map (entry_list_of {V = Unit {0}} (λ _. tt)) old.front_count old.lists)))
 
-  abbrev asks : ℕ → List (EntryList (Unit {0})) → Case → (List ℕ → Option Bool) → Standpoint → IgnoreFlags → Question
-  asks count fronts case kind_of standpoint flags = record { leads = led standpoint; kind_of = kind_of; front_count = count; fronts = fronts; case = case; flags = flags }
+  abbrev asks : ℕ → List (EntryList (Unit {0})) → Rules → (List ℕ → Option Bool) → Standpoint → IgnoreFlags → Question
+  asks count fronts rules kind_of standpoint flags = record { leads = led standpoint; kind_of = kind_of; front_count = count; fronts = fronts; rules = rules; flags = flags }
 
   pub question_kept : (standpoint : Standpoint) (flags : IgnoreFlags) (before after : List ℕ → Option Bool) → after ≡ before → question_of standpoint flags new after ≡ question_of standpoint flags old before
   question_kept standpoint flags before after same =
-      ap (λ n. asks n (take new.front_count (map (entry_list_of {V = Unit {0}} (λ _. tt)) new.lists)) new.case after standpoint flags) keeps.front_count
-      ∙ (ap (λ fronts. asks old.front_count fronts new.case after standpoint flags) fronts_kept
-      ∙ (ap (λ case. asks old.front_count (take old.front_count (map (entry_list_of {V = Unit {0}} (λ _. tt)) old.lists)) case after standpoint flags) keeps.case
-      ∙ ap (λ kind_of. asks old.front_count (take old.front_count (map (entry_list_of {V = Unit {0}} (λ _. tt)) old.lists)) old.case kind_of standpoint flags) same))
+      ap (λ n. asks n (take new.front_count (map (entry_list_of {V = Unit {0}} (λ _. tt)) new.lists)) new.rules after standpoint flags) keeps.front_count
+      ∙ (ap (λ fronts. asks old.front_count fronts new.rules after standpoint flags) fronts_kept
+      ∙ (ap (λ rules. asks old.front_count (take old.front_count (map (entry_list_of {V = Unit {0}} (λ _. tt)) old.lists)) rules after standpoint flags) keeps.rules
+      ∙ ap (λ kind_of. asks old.front_count (take old.front_count (map (entry_list_of {V = Unit {0}} (λ _. tt)) old.lists)) old.rules kind_of standpoint flags) same))
 
 -- ---- what is found
 
@@ -129,27 +141,43 @@ module _ {S T X : Type 0} (shows : S → Folder → EntryList (Unit {0}) → Typ
   pub found_there : (path : List ℕ) (known : Option Bool) (pair : Option (ℕ × ℕ)) → IsFound shows tree path known pair → IfSome pair (HasMappingAt tree.lists)
   found_there path known None found = tt
   found_there path known (Some pair) (is_dir, kind, found) =
-      let s = stands_there tree.lists path tree.case is_dir pair found.decides in
+      let s = stands_there tree.lists path tree.rules is_dir pair found.decides in
+      (s.list, s.mapping, s.stand)
+
+  -- so it does where one decides about the top
+  top_there : (pair : Option (ℕ × ℕ)) → IsFoundForTop shows tree pair → IfSome pair (HasMappingAt tree.lists)
+  top_there None found = tt
+  top_there (Some pair) found =
+      let s = stands_for_top tree.lists tree.rules pair found.decides in
       (s.list, s.mapping, s.stand)
 
   -- or none was found
-  finds_there : (leads : Option (List ℕ)) (known : List ℕ → Option Bool) (pair : Option (ℕ × ℕ)) (path : List ℕ)
-      → (¬ IsPlainPath path × (pair ≡ None)) ⊎ (IsPlainPath path × IsFound shows tree path (known path) pair) → IfSome pair (HasMappingAt tree.lists)
-  finds_there leads known pair path (inl (unplain, none)) = subst (λ (p : Option (ℕ × ℕ)). IfSome p (HasMappingAt tree.lists)) (sym none) tt
-  finds_there leads known pair path (inr (plain, found)) = found_there path (known path) pair found
+  finds_there : (asked : List ℕ) (known : Option Bool) (pair : Option (ℕ × ℕ)) → Finds shows tree asked known pair → IfSome pair (HasMappingAt tree.lists)
+  finds_there asked known pair (inl (top, found)) = top_there pair found
+  finds_there asked known pair (inr (inl (some, unplain, none))) = subst (λ (p : Option (ℕ × ℕ)). IfSome p (HasMappingAt tree.lists)) (sym none) tt
+  finds_there asked known pair (inr (inr (plain, found))) = found_there asked known pair found
 
-  pub told_there : (leads : Option (List ℕ)) (known : List ℕ → Option Bool) (pair : Option (ℕ × ℕ)) → FindsTold shows leads known tree pair → IfSome pair (HasMappingAt tree.lists)
-  told_there leads known pair finds = finds_there leads known pair finds.path finds.found
+  pub told_there : (leads : Option (List ℕ)) (is_told : Bool) (known : List ℕ → Option Bool) (pair : Option (ℕ × ℕ)) → FindsTold shows leads is_told known tree pair → IfSome pair (HasMappingAt tree.lists)
+  told_there leads is_told known pair finds = finds_there (asked_path is_told finds.path) (known finds.path) pair finds.found
 
 module _ {S T X : Type 0} (shows : S → Folder → EntryList (Unit {0}) → Type 0) (tree : TreeParts S T X) (standpoint : Standpoint) (flags : IgnoreFlags) (kind_of : List ℕ → Option Bool) (told : List ℕ) (pair : Option (ℕ × ℕ)) (line : Option Decision) where
   nothing_there : pair ≡ None → IsLineAt (lists_of tree) pair line → line ≡ None
   nothing_there none there = subst (λ (p : Option (ℕ × ℕ)). IsLineAt (lists_of tree) p line) none there
 
-  decided_here : (path : List ℕ) → IsLineAt (lists_of tree) pair line
-      → (¬ IsPlainPath path × (pair ≡ None)) ⊎ (IsPlainPath path × IsFound shows tree path (told_kind (names_folder false (parts_of told)) (kind_of path)) pair)
-      → (¬ IsPlainPath path × (line ≡ None)) ⊎ (IsPlainPath path × IsDeciding (question_of standpoint flags tree kind_of) (shows tree.source) path (if names_folder false (parts_of told) then Some true else kind_of path) line)
-  decided_here path there (inl (unplain, none)) = inl (unplain, nothing_there none there)
-  decided_here path there (inr (plain, (is_dir, kind, found))) = inr (
+  decided_here : (asked : List ℕ) (known : Option Bool) → IsLineAt (lists_of tree) pair line → Finds shows tree asked known pair → IsLineOf (question_of standpoint flags tree kind_of) (shows tree.source) asked known line
+  decided_here asked known there (inl (top, found)) = inl (
+    top,
+    record {
+      lists = lists_of tree;
+      fronts = refl;
+      on_way = found.on_way;
+      pair = pair;
+      decides = found.decides;
+      there = there;
+    },
+  )
+  decided_here asked known there (inr (inl (some, unplain, none))) = inr (inl (some, unplain, nothing_there none there))
+  decided_here asked known there (inr (inr (plain, (is_dir, kind, found)))) = inr (inr (
     plain,
     record {
       lists = lists_of tree;
@@ -161,29 +189,81 @@ module _ {S T X : Type 0} (shows : S → Folder → EntryList (Unit {0}) → Typ
       decides = found.decides;
       there = there;
     },
-  )
+  ))
 
-  line_here : FindsTold shows (led standpoint told) (λ path. told_kind (names_folder false (parts_of told)) (kind_of path)) tree pair → IsLineAt (lists_of tree) pair line
+  line_here : FindsTold shows (led standpoint told) (names_folder false (parts_of told)) kind_of tree pair → IsLineAt (lists_of tree) pair line
       → IsLineFor (question_of standpoint flags tree kind_of) (shows tree.source) told line
-  line_here finds there = record { path = finds.path; leads = finds.led; decided = decided_here finds.path there finds.found }
+  line_here finds there = record { path = finds.path; leads = finds.led; decided = decided_here (asked_path (names_folder false (parts_of told)) finds.path) (kind_of finds.path) there finds.found }
 
   -- the line at the pair that was found is the line for the told path
   pub line_found : (question : Question) → question_of standpoint flags tree kind_of ≡ question
-      → FindsTold shows (question.leads told) (λ path. told_kind (names_folder false (parts_of told)) (question.kind_of path)) tree pair → IsLineAt (lists_of tree) pair line
+      → FindsTold shows (question.leads told) (names_folder false (parts_of told)) question.kind_of tree pair → IsLineAt (lists_of tree) pair line
       → IsLineFor question (shows tree.source) told line
   line_found question same =
-      subst (λ (q : Question). FindsTold shows (q.leads told) (λ path. told_kind (names_folder false (parts_of told)) (q.kind_of path)) tree pair → IsLineAt (lists_of tree) pair line
+      subst (λ (q : Question). FindsTold shows (q.leads told) (names_folder false (parts_of told)) q.kind_of tree pair → IsLineAt (lists_of tree) pair line
       → IsLineFor q (shows tree.source) told line) same line_here
 
   -- what is appended is an answer
   pub answer_found : (question : Question) → question_of standpoint flags tree kind_of ≡ question
-      → FindsTold shows (question.leads told) (λ path. told_kind (names_folder false (parts_of told)) (question.kind_of path)) tree pair → IsLineAt (lists_of tree) pair line
+      → FindsTold shows (question.leads told) (names_folder false (parts_of told)) question.kind_of tree pair → IsLineAt (lists_of tree) pair line
       → (old new : List ℕ) → new ≡ old ++ text_about flags told (counted flags.verbose line) → Adds (IsIgnoreAnswer question (shows tree.source) told) old new
   answer_found question same finds there old new grown = record {
     added = text_about flags told (counted flags.verbose line);
     allowed = (line, line_found question same finds there, ap (λ (q : Question). text_about q.flags told (counted q.flags.verbose line)) same);
     grown = grown;
   }
+
+-- ---- where a told path leads
+
+-- no slash is put where the path isn't told as a folder's
+pub asked_bare : (path : List ℕ) → asked_path false path ≡ path
+asked_bare [] = refl
+asked_bare (b ∷ path) = append-nil (b ∷ path)
+
+asked_top : (is_told : Bool) (path : List ℕ) → path ≡ [] → asked_path is_told path ≡ path
+asked_top is_told [] top = refl
+asked_top is_told (b ∷ path) top = absurd (cc)
+
+asked_folder : (path : List ℕ) → path ≢ [] → asked_path true path ≡ path ++ slash ∷ []
+asked_folder [] some = absurd (some refl)
+asked_folder (b ∷ path) some = refl
+
+-- the bytes are those that are asked about, and so many of them come before the slash
+abbrev pub IsLed : Option (List ℕ) → Bool → ℕ → List ℕ → Type 0
+IsLed leads is_told bare asked = (leads ≡ Some (take bare asked)) × (asked ≡ asked_path is_told (take bare asked)) × (bare ≤ length asked)
+
+module _ (leads : Option (List ℕ)) (is_told : Bool) (path : List ℕ) (led : leads ≡ Some path) where
+  led_whole : asked_path is_told path ≡ path → IsLed leads is_told (length path) path
+  led_whole same = (
+    led ∙ ap (λ p. Some p) (sym (take-length path)),
+    sym same ∙ ap (asked_path is_told) (sym (take-length path)),
+    omega arith,
+  )
+
+  pub led_bare : is_told ≡ false → IsLed leads is_told (length path) path
+  led_bare bare = led_whole (ap (λ b. asked_path b path) bare ∙ asked_bare path)
+
+  pub led_top : path ≡ [] → IsLed leads is_told (length path) path
+  led_top top = led_whole (asked_top is_told path top)
+
+  pub led_folder : is_told ≡ true → path ≢ [] → IsLed leads is_told (length path) (path ++ slash ∷ [])
+  led_folder told some = (
+    led ∙ ap (λ p. Some p) (sym (take-append_seam path (slash ∷ []))),
+    sym (ap (asked_path is_told) (take-append_seam path (slash ∷ [])) ∙ (ap (λ b. asked_path b path) told ∙ asked_folder path some)),
+    omega (arith, length-append path (slash ∷ [])),
+  )
+
+module _ {S T X : Type 0} (shows : S → Folder → EntryList (Unit {0}) → Type 0) (tree : TreeParts S T X) (leads : Option (List ℕ)) (is_told : Bool) (known : List ℕ → Option Bool) (bare asked : List ℕ) (led : leads ≡ Some bare) (same : asked ≡ asked_path is_told bare) where
+  pub told_top : {E : Type 0} (result : Result (Option (ℕ × ℕ)) E) → asked ≡ [] → IfOk result (IsFoundForTop shows tree) → IfOk result (FindsTold shows leads is_told known tree)
+  told_top result top found = IfOk-weaker result (IsFoundForTop shows tree) (FindsTold shows leads is_told known tree) (λ pair here. record { path = bare; led = led; found = inl (sym same ∙ top, here) }) found
+
+  pub told_unplain : asked ≢ [] → ¬ IsPlainPath asked → FindsTold shows leads is_told known tree None
+  told_unplain some unplain = record { path = bare; led = led; found = subst (λ (a : List ℕ). Finds shows tree a (known bare) None) same (inr (inl (some, unplain, refl))) }
+
+  pub told_plain : {E : Type 0} (result : Result (Option (ℕ × ℕ)) E) → IsPlainPath asked → IfOk result (IsFound shows tree asked (known bare)) → IfOk result (FindsTold shows leads is_told known tree)
+  told_plain result plain found =
+      IfOk-weaker result (IsFound shows tree asked (known bare)) (FindsTold shows leads is_told known tree)
+      (λ pair here. record { path = bare; led = led; found = subst (λ (a : List ℕ). Finds shows tree a (known bare) pair) same (inr (inr (plain, here))) }) found
 
 -- ---- faults
 

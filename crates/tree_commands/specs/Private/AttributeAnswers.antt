@@ -2,8 +2,9 @@
 use Rattle.std.specs.Prelude.{◌≡◌, ℕ, false, List, [], Option, map}
 use Rattle.std.specs.List.{flat_map}
 use Rattle.std.specs.Vec.{vec_items}
-use Rattle.gix_glob.specs.declared.pattern.Case.TheVariants.{Sensitive}
+use Rattle.gix_glob.specs.declared.pattern.Case.{Case}
 use Rattle.gix_glob.specs.EntryLists.{entry_list_of}
+use Rattle.glob_lists.specs.Rules.{by_git}
 use Rattle.glob_attributes.specs.States.{Assigned}
 use Rattle.glob_attributes.specs.Views.{seen_assignments}
 use Rattle.glob_attributes.specs.declared.assignment.State.TheVariants.{Unspecified}
@@ -12,7 +13,7 @@ use Rattle.tree_answers.specs.declared.form.Form.{Form}
 use Rattle.tree_answers.specs.Attributes.{answer_text, label_text}
 use Rattle.tree_commands.specs.declared.check_attr.answering.AttributeAsker.{AttributeAsker}
 use Rattle.tree_commands.specs.CheckAttr.{Asked, Files, IsStatesText, all, macros_for, named}
-use Rattle.tree_commands.specs.Private.AttributeWays.{IsEntered, front_lists}
+use Rattle.tree_commands.specs.Private.AttributeWays.{IsEntered, front_lists, top_lists}
 
 -- the labels of the attributes that are asked for, where not all are
 abbrev pub labels_of : Form → Asked → List (List ℕ)
@@ -27,11 +28,12 @@ shown_text form shown states = flat_map (λ each. answer_text form shown (label_
 abbrev pub unspecified_text : Form → List ℕ → List (List ℕ) → List ℕ
 unspecified_text form shown labels = flat_map (λ label. answer_text form shown label Unspecified) labels
 
-module _ {S Q : Type 0} (files : Files) (asked : Asked) (shows : Folder → Option (List ℕ) → Type 0) (allows : List ℕ → List ℕ → Type 0) (shows_of : S → Folder → Option (List ℕ) → Type 0) where
+module _ {S Q : Type 0} (files : Files) (asked : Asked) (case : Case) (shows : Folder → Option (List ℕ) → Type 0) (allows : List ℕ → List ℕ → Type 0) (shows_of : S → Folder → Option (List ℕ) → Type 0) where
   -- what is asked is what the asker has, and the folders on the way to something are entered, unless the asker is spent
   pub record IsReady (asker : AttributeAsker S Q) : Type 0 where
-    pub allowed : (told text : List ℕ) → IsStatesText (record { files = files; asked = asked; standpoint = asker.standpoint.now; form = asker.form }) shows told text → allows told text
+    pub allowed : (told text : List ℕ) → IsStatesText (record { files = files; asked = asked; case = case; standpoint = asker.standpoint.now; form = asker.form }) shows told text → allows told text
     pub lists : map (entry_list_of seen_assignments) asker.index.now.lists ≡ front_lists asked (macros_for files) files
-    pub case : asker.index.now.case ≡ Sensitive
+    pub rules : asker.index.now.rules ≡ by_git case
+    pub top : map (entry_list_of seen_assignments) asker.top.items ≡ top_lists asked (macros_for files) files
     pub labels : map vec_items asker.labels.items ≡ labels_of asker.form asked
     pub entered : asker.is_spent ≡ false → IsEntered files asked shows shows_of asker.walk

@@ -6,6 +6,7 @@ use Rattle.gix_glob.specs.declared.search.pattern.list.List as patterns
 use Rattle.gix_glob.specs.Bytes.{HasByte, slash}
 use Rattle.std.specs.declared.alloc.Global.{Global}
 use Rattle.glob_attributes.specs.declared.assignment.Assignment.{Assignment}
+use Rattle.glob_lists.specs.declared.rules.Reading.TheVariants.{Git}
 use Rattle.glob_attributes.specs.declared.parser.AttributeLines.{AttributeLines}
 use Rattle.glob_attributes.specs.Told.{names_read, with_names}
 use Rattle.gix_glob.specs.EntryLists.{EntryList, entry_list_of}
@@ -24,7 +25,7 @@ use Rattle.tree_commands.specs.declared.check_attr.walk.Asking.{Asking}
 use Rattle.tree_commands.specs.declared.check_attr.walk.Asking.TheVariants as asking
 use Rattle.tree_commands.specs.declared.check_attr.walk.FolderAttributes.{FolderAttributes}
 use Rattle.tree_commands.specs.declared.check_attr.walk.FoundFolder.{FoundFolder}
-use Rattle.tree_commands.specs.CheckAttr.{AreRead, Asked, FolderFile, Files, IsWayTo, ShowsSame, all, macros_for, named, names_of}
+use Rattle.tree_commands.specs.CheckAttr.{AreRead, Asked, FolderFile, Files, IsWayTo, ShowsSame, all, files_of, list_in, macros_for, named, names_alone, names_of}
 
 -- ---- what is asked, as plain data
 
@@ -53,11 +54,18 @@ kept_entries all macros entries = entries
 
 -- the list of a file for the paths in a folder, with these entries alone
 abbrev pub kept_list : Asked → List Definition → Folder → List ℕ → EntryList (List Assigned)
-kept_list asked macros folder bytes = record { entries = kept_entries asked macros (attributes_of bytes); source = None; base = base_of_folder folder }
+kept_list asked macros folder bytes = record { entries = kept_entries asked macros (attributes_of Git bytes); source = None; base = base_of_folder folder }
 
 -- the lists of the system's file, the user's and the top's
 abbrev pub front_lists : Asked → List Definition → Files → Lists
 front_lists asked macros files = kept_list asked macros [] files.system ∷ kept_list asked macros [] files.user ∷ kept_list asked macros [] files.top ∷ []
+
+-- the list of a file for the top, with these entries for names alone, and those of the files that count for it
+abbrev pub top_list : Asked → List Definition → List ℕ → EntryList (List Assigned)
+top_list asked macros bytes = record { entries = kept_entries asked macros (names_alone (list_in [] bytes)).entries; source = None; base = None }
+
+abbrev pub top_lists : Asked → List Definition → Files → Lists
+top_lists asked macros files = map (top_list asked macros) (files_of files)
 
 -- ---- what is known of folders
 

@@ -1,5 +1,5 @@
 -- What is found of a path: the pair of places of the pattern that decides about it, over the lists of a tree.
-use Rattle.std.specs.Prelude.{◌≡◌, ◌⊎◌, ℕ, Bool, true, if◌then◌else◌, List, [], map, take, Option, None, Some, IfSome}
+use Rattle.std.specs.Prelude.{◌≡◌, ◌≢◌, ◌⊎◌, ℕ, Bool, true, List, [], map, take, Option, None, Some, IfSome}
 use Rattle.std.specs.Option.{unwrap_or}
 use Rattle.gix_glob.specs.declared.search.pattern.list.List as patterns
 use Rattle.gix_glob.specs.declared.search.pattern.mapping.Mapping.{Mapping}
@@ -12,22 +12,24 @@ use Rattle.glob_trees.specs.TreeParts.{StandAt, TreeParts}
 use Rattle.glob_trees.specs.Trees.{DecidesInTree}
 use Rattle.glob_trees.specs.Ways.{AreOnTheWay, Folder, GoesOn}
 use Rattle.tree_answers.specs.Lines.{Decision}
+use Rattle.tree_commands.specs.CheckIgnore.{asked_path}
+use Rattle.tree_commands.specs.Tops.{DecidesForTop}
 
 -- the lists of a tree as plain data
 abbrev pub lists_of : {S T X : Type 0} → TreeParts S T X → List (EntryList (Unit {0}))
 lists_of tree = map (entry_list_of {V = Unit {0}} (λ _. tt)) tree.lists
 
--- what stays of a tree from call to call: the lists that stand before those of all folders, the case, and what the source showed
+-- what stays of a tree from call to call: the lists that stand before those of all folders, the rules, and what the source showed
 pub record KeepsTree {S T X : Type 0} (shows : S → Folder → EntryList (Unit {0}) → Type 0) (old new : TreeParts S T X) : Type 0 where
   pub front_count : new.front_count ≡ old.front_count
-  pub case : new.case ≡ old.case
+  pub rules : new.rules ≡ old.rules
   pub fronts : take old.front_count new.lists ≡ take old.front_count old.lists
   pub goes_on : GoesOn shows old.source new.source
 
 -- the pair decides about the path, of this kind, over the lists of the tree, which are those on the way to it
 pub record IsFoundAs {S T X : Type 0} (shows : S → Folder → EntryList (Unit {0}) → Type 0) (tree : TreeParts S T X) (path : List ℕ) (is_dir : Bool) (pair : Option (ℕ × ℕ)) : Type 0 where
-  pub on_way : AreOnTheWay (shows tree.source) tree.front_count (lists_of tree) tree.case path
-  pub decides : DecidesInTree (lists_of tree) path is_dir tree.case pair
+  pub on_way : AreOnTheWay (shows tree.source) tree.front_count (lists_of tree) tree.rules path
+  pub decides : DecidesInTree (lists_of tree) path is_dir tree.rules pair
 
 -- the same, of a kind that agrees with what is known
 abbrev pub IsFound : {S T X : Type 0} → (S → Folder → EntryList (Unit {0}) → Type 0) → TreeParts S T X → List ℕ → Option Bool → Option (ℕ × ℕ) → Type 0
@@ -37,17 +39,25 @@ IsFound shows tree path known pair = (is_dir : Bool) × IfSome known (λ is_fold
 abbrev pub line_of : EntryList (Unit {0}) → Entry (Unit {0}) → Decision
 line_of list entry = record { source = unwrap_or list.source []; number = entry.number; mode = entry.mode; text = entry.text }
 
--- what is known of a kind: that it is a folder's, where it is told so
-abbrev pub told_kind : Bool → Option Bool → Option Bool
-told_kind is_told_folder known = if is_told_folder then Some true else known
-
 -- the pattern at this pair matches folders alone
 abbrev pub WantsFolder : {T X : Type 0} → List (patterns.List T X) → Option (ℕ × ℕ) → Type 0
 WantsFolder {T} {X} lists pair =
     (at : ℕ × ℕ) × (list : patterns.List T X) × (mapping : Mapping X) × (pair ≡ Some at) × StandAt lists at list mapping × (is_for_directories (mode_of mapping.pattern) ≡ true)
 
--- where a told path leads, and what is found there: nothing, where that is no path of a repository
-pub record FindsTold {S T X : Type 0} (shows : S → Folder → EntryList (Unit {0}) → Type 0) (leads : Option (List ℕ)) (known : List ℕ → Option Bool) (tree : TreeParts S T X) (pair : Option (ℕ × ℕ)) : Type 0 where
+-- the pair decides about the top, over the lists of the tree, which are the top's
+pub record IsFoundForTop {S T X : Type 0} (shows : S → Folder → EntryList (Unit {0}) → Type 0) (tree : TreeParts S T X) (pair : Option (ℕ × ℕ)) : Type 0 where
+  pub on_way : AreOnTheWay (shows tree.source) tree.front_count (lists_of tree) tree.rules []
+  pub decides : DecidesForTop (lists_of tree) tree.rules pair
+
+-- what is found of what is asked: nothing, where that is no path of a repository
+abbrev pub Finds : {S T X : Type 0} → (S → Folder → EntryList (Unit {0}) → Type 0) → TreeParts S T X → List ℕ → Option Bool → Option (ℕ × ℕ) → Type 0
+Finds shows tree asked known pair =
+    ((asked ≡ []) × IsFoundForTop shows tree pair)
+    ⊎ ((asked ≢ []) × (¬ IsPlainPath asked) × (pair ≡ None))
+    ⊎ (IsPlainPath asked × IsFound shows tree asked known pair)
+
+-- where a path leads that may be told as a folder's, and what is found there
+pub record FindsTold {S T X : Type 0} (shows : S → Folder → EntryList (Unit {0}) → Type 0) (leads : Option (List ℕ)) (is_told : Bool) (known : List ℕ → Option Bool) (tree : TreeParts S T X) (pair : Option (ℕ × ℕ)) : Type 0 where
   pub path : List ℕ
   pub led : leads ≡ Some path
-  pub found : (¬ IsPlainPath path × (pair ≡ None)) ⊎ (IsPlainPath path × IsFound shows tree path (known path) pair)
+  pub found : Finds shows tree (asked_path is_told path) (known path) pair

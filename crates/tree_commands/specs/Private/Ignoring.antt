@@ -7,6 +7,7 @@ use Rattle.gix_glob.specs.Entries.{Entry}
 use Rattle.gix_glob.specs.EntryLists.{EntryList}
 use Rattle.gix_glob.specs.Patterns.{is_for_directories}
 use Rattle.glob_lists.specs.Deciding.{Decides, IsEntryAt}
+use Rattle.glob_lists.specs.Rules.{by_git}
 use Rattle.tree_commands.specs.declared.files.ignoring.Ignoring.{Ignoring}
 use Rattle.tree_commands.specs.declared.files.ignoring.Ignoring.TheVariants.{Always, Never, ByKind}
 use Rattle.tree_commands.specs.Ignoring.{IsIgnored}
@@ -14,7 +15,7 @@ use Rattle.tree_commands.specs.Ignoring.{IsIgnored}
 -- the entry decides about the path
 pub record IsDecidedBy {V : Type 0} (lists : List (EntryList V)) (case : Case) (path : List ℕ) (is_dir : Bool) (entry : Entry V) : Type 0 where
   pub pair : ℕ × ℕ
-  pub decides : Decides lists path is_dir case (Some pair)
+  pub decides : Decides lists path is_dir (by_git case) (Some pair)
   pub there : IsEntryAt lists pair entry
 
 -- the pattern is that of the entry which decides about the path

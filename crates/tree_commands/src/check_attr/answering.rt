@@ -1,5 +1,5 @@
 //! What answers each told path by the states of its attributes.
-ghost use Rattle.std.specs.Prelude.{◌≡◌, ◌++◌, ℕ, List, Some, IfOk, OnOk, false, map};
+ghost use Rattle.std.specs.Prelude.{◌≡◌, ◌≢◌, ◌++◌, ℕ, List, [], Some, IfOk, OnOk, false, map};
 ghost use Rattle.std.specs.Io.{StartsWith};
 ghost use Rattle.std.specs.Vec.{vec_items};
 ghost use Rattle.glob_attributes.specs.Views.{assignment_with};
@@ -17,6 +17,7 @@ use crate::check_attr::fault::AttributeFault;
 use crate::check_attr::folders::AttributeFolders;
 use crate::check_attr::question::Question;
 use crate::check_attr::walk::{Asking, FolderAttributes};
+use gix_glob::search::pattern;
 use glob_attributes::{Assignment, AttributeLines, PathAttributes, State};
 use glob_lists::{ListIndex, RepositoryPath, plain_path};
 use std::alloc::{AllocError, Global};
@@ -38,7 +39,7 @@ impl<'q, 'm, S: AttributeFolders, Q: Question> Model for AttributeAnswerer<'q, '
 
     ghost view = { λ answerer. answerer.asker.is_spent };
 
-    ghost invariant = { λ answerer. IsReady Q.files Q.asked Q.shows Q.allows S.shows answerer.asker };
+    ghost invariant = { λ answerer. IsReady Q.files Q.asked Q.case Q.shows Q.allows S.shows answerer.asker };
 }
 
 impl<'q, 'm, S: AttributeFolders, Q: Question> PathAnswerer for AttributeAnswerer<'q, 'm, S, Q> {
@@ -63,7 +64,7 @@ impl<'q, 'm, S: AttributeFolders, Q: Question> PathAnswerer for AttributeAnswere
 impl<'q, 'm, S: AttributeFolders, Q: Question> AttributeAnswerer<'q, 'm, S, Q> {
     /// What answers by an asker.
     pub(crate) fn new(asker: AttributeAsker<'q, 'm, S, Q>) -> AttributeAnswerer<'q, 'm, S, Q>
-        requires { IsReady Q.files Q.asked Q.shows Q.allows S.shows asker }
+        requires { IsReady Q.files Q.asked Q.case Q.shows Q.allows S.shows asker }
     {
         AttributeAnswerer { asker }
     }
@@ -78,6 +79,8 @@ pub(crate) struct AttributeAsker<'q, 'm, S, Q> {
     /// The lists that are weaker than those of all folders below the top.
     pub(crate) index: &'m ListIndex<'m, AttributeLines>,
     pub(crate) walk: FolderAttributes<'q, 'm, S, Q>,
+    /// The lists that count for the top, with their patterns for names alone.
+    pub(crate) top: Vec<pattern::List<AttributeLines>>,
     /// The label of each attribute that is asked for, where not all are.
     pub(crate) labels: Vec<Vec<u8>>,
     /// The path that was asked last.
@@ -96,8 +99,8 @@ impl<'q, 'm, S: AttributeFolders, Q: Question> AttributeAsker<'q, 'm, S, Q> {
         text: &mut Vec<u8>,
         told: &[u8],
     ) -> Result<(), AttributeFault<S::Fault>>
-        requires ready { IsReady Q.files Q.asked Q.shows Q.allows S.shows self.old }
-        ensures ready { IsReady Q.files Q.asked Q.shows Q.allows S.shows self.new }
+        requires ready { IsReady Q.files Q.asked Q.case Q.shows Q.allows S.shows self.old }
+        ensures ready { IsReady Q.files Q.asked Q.case Q.shows Q.allows S.shows self.new }
         ensures written { OnOk result (Adds (Q.allows told.now) text.old.items text.new.items) }
         ensures kept { StartsWith text.new.items text.old.items }
     {
@@ -105,6 +108,10 @@ impl<'q, 'm, S: AttributeFolders, Q: Question> AttributeAsker<'q, 'm, S, Q> {
             return Err(AttributeFault::Spent);
         }
         let is_folder = self.lead(told)?;
+        if self.path.is_empty() {
+            self.append_for_top(text, told)?;
+            return Ok(());
+        }
         if !plain_path(&self.path) {
             self.append_unassigned(text, told)?;
             return Ok(());
@@ -135,10 +142,10 @@ impl<'q, 'm, S: AttributeFolders, Q: Question> AttributeAsker<'q, 'm, S, Q> {
     /// # Errors
     /// Where the source fails, or memory was refused: then nothing more is answered.
     fn go(&mut self) -> Result<(), AttributeFault<S::Fault>>
-        requires ready { IsReady Q.files Q.asked Q.shows Q.allows S.shows self.old }
+        requires ready { IsReady Q.files Q.asked Q.case Q.shows Q.allows S.shows self.old }
         requires unspent { self.old.is_spent ≡ false }
         requires plain { IsPlainPath self.old.path.items }
-        ensures ready { IsReady Q.files Q.asked Q.shows Q.allows S.shows self.new }
+        ensures ready { IsReady Q.files Q.asked Q.case Q.shows Q.allows S.shows self.new }
         ensures gone { OnOk result (HasGoneTo Q.files Q.asked Q.shows S.shows self.new.walk self.new.path.items) }
         ensures same { self.new ≡ record self.old { walk = self.new.walk; is_spent = self.new.is_spent } }
     {
@@ -161,7 +168,7 @@ impl<'q, 'm, S: AttributeFolders, Q: Question> AttributeAsker<'q, 'm, S, Q> {
         told: &[u8],
         is_folder: bool,
     ) -> Result<(), AllocError>
-        requires ready { IsReady Q.files Q.asked Q.shows Q.allows S.shows self.now }
+        requires ready { IsReady Q.files Q.asked Q.case Q.shows Q.allows S.shows self.now }
         requires plain { IsPlainPath self.now.path.items }
         requires gone { HasGoneTo Q.files Q.asked Q.shows S.shows self.now.walk self.now.path.items }
         requires leads { led self.now.standpoint.now (or_dot told.now) ≡ Some self.now.path.items }
@@ -177,6 +184,24 @@ impl<'q, 'm, S: AttributeFolders, Q: Question> AttributeAsker<'q, 'm, S, Q> {
             self.walk.macros,
             &path,
         )?;
+        self.append_states(text, told, &assigned)
+    }
+
+    /// Appends the states of the attributes of the top.
+    ///
+    /// # Errors
+    /// Only where memory was refused.
+    fn append_for_top(&self, text: &mut Vec<u8>, told: &[u8]) -> Result<(), AllocError>
+        requires ready { IsReady Q.files Q.asked Q.case Q.shows Q.allows S.shows self.now }
+        requires unspent { self.now.is_spent ≡ false }
+        requires top { self.now.path.items ≡ [] }
+        requires leads { led self.now.standpoint.now (or_dot told.now) ≡ Some self.now.path.items }
+        ensures written { OnOk result (Adds (Q.allows told.now) text.old.items text.new.items) }
+        ensures kept { StartsWith text.new.items text.old.items }
+    {
+        let top = RepositoryPath::top();
+        let rules = self.index.rules();
+        let assigned = PathAttributes::new(self.alloc, &self.top, self.walk.macros, &top, rules)?;
         self.append_states(text, told, &assigned)
     }
 
@@ -213,7 +238,8 @@ impl<'q, 'm, S: AttributeFolders, Q: Question> AttributeAsker<'q, 'm, S, Q> {
     /// # Errors
     /// Only where memory was refused.
     fn append_unassigned(&self, text: &mut Vec<u8>, told: &[u8]) -> Result<(), AllocError>
-        requires ready { IsReady Q.files Q.asked Q.shows Q.allows S.shows self.now }
+        requires ready { IsReady Q.files Q.asked Q.case Q.shows Q.allows S.shows self.now }
+        requires some { self.now.path.items ≢ [] }
         requires plain { ¬ IsPlainPath self.now.path.items }
         requires leads { led self.now.standpoint.now (or_dot told.now) ≡ Some self.now.path.items }
         ensures written { OnOk result (Adds (Q.allows told.now) text.old.items text.new.items) }

@@ -1,15 +1,19 @@
 //! The lists of attribute files, with the patterns alone that are asked for.
-ghost use Rattle.std.specs.Prelude.{◌≡◌, [], IfOk, map};
+ghost use Rattle.std.specs.Prelude.{◌≡◌, [], IfOk, filter, map};
 ghost use Rattle.gix_glob.specs.Entries.{entry_of};
 ghost use Rattle.gix_glob.specs.EntryLists.{entry_list_of};
+ghost use Rattle.gix_glob.specs.PatternParts.{mode_of};
+ghost use Rattle.gix_glob.specs.Patterns.{looks_at_name};
 ghost use Rattle.glob_attributes.specs.Views.{seen_assignments};
 ghost use Rattle.tree_commands.specs.CheckAttr.{all};
-ghost use Rattle.tree_commands.specs.Private.AttributeWays.{asked_of, kept_entries, kept_list};
+ghost use Rattle.tree_commands.specs.Private.AttributeWays.{asked_of, kept_entries, kept_list, top_list};
 
 use crate::check_attr::question::AskedAttributes;
-use gix_glob::search::Pattern;
-use gix_glob::search::pattern::List;
-use glob_attributes::{AttributeLines, MacroTable, keep_named};
+use gix_glob::Pattern;
+use gix_glob::search::Pattern as _;
+use gix_glob::search::pattern::{List, Mapping};
+use glob_attributes::{Assignment, AttributeLines, MacroTable, keep_named};
+use glob_lists::Reading;
 use glob_trees::list_in_folder;
 use std::alloc::{AllocError, Global};
 
@@ -38,6 +42,7 @@ fn keep_asked(
 ) -> List<AttributeLines>
     ensures entries { map (entry_of seen_assignments) result.patterns.items ≡ kept_entries (asked_of asked.entry) macros.now (map (entry_of seen_assignments) list.patterns.items) }
     ensures source { result.source ≡ list.source }
+    ensures base { result.base ≡ list.base }
 {
     match asked {
         AskedAttributes::Names(names) => {
@@ -48,12 +53,46 @@ fn keep_asked(
     }
 }
 
-/// The list of a file, without a base.
+/// The list of a file for the top, with the patterns for names alone, of these those that the states of these attributes rest on.
+///
+/// # Errors
+/// Only where memory was refused.
+pub(crate) fn top_list(
+    alloc: Global,
+    asked: AskedAttributes<'_>,
+    macros: &MacroTable,
+    bytes: &[u8],
+) -> Result<List<AttributeLines>, AllocError>
+    ensures { IfOk result (λ list. entry_list_of seen_assignments list ≡ top_list (asked_of asked.entry) macros.now bytes.now) }
+{
+    let mut list = list_of(alloc, bytes)?;
+    keep_names(&mut list.patterns);
+    Ok(keep_asked(list, asked, macros))
+}
+
+/// Keeps the patterns for names alone.
+fn keep_names(patterns: &mut Vec<Mapping<Vec<Assignment<Vec<u8>>>>>)
+    ensures { patterns.new.items ≡ filter (λ mapping. looks_at_name (mode_of mapping.pattern)) patterns.old.items }
+{
+    patterns.retain(|mapping| is_for_names(&mapping.pattern));
+}
+
+/// Whether a pattern is one for names.
+fn is_for_names(pattern: &Pattern) -> bool
+    ensures { result ≡ looks_at_name (mode_of pattern.now) }
+{
+    pattern.mode().looks_at_name()
+}
+
+/// The list of a file as Git reads it, without a base.
 fn list_of(alloc: Global, bytes: &[u8]) -> Result<List<AttributeLines>, AllocError>
     ensures { IfOk result (λ list. entry_list_of seen_assignments list ≡ kept_list all [] [] bytes.now) }
 {
+    let lines = AttributeLines {
+        reading: Reading::Git,
+    };
     Ok(List {
-        patterns: AttributeLines.bytes_to_patterns(alloc, bytes, "")?,
+        patterns: lines.bytes_to_patterns(alloc, bytes, "")?,
         source: None,
         base: None,
     })

@@ -3,9 +3,9 @@ ghost use Rattle.std.specs.Prelude.{◌≡◌, [], IfOk, map};
 ghost use Rattle.gix_glob.specs.EntryLists.{entry_list_of};
 ghost use Rattle.glob_attributes.specs.Views.{seen_assignments};
 ghost use Rattle.tree_commands.specs.CheckAttr.{macros_for, names_of};
-ghost use Rattle.tree_commands.specs.Private.AttributeWays.{HasRead, asked_by, asked_of, files_in, front_lists};
+ghost use Rattle.tree_commands.specs.Private.AttributeWays.{HasRead, asked_by, asked_of, files_in, front_lists, top_lists};
 
-use crate::check_attr::kept_lists::kept_list;
+use crate::check_attr::kept_lists::{kept_list, top_list};
 use crate::check_attr::question::{AskedAttributes, OuterFiles};
 use crate::check_attr::walk::Asking;
 use gix_glob::search::pattern::List;
@@ -46,6 +46,27 @@ pub(crate) fn front_lists(
     lists.push(kept_list(alloc, asked, macros, &[], files.system)?)?;
     lists.push(kept_list(alloc, asked, macros, &[], files.user)?)?;
     lists.push(kept_list(alloc, asked, macros, &[], files.top)?)?;
+    Ok(lists)
+}
+
+/// The lists of the files that count for the top, with the patterns for names alone, of these those that the states of these attributes rest
+/// on.
+///
+/// # Errors
+/// Only where memory was refused.
+pub(crate) fn top_lists(
+    alloc: Global,
+    files: OuterFiles<'_>,
+    asked: AskedAttributes<'_>,
+    macros: &MacroTable,
+) -> Result<Vec<List<AttributeLines>>, AllocError>
+    ensures { IfOk result (λ lists. map (entry_list_of seen_assignments) lists.items ≡ top_lists (asked_of asked.entry) macros.now (files_in files.entry)) }
+{
+    let mut lists = Vec::with_capacity(alloc, 4)?;
+    lists.push(top_list(alloc, asked, macros, files.system)?)?;
+    lists.push(top_list(alloc, asked, macros, files.user)?)?;
+    lists.push(top_list(alloc, asked, macros, files.top)?)?;
+    lists.push(top_list(alloc, asked, macros, files.info)?)?;
     Ok(lists)
 }
 

@@ -2,6 +2,7 @@
 ghost use Rattle.std.specs.Prelude.{◌≡◌};
 ghost use Rattle.tree_commands.specs.Private.AttributeWays.{asked_of, files_in};
 
+use gix_glob::pattern::Case;
 use std::marker::{Brand, Model};
 use told_paths::Standpoint;
 use tree_answers::Form;
@@ -28,12 +29,13 @@ pub enum AskedAttributes<'a> {
     All,
 }
 
-/// What is asked of each path: the states of attributes, by which files, from where paths are told, and how answers are written. Contracts see
-/// it as plain data.
+/// What is asked of each path: the states of attributes, by which files, whether the case of letters counts, from where paths are told, and how
+/// answers are written. Contracts see it as plain data.
 #[derive(Drop)]
 pub struct AttributeQuestion<'a> {
     pub(crate) files: OuterFiles<'a>,
     pub(crate) asked: AskedAttributes<'a>,
+    pub(crate) case: Case,
     pub(crate) standpoint: &'a Standpoint,
     pub(crate) form: Form,
 }
@@ -44,22 +46,24 @@ impl<'a> Model for AttributeQuestion<'a> {
 
     ghost Value = { Query };
 
-    ghost view = { λ question. record { files = files_in question.files; asked = asked_of question.asked; standpoint = question.standpoint.now; form = question.form } };
+    ghost view = { λ question. record { files = files_in question.files; asked = asked_of question.asked; case = question.case; standpoint = question.standpoint.now; form = question.form } };
 }
 
 impl<'a> AttributeQuestion<'a> {
-    /// Asks for attributes of paths that are told from a standpoint, and answers in this form.
+    /// Asks for attributes of paths that are told from a standpoint, by files whose patterns are read as Git does it, and answers in this form.
     pub fn new(
         files: OuterFiles<'a>,
         asked: AskedAttributes<'a>,
+        case: Case,
         standpoint: &'a Standpoint,
         form: Form,
     ) -> AttributeQuestion<'a>
-        ensures { result ≡ record { files = files_in files.entry; asked = asked_of asked.entry; standpoint = standpoint.now; form = form } }
+        ensures { result ≡ record { files = files_in files.entry; asked = asked_of asked.entry; case = case; standpoint = standpoint.now; form = form } }
     {
         AttributeQuestion {
             files,
             asked,
+            case,
             standpoint,
             form,
         }
@@ -70,11 +74,14 @@ impl<'a> AttributeQuestion<'a> {
 pub(crate) trait Question {
     ghost use Rattle.std.specs.Prelude.{ℕ, List, Option};
     ghost use Rattle.glob_trees.specs.Ways.{Folder};
+    ghost use Rattle.gix_glob.specs.declared.pattern.Case.{Case};
     ghost use Rattle.tree_commands.specs.CheckAttr.{Asked, Files};
 
     ghost files: { Files };
 
     ghost asked: { Asked };
+
+    ghost case: { Case };
 
     ghost shows: { Folder → Option (List ℕ) → Type 0 };
 
@@ -83,11 +90,14 @@ pub(crate) trait Question {
 
 impl Question for Brand {
     ghost use Rattle.std.specs.Prelude.{[]};
+    ghost use Rattle.gix_glob.specs.declared.pattern.Case.TheVariants.{Sensitive};
     ghost use Rattle.tree_commands.specs.CheckAttr.{all};
 
     ghost files = { record { system = []; user = []; top = []; info = [] } };
 
     ghost asked = { all };
+
+    ghost case = { Sensitive };
 
     ghost shows = { λ _ _. Unit {0} };
 

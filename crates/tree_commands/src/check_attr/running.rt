@@ -3,12 +3,12 @@ ghost use Rattle.std.specs.Prelude.{◌≡◌, IfOk, OnErr, OnOk, false, map, tr
 ghost use Rattle.std.specs.Io.KnownBytes.{Appends};
 ghost use Rattle.std.specs.List.{AllByRecursion};
 ghost use Rattle.std.specs.Vec.{vec_items};
-ghost use Rattle.gix_glob.specs.declared.pattern.Case.TheVariants.{Sensitive};
 ghost use Rattle.gix_glob.specs.EntryLists.{entry_list_of};
 ghost use Rattle.gix_glob.specs.Watched.{has_failed, inner};
 ghost use Rattle.glob_attributes.specs.Views.{seen_assignments};
 ghost use Rattle.glob_lines.specs.Transfers.{AppendsFront};
 ghost use Rattle.glob_lists.specs.Deciding.{BasesAreFolders};
+ghost use Rattle.glob_lists.specs.Rules.{by_git};
 ghost use Rattle.record_streams.specs.Faults.{is_write_fault, told_refusal};
 ghost use Rattle.record_streams.specs.Records.{TextOf};
 ghost use Rattle.tree_answers.specs.Attributes.{label_text};
@@ -26,14 +26,14 @@ use crate::check_attr::answering::{AttributeAnswerer, AttributeAsker};
 use crate::check_attr::fault::AttributeFault;
 use crate::check_attr::folders::AttributeFolders;
 use crate::check_attr::kept_lists::kept_list;
-use crate::check_attr::outer::{asking_of, front_lists, macros_of_files};
+use crate::check_attr::outer::{asking_of, front_lists, macros_of_files, top_lists};
 use crate::check_attr::question::{AskedAttributes, AttributeQuestion, Question};
 use crate::check_attr::walk::FolderAttributes;
 use gix_glob::pattern::Case;
 use gix_glob::search::Watched;
 use gix_glob::search::pattern::List;
 use glob_attributes::{AttributeLines, MacroTable};
-use glob_lists::ListIndex;
+use glob_lists::{ListIndex, Rules};
 use record_streams::RecordFault;
 use std::alloc::{AllocError, Global};
 use std::io::{Read, Write};
@@ -76,7 +76,7 @@ fn run_question<R: Read, W: Write, S: AttributeFolders, Q: Question>(
     records: &mut Watched<R>,
     writer: &mut Watched<W>,
 ) -> Result<(), RecordFault<AttributeFault<S::Fault>>>
-    requires asks { AsksFor Q.files Q.asked Q.shows Q.allows question.now (S.shows source) }
+    requires asks { AsksFor Q.files Q.asked Q.case Q.shows Q.allows question.now (S.shows source) }
     requires readable { has_failed records.old ≡ false }
     requires writable { has_failed writer.old ≡ false }
     ensures { EndsRun (λ _. TextOfNamed Q.allows (λ _. Unit {0}) question.now.form)
@@ -91,7 +91,7 @@ fn run_question<R: Read, W: Write, S: AttributeFolders, Q: Question>(
     let Ok(lists) = front_lists(alloc, question.files, question.asked, &macros) else {
         return Err(RecordFault::Memory);
     };
-    let Ok(index) = index_of(alloc, &lists) else {
+    let Ok(index) = index_of(alloc, &lists, question.case) else {
         return Err(RecordFault::Memory);
     };
     let Ok(answerer) = answerer_of::<S, Q>(alloc, question, source, &macros, &index) else {
@@ -139,7 +139,7 @@ fn check_paths<W: Write, S: AttributeFolders, Q: Question>(
     paths: &[&[u8]],
     writer: &mut Watched<W>,
 ) -> Result<(), RecordFault<AttributeFault<S::Fault>>>
-    requires asks { AsksFor Q.files Q.asked Q.shows Q.allows question.now (S.shows source) }
+    requires asks { AsksFor Q.files Q.asked Q.case Q.shows Q.allows question.now (S.shows source) }
     requires writable { has_failed writer.old ≡ false }
     ensures ok { OnOk result
         (Writes (TextOfPaths Q.allows (λ _. Unit {0}) (map (λ path. path.now) paths.now))
@@ -158,7 +158,7 @@ fn check_paths<W: Write, S: AttributeFolders, Q: Question>(
     let Ok(lists) = front_lists(alloc, question.files, question.asked, &macros) else {
         return Err(RecordFault::Memory);
     };
-    let Ok(index) = index_of(alloc, &lists) else {
+    let Ok(index) = index_of(alloc, &lists, question.case) else {
         return Err(RecordFault::Memory);
     };
     let Ok(answerer) = answerer_of::<S, Q>(alloc, question, source, &macros, &index) else {
@@ -172,11 +172,12 @@ fn check_paths<W: Write, S: AttributeFolders, Q: Question>(
 fn index_of(
     alloc: Global,
     lists: &[List<AttributeLines>],
+    case: Case,
 ) -> Result<ListIndex<'_, AttributeLines>, AllocError>
     requires { BasesAreFolders (map (entry_list_of seen_assignments) lists.now) }
-    ensures { IfOk result (λ index. (index.lists ≡ lists.entry.now) × (index.case ≡ Sensitive)) }
+    ensures { IfOk result (λ index. (index.lists ≡ lists.entry.now) × (index.rules ≡ by_git case)) }
 {
-    match ListIndex::new(alloc, lists, Case::Sensitive) {
+    match ListIndex::new(alloc, lists, Rules::by_git(case)) {
         Ok(index) => Ok(index),
         Err(_refused) => Err(AllocError),
     }
@@ -190,19 +191,21 @@ fn answerer_of<'q, 'm, S: AttributeFolders, Q: Question>(
     macros: &'m MacroTable,
     index: &'m ListIndex<'m, AttributeLines>,
 ) -> Result<AttributeAnswerer<'q, 'm, S, Q>, AllocError>
-    requires asks { AsksFor Q.files Q.asked Q.shows Q.allows question.now (S.shows source) }
+    requires asks { AsksFor Q.files Q.asked Q.case Q.shows Q.allows question.now (S.shows source) }
     requires macros { macros.now ≡ macros_for Q.files }
     requires lists { map (entry_list_of seen_assignments) index.now.lists ≡ front_lists Q.asked (macros_for Q.files) Q.files }
-    requires case { index.now.case ≡ Sensitive }
+    requires rules { index.now.rules ≡ by_git Q.case }
 {
     let walk = walk_of::<S, Q>(alloc, question, source, macros)?;
     let labels = labels_of(alloc, question.asked, question.form)?;
+    let top = top_lists(alloc, question.files, question.asked, macros)?;
     Ok(AttributeAnswerer::new(AttributeAsker {
         alloc,
         standpoint: question.standpoint,
         form: question.form,
         index,
         walk,
+        top,
         labels,
         path: Vec::new(alloc),
         is_spent: false,
@@ -216,7 +219,7 @@ fn walk_of<'q, 'm, S: AttributeFolders, Q: Question>(
     source: S,
     macros: &'m MacroTable,
 ) -> Result<FolderAttributes<'q, 'm, S, Q>, AllocError>
-    requires asks { AsksFor Q.files Q.asked Q.shows Q.allows question.now (S.shows source) }
+    requires asks { AsksFor Q.files Q.asked Q.case Q.shows Q.allows question.now (S.shows source) }
     requires macros { macros.now ≡ macros_for Q.files }
     ensures { IfOk result (IsEntered Q.files Q.asked Q.shows S.shows) }
 {

@@ -1,5 +1,5 @@
 //! What answers each told path by the line that decides about it.
-ghost use Rattle.std.specs.Prelude.{◌≡◌, ◌++◌, false, IfErr, IfOk, IfSome, IsTrue, None, Option, Some, is_some, [], option_map};
+ghost use Rattle.std.specs.Prelude.{◌≡◌, ◌≤◌, ◌++◌, false, IfErr, IfOk, IfSome, IsTrue, None, Option, Some, is_some, [], length, option_map, take};
 ghost use Rattle.std.specs.Io.{StartsWith};
 ghost use Rattle.std.specs.List.{list_any};
 ghost use Rattle.std.specs.Option.{unwrap_or};
@@ -13,8 +13,8 @@ ghost use Rattle.told_paths.specs.Paths.{names_folder, parts_of};
 ghost use Rattle.told_paths.specs.Quoting.{is_unusual};
 ghost use Rattle.tree_answers.specs.Lines.{Decision};
 ghost use Rattle.tree_answers.specs.Records.{LeadsAsTold};
-ghost use Rattle.tree_commands.specs.CheckIgnore.{IsLineAt, Refuses, counted, question_of, text_about};
-ghost use Rattle.tree_commands.specs.Private.Finding.{FindsTold, line_of, lists_of, told_kind};
+ghost use Rattle.tree_commands.specs.CheckIgnore.{IsLineAt, Refuses, asked_path, counted, question_of, text_about};
+ghost use Rattle.tree_commands.specs.Private.Finding.{FindsTold, line_of, lists_of};
 
 use crate::check_ignore::fault::IgnoreFault;
 use crate::check_ignore::finding::Finder;
@@ -41,9 +41,10 @@ pub(crate) trait AskedQuestion {
 impl AskedQuestion for Brand {
     ghost use Rattle.std.specs.Prelude.{None, [], false};
     ghost use Rattle.gix_glob.specs.declared.pattern.Case.TheVariants.{Sensitive};
+    ghost use Rattle.glob_lists.specs.Rules.{by_git};
     ghost use Rattle.tree_answers.specs.declared.form.Form.TheVariants.{Lines};
 
-    ghost question = { record { leads = λ _. None; kind_of = λ _. None; front_count = 0; fronts = []; case = Sensitive; flags = record { form = Lines; verbose = false; non_matching = false; quiet = false } } };
+    ghost question = { record { leads = λ _. None; kind_of = λ _. None; front_count = 0; fronts = []; rules = by_git Sensitive; flags = record { form = Lines; verbose = false; non_matching = false; quiet = false } } };
 }
 
 /// What answers each told path by the tree. Its type names what is asked: so a run keeps the question, whatever it does to the answerer.
@@ -148,13 +149,13 @@ impl<
     ) -> Result<Option<(usize, usize)>, IgnoreFault<S::Fault>>
         requires plain { IsTrue is_usual → IsPlainPath told.now }
         requires leads { IsTrue is_usual → LeadsAsTold told.now }
-        ensures found { IfOk result (FindsTold (S.shows (Unit {0})) (Q.question.leads told.now) (λ path. told_kind (names_folder false (parts_of told.now)) (Q.question.kind_of path)) self.new.finder.tree) }
+        ensures found { IfOk result (FindsTold (S.shows (Unit {0})) (Q.question.leads told.now) (names_folder false (parts_of told.now)) Q.question.kind_of self.new.finder.tree) }
         ensures goes_on { GoesOn (S.shows (Unit {0})) self.old.finder.tree.source self.new.finder.tree.source }
         ensures same { self.new.is_any ≡ self.old.is_any }
         ensures faults { IfErr result (Refuses Q.question.leads told.now) }
     {
         if is_usual && self.standpoint.is_at_top() {
-            return self.finder.find(told, false);
+            return self.finder.find(told, told);
         }
         self.find_led(told)
     }
@@ -162,20 +163,42 @@ impl<
     /// The same, of a path that has to be led to.
     #[inline(never)]
     fn find_led(&mut self, told: &[u8]) -> Result<Option<(usize, usize)>, IgnoreFault<S::Fault>>
-        ensures found { IfOk result (FindsTold (S.shows (Unit {0})) (Q.question.leads told.now) (λ path. told_kind (names_folder false (parts_of told.now)) (Q.question.kind_of path)) self.new.finder.tree) }
+        ensures found { IfOk result (FindsTold (S.shows (Unit {0})) (Q.question.leads told.now) (names_folder false (parts_of told.now)) Q.question.kind_of self.new.finder.tree) }
         ensures goes_on { GoesOn (S.shows (Unit {0})) self.old.finder.tree.source self.new.finder.tree.source }
         ensures same { self.new.is_any ≡ self.old.is_any }
         ensures faults { IfErr result (Refuses Q.question.leads told.now) }
     {
-        let is_folder = self.lead(told)?;
+        let bare = self.lead(told)?;
+        if self.path.is_empty() {
+            return self.finder.find_top();
+        }
         if !plain_path(&self.path) {
             return Ok(None);
         }
-        self.finder.find(&self.path, is_folder)
+        self.finder.find(&self.path, &self.path[..bare])
+    }
+
+    /// Goes where a told path leads: `path` becomes what is asked about, with a slash at its end where it is told as a folder's. The answer
+    /// is how many of its bytes come before that slash.
+    fn lead(&mut self, told: &[u8]) -> Result<usize, IgnoreFault<S::Fault>>
+        ensures leads { IfOk result (λ bare. (Q.question.leads told.now ≡ Some (take bare self.new.path.items))
+            × (self.new.path.items ≡ asked_path (names_folder false (parts_of told.now)) (take bare self.new.path.items)) × (bare ≤ length self.new.path.items)) }
+        ensures finder { self.new.finder ≡ self.old.finder }
+        ensures same { self.new.is_any ≡ self.old.is_any }
+        ensures faults { IfErr result (Refuses Q.question.leads told.now) }
+    {
+        let is_folder = self.go(told)?;
+        let bare = self.path.len();
+        if is_folder && bare > 0 {
+            let Ok(()) = self.path.push(b'/') else {
+                return Err(IgnoreFault::Memory);
+            };
+        }
+        Ok(bare)
     }
 
     /// Goes where a told path leads. It answers whether the path is told as a folder.
-    fn lead(&mut self, told: &[u8]) -> Result<bool, IgnoreFault<S::Fault>>
+    fn go(&mut self, told: &[u8]) -> Result<bool, IgnoreFault<S::Fault>>
         ensures leads { IfOk result (λ is_folder. (Q.question.leads told.now ≡ Some self.new.path.items) × (is_folder ≡ names_folder false (parts_of told.now))) }
         ensures finder { self.new.finder ≡ self.old.finder }
         ensures same { self.new.is_any ≡ self.old.is_any }

@@ -4,10 +4,12 @@ ghost use Rattle.gix_glob.specs.PatternParts.{mode_of};
 ghost use Rattle.gix_glob.specs.Patterns.{is_for_directories};
 ghost use Rattle.glob_lists.specs.Paths.{IsPlainPath};
 ghost use Rattle.tree_commands.specs.Private.Faults.{IsOfSources};
-ghost use Rattle.tree_commands.specs.Private.Finding.{IsFound, IsFoundAs, KeepsTree, WantsFolder, told_kind};
+ghost use Rattle.tree_commands.specs.Private.Finding.{IsFound, IsFoundAs, IsFoundForTop, KeepsTree, WantsFolder, lists_of};
+ghost use Rattle.tree_commands.specs.Tops.{DecidesForTop};
 
 use crate::check_ignore::fault::IgnoreFault;
 use crate::check_ignore::kinds::{PathKinds, is_folder};
+use crate::check_ignore::top::deciding_for_top;
 use crate::check_ignore::unlinked::UnlinkedFolders;
 use bitflags::Flags as _;
 use gix_glob::Pattern;
@@ -26,26 +28,40 @@ pub(crate) struct Finder<S: FolderLists<IgnoreLines>, K> {
 }
 
 impl<S: FolderLists<IgnoreLines> + Drop, K: PathKinds<Fault = S::Fault>> Finder<S, K> {
-    /// Which pattern decides about a path. The source of kinds is asked whether it is a folder's where the answer depends on it, and it
-    /// wasn't told that it is.
+    /// Which pattern decides about a path, which may have a slash at its end; `bare` is the path without it. The source of kinds is asked
+    /// whether a folder stands there where the answer depends on it.
     #[tactic(auto, using(crate::proofs::lemmas::FindingLemmas::found_without))]
     pub(crate) fn find(
         &mut self,
         path: &[u8],
-        is_told_folder: bool,
+        bare: &[u8],
     ) -> Result<Option<(usize, usize)>, IgnoreFault<S::Fault>>
         requires { IsPlainPath path.now }
-        ensures found { IfOk result (IsFound (S.shows (Unit {0})) self.new.tree path.now (told_kind is_told_folder (K.kind_of self.old.kinds path.now))) }
+        ensures found { IfOk result (IsFound (S.shows (Unit {0})) self.new.tree path.now (K.kind_of self.old.kinds bare.now)) }
         ensures keeps { KeepsTree (S.shows (Unit {0})) self.old.tree self.new.tree }
         ensures kinds { K.kind_of self.new.kinds ≡ K.kind_of self.old.kinds }
         ensures faults { IfErr result IsOfSources }
     {
         let folder = RepositoryPath::from_plain(path, true);
         let pair = find_as(&mut self.tree, &folder)?;
+        let is_told_folder = bare.len() < path.len();
         if is_told_folder || self.has_unseen_folder(&folder) || wants_folder(&self.tree, pair) {
-            return self.find_by_looks(path, is_told_folder, pair);
+            return self.find_by_looks(path, bare, pair);
         }
         Ok(pair)
+    }
+
+    /// Which pattern decides about the top.
+    pub(crate) fn find_top(&mut self) -> Result<Option<(usize, usize)>, IgnoreFault<S::Fault>>
+        ensures found { IfOk result (IsFoundForTop (S.shows (Unit {0})) self.new.tree) }
+        ensures keeps { KeepsTree (S.shows (Unit {0})) self.old.tree self.new.tree }
+        ensures kinds { K.kind_of self.new.kinds ≡ K.kind_of self.old.kinds }
+        ensures faults { IfErr result IsOfSources }
+    {
+        let top = RepositoryPath::top();
+        // so the list of the top is asked for; the answer isn't taken, for as Git has it no pattern for paths matches the top
+        let _pair = find_as(&mut self.tree, &top)?;
+        Ok(deciding_in(&self.tree))
     }
 
     /// Whether the folder of a path is neither one that the tree entered on its way, nor the one that was asked for last.
@@ -56,40 +72,42 @@ impl<S: FolderLists<IgnoreLines> + Drop, K: PathKinds<Fault = S::Fault>> Finder<
         start > self.tree.folder().len() && !self.unlinked.is_last(&path.bytes()[..start])
     }
 
-    /// Which pattern decides about a path, if this one does where the path is a folder's. The source of kinds is asked about links, and
-    /// whether the path is a folder's.
+    /// Which pattern decides about a path, if this one does where a folder stands there. The source of kinds is asked about links, and
+    /// whether one does.
     #[inline(never)]
-    #[tactic(auto, using(crate::proofs::lemmas::FindingLemmas::found_without, crate::proofs::lemmas::FindingLemmas::found_folder))]
+    #[tactic(auto, using(crate::proofs::lemmas::FindingLemmas::found_without))]
     fn find_by_looks(
         &mut self,
         path: &[u8],
-        is_told_folder: bool,
+        bare: &[u8],
         pair: Option<(usize, usize)>,
     ) -> Result<Option<(usize, usize)>, IgnoreFault<S::Fault>>
         requires plain { IsPlainPath path.now }
         requires as_folder { IsFoundAs (S.shows (Unit {0})) self.old.tree path.now true pair }
-        ensures found { IfOk result (IsFound (S.shows (Unit {0})) self.new.tree path.now (told_kind is_told_folder (K.kind_of self.old.kinds path.now))) }
+        ensures found { IfOk result (IsFound (S.shows (Unit {0})) self.new.tree path.now (K.kind_of self.old.kinds bare.now)) }
         ensures keeps { KeepsTree (S.shows (Unit {0})) self.old.tree self.new.tree }
         ensures kinds { K.kind_of self.new.kinds ≡ K.kind_of self.old.kinds }
         ensures faults { IfErr result IsOfSources }
     {
         let entered = self.tree.folder().len();
+        let is_told_folder = bare.len() < path.len();
         self.unlinked
-            .check_path(&mut self.kinds, path, is_told_folder, entered)?;
-        if is_told_folder {
-            return Ok(pair);
-        }
+            .check_path(&mut self.kinds, bare, is_told_folder, entered)?;
         if !wants_folder(&self.tree, pair) {
             return Ok(pair);
         }
-        self.find_by_kind(path)
+        self.find_by_kind(path, bare)
     }
 
     /// Which pattern decides about a path, where one that is for folders alone may.
     #[tactic(auto, using(crate::proofs::lemmas::FindingLemmas::found_as, crate::proofs::lemmas::FindingLemmas::found_with, crate::proofs::lemmas::FindingLemmas::keeps_on))]
-    fn find_by_kind(&mut self, path: &[u8]) -> Result<Option<(usize, usize)>, IgnoreFault<S::Fault>>
+    fn find_by_kind(
+        &mut self,
+        path: &[u8],
+        bare: &[u8],
+    ) -> Result<Option<(usize, usize)>, IgnoreFault<S::Fault>>
         requires { IsPlainPath path.now }
-        ensures found { IfOk result (IsFound (S.shows (Unit {0})) self.new.tree path.now (K.kind_of self.old.kinds path.now)) }
+        ensures found { IfOk result (IsFound (S.shows (Unit {0})) self.new.tree path.now (K.kind_of self.old.kinds bare.now)) }
         ensures keeps { KeepsTree (S.shows (Unit {0})) self.old.tree self.new.tree }
         ensures kinds { K.kind_of self.new.kinds ≡ K.kind_of self.old.kinds }
         ensures faults { IfErr result IsOfSources }
@@ -99,12 +117,21 @@ impl<S: FolderLists<IgnoreLines> + Drop, K: PathKinds<Fault = S::Fault>> Finder<
             // it is for folders alone, so a folder above is ignored, and it decides whatever stands there
             return Ok(pair);
         }
-        if !is_folder(&mut self.kinds, path)? {
+        if !is_folder(&mut self.kinds, bare)? {
             return Ok(pair);
         }
         // the lists may have been asked for again, so that a pair from before may have no place in them
         find_as(&mut self.tree, &RepositoryPath::from_plain(path, true))
     }
+}
+
+/// Which pattern of a tree's lists decides about the top.
+fn deciding_in<S: FolderLists<IgnoreLines> + Drop>(
+    tree: &Tree<IgnoreLines, S>,
+) -> Option<(usize, usize)>
+    ensures { DecidesForTop (lists_of tree.now) tree.now.rules result }
+{
+    deciding_for_top(tree.lists(), tree.rules())
 }
 
 /// Which pattern decides about a path of this kind.

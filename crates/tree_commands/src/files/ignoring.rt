@@ -6,13 +6,14 @@ ghost use Rattle.gix_glob.specs.PatternParts.{mode_of};
 ghost use Rattle.gix_glob.specs.Patterns.{is_for_directories};
 ghost use Rattle.glob_lists.specs.Deciding.{BasesAreFolders, Decides, HasEntryAt, IsEntryAt};
 ghost use Rattle.glob_lists.specs.Paths.{IsPlainPath};
+ghost use Rattle.glob_lists.specs.Rules.{by_git};
 ghost use Rattle.tree_commands.specs.Ignoring.{IsIgnored};
 ghost use Rattle.tree_commands.specs.Private.Ignoring.{HasDecidingPattern, IsSaid};
 
 use bitflags::Flags as _;
 use gix_glob::pattern::{Case, Mode};
 use gix_glob::{Pattern, search};
-use glob_lists::{PreparedList, RepositoryPath, decide_prepared};
+use glob_lists::{PreparedList, RepositoryPath, Rules, decide_prepared};
 
 /// Whether a path is ignored, as far as that can be said whatever stands there.
 #[derive(Clone, Copy)]
@@ -86,7 +87,7 @@ fn is_for_folders(pattern: &Pattern) -> bool
     pattern.mode().contains(Mode::MUST_BE_DIR)
 }
 
-/// The pattern that decides about a path.
+/// The pattern that decides about a path, as Git reads patterns.
 fn deciding<'a, T: search::Pattern>(
     lists: &'a [PreparedList<T>],
     case: Case,
@@ -94,10 +95,10 @@ fn deciding<'a, T: search::Pattern>(
 ) -> Option<&'a Pattern>
     requires { BasesAreFolders (map (entry_list_of T.seen) lists.now) }
     ensures { MatchOption result
-        (Decides (map (entry_list_of T.seen) lists.entry.now) path.now.bytes path.now.is_dir case None)
+        (Decides (map (entry_list_of T.seen) lists.entry.now) path.now.bytes path.now.is_dir (by_git case) None)
         (λ pattern. HasDecidingPattern (map (entry_list_of T.seen) lists.entry.now) case path.now.bytes path.now.is_dir pattern.now) }
 {
-    match decide_prepared(lists, path, case) {
+    match decide_prepared(lists, path, Rules::by_git(case)) {
         Some(pair) => Some(pattern_at(lists, pair)),
         None => None,
     }

@@ -11,7 +11,7 @@ returns-clause-exact c = λ lawful told.
       state.0,
       (
         reverse (row_of c.push_matches.new.texts c.in-Some-push_matches.count),
-        (found.0, (rw c.in-Some.ensures.1 at found.1), ap reverse found.2),
+        (found.0, rw c.reading_of_lines.ensures at (rw c.rules_of-rules.ensures at (rw c.in-Some.ensures.1 at found.1)), ap reverse found.2),
         state.1,
       ),
       c.told_of.ensures ∙ ap told_of state.2,

@@ -5,7 +5,6 @@ use Rattle.std.proofs.lemmas.List.{length-map}
 use Rattle.std.proofs.lemmas.List.Sums.{sum_by_more, sum_by_more_le}
 use Rattle.glob_attributes.specs.Borrowed.{row_of}
 use Rattle.gix_glob_c.specs.Attributes.{attribute_list, line_count}
-use Rattle.gix_glob_c.specs.Parts.{case_of}
 use Rattle.gix_glob_c.specs.declared.attributes.GlobAttributeList.{GlobAttributeList}
 use Rattle.gix_glob_c.proofs.lemmas.FindingLemmas.{blank_attributes, found-all, lines_at-is}
 use Rattle.gix_glob_c.proofs.attributes.push_matches.Goals as goal
@@ -36,5 +35,5 @@ lists-preserved c =
 pub returns-clause-row : goal.returns-clause-row
 returns-clause-row c = λ lawful.
     let lists = c.args.lists.now in
-    found-all lists c.args.path.now (case_of c.args.fold) c.lists.i (row_of c.lists.texts c.lists.count)
+    found-all lists c.args.path.now c.args.rules c.lists.i (row_of c.lists.texts c.lists.count)
     (omega (arith, length-map lists attribute_list, c.lists-test.false)) (c.lists.invariant.row lawful)

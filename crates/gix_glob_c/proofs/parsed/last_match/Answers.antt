@@ -5,7 +5,6 @@ use Rattle.glob_lists.specs.Deciding.{AnswersAt}
 use Rattle.glob_lists.proofs.lemmas.Deciding.Answering.{AnswersAt-only, AnswersAt-yes}
 use Rattle.glob_lists.proofs.lemmas.Deciding.LastNumbers.{NoneFrom-all, NoneFrom-last, NoneFrom-less}
 use Rattle.gix_glob_c.specs.Parsed.{IsLawful, entry_of_parts, list_of}
-use Rattle.gix_glob_c.specs.Parts.{case_of}
 use Rattle.gix_glob_c.proofs.lemmas.DecidingLemmas.{Decides-no_list, Decides-one_list, blank, entry_at}
 use Rattle.gix_glob_c.proofs.parsed.last_match.Goals as goal
 
@@ -13,32 +12,32 @@ pub returns-then-is_matched-clause-exact : goal.returns-then-is_matched-clause-e
 returns-then-is_matched-clause-exact c = λ lawful.
     let patterns = c.args.patterns.now in
     let list = list_of patterns in
-    let case = case_of c.args.fold in
+    let rules = c.args.rules in
     let at = c.loop-i.i - 1 in
     let within : at < length patterns = omega arith in
     let next : c.loop-i.i ≡ at + 1 = omega arith in
     let told = c.is_matched.ensures (All-get_or IsLawful patterns at blank within lawful) in
-    Decides-one_list list c.args.path.now.bytes c.args.path.now.is_dir case at
-    (AnswersAt-yes list c.args.path.now.bytes c.args.path.now.is_dir case at (entry_of_parts (slice_index_or patterns at blank)) (entry_at patterns at within) (told.0 c.if-is_matched.true))
-    (NoneFrom-last (AnswersAt list c.args.path.now.bytes c.args.path.now.is_dir case) c.loop-i.i at next (c.loop-i.invariant lawful))
+    Decides-one_list list c.args.path.now.bytes c.args.path.now.is_dir rules at
+    (AnswersAt-yes list c.args.path.now.bytes c.args.path.now.is_dir rules at (entry_of_parts (slice_index_or patterns at blank)) (entry_at patterns at within) (told.0 c.if-is_matched.true))
+    (NoneFrom-last (AnswersAt list c.args.path.now.bytes c.args.path.now.is_dir rules) c.loop-i.i at next (c.loop-i.invariant lawful))
 
 pub loop-i-preserved : goal.loop-i-preserved
 loop-i-preserved c = λ lawful.
     let patterns = c.args.patterns.now in
     let list = list_of patterns in
-    let case = case_of c.args.fold in
+    let rules = c.args.rules in
     let at = c.loop-i.i - 1 in
     let within : at < length patterns = omega arith in
     let next : c.loop-i.i ≡ at + 1 = omega arith in
     let told = c.is_matched.ensures (All-get_or IsLawful patterns at blank within lawful) in
-    let refused = λ (h : AnswersAt list c.args.path.now.bytes c.args.path.now.is_dir case at).
-    let answered : c.is_matched.result ≡ true = told.1 (AnswersAt-only list c.args.path.now.bytes c.args.path.now.is_dir case at (entry_of_parts (slice_index_or patterns at blank)) (entry_at patterns at within) h) in
+    let refused = λ (h : AnswersAt list c.args.path.now.bytes c.args.path.now.is_dir rules at).
+    let answered : c.is_matched.result ≡ true = told.1 (AnswersAt-only list c.args.path.now.bytes c.args.path.now.is_dir rules at (entry_of_parts (slice_index_or patterns at blank)) (entry_at patterns at within) h) in
     absurd (cc) in
-    NoneFrom-less (AnswersAt list c.args.path.now.bytes c.args.path.now.is_dir case) c.loop-i.i at next (c.loop-i.invariant lawful) refused
+    NoneFrom-less (AnswersAt list c.args.path.now.bytes c.args.path.now.is_dir rules) c.loop-i.i at next (c.loop-i.invariant lawful) refused
 
 pub returns-clause-exact : goal.returns-clause-exact
 returns-clause-exact c = λ lawful.
     let list = list_of c.args.patterns.now in
-    let case = case_of c.args.fold in
-    Decides-no_list list c.args.path.now.bytes c.args.path.now.is_dir case
-    (NoneFrom-all (AnswersAt list c.args.path.now.bytes c.args.path.now.is_dir case) c.loop-i.i (omega arith) (c.loop-i.invariant lawful))
+    let rules = c.args.rules in
+    Decides-no_list list c.args.path.now.bytes c.args.path.now.is_dir rules
+    (NoneFrom-all (AnswersAt list c.args.path.now.bytes c.args.path.now.is_dir rules) c.loop-i.i (omega arith) (c.loop-i.invariant lawful))

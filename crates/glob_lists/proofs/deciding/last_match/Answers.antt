@@ -34,9 +34,9 @@ tested_mode : (g : Over) (c : After-is_matched_with_counts g) → c.view.result.
 tested_mode g c = rw (← c.index-mappings-m.is) at c.view.ensures.mode
 
 -- the test says whether it answers
-told : (g : Over) (c : After-is_matched_with_counts g) → IsTrue c.is_matched_with_counts.result ↔ AnswersUnder (option_map vec_items c.args.list.now.base) (entry_of g.T.Pattern.seen c.index-mappings-m.result) c.args.path.now.bytes c.args.path.now.is_dir c.args.case
+told : (g : Over) (c : After-is_matched_with_counts g) → IsTrue c.is_matched_with_counts.result ↔ AnswersUnder (option_map vec_items c.args.list.now.base) (entry_of g.T.Pattern.seen c.index-mappings-m.result) c.args.path.now.bytes c.args.path.now.is_dir c.args.rules
 told g c =
-    AnswersUnder-tested (option_map vec_items c.args.list.now.base) c.args.path.now.bytes c.args.path.now.is_dir c.args.case (entry_of g.T.Pattern.seen c.index-mappings-m.result) c.in_ok-rest.rest.bytes c.in_ok-rest.ensures.rest.0
+    AnswersUnder-tested (option_map vec_items c.args.list.now.base) c.args.path.now.bytes c.args.path.now.is_dir c.args.rules (entry_of g.T.Pattern.seen c.index-mappings-m.result) c.in_ok-rest.rest.bytes c.in_ok-rest.ensures.rest.0
     c.view.result.text.now c.view.result.mode c.in_ok-rest.rest.is_dir c.is_matched_with_counts.result (tested_text g c) (tested_mode g c) c.in_ok-rest.ensures.rest.1
     (c.is_matched_with_counts.ensures.exact c.view.ensures.lawful)
 
@@ -49,7 +49,7 @@ tested_steps g c =
     let counted = rw (tested_text g c) at c.is_matched_with_counts.ensures.steps in
     counted-from (λ entry. step_limit (length entry.text) (length c.args.path.now.bytes)) _ _ _ _ _ _ (entry_of g.T.Pattern.seen c.index-mappings-m.result) next (tested_entry g c)
     c.loop-m.invariant.steps
-    (steps-under c.args.case _ _ _ c.in_ok-rest.ensures.rest.0 (length (text_of c.index-mappings-m.result.pattern)) _ _ counted)
+    (steps-under c.args.rules.case _ _ _ c.in_ok-rest.ensures.rest.0 (length (text_of c.index-mappings-m.result.pattern)) _ _ counted)
 
 tested_looks : (g : Over) (c : After-is_matched_with_counts g) → c.is_matched_with_counts.new.counts.looks
     ≤ c.args.counts.now.looks + strip_looks (option_map vec_items c.args.list.now.base) (length c.args.path.now.bytes)
@@ -59,7 +59,7 @@ tested_looks g c =
     let counted = rw (tested_text g c) at c.is_matched_with_counts.ensures.looks in
     counted-from (λ entry. pattern_look_limit (length entry.text) (length c.args.path.now.bytes)) _ _ _ _ _ _ (entry_of g.T.Pattern.seen c.index-mappings-m.result) next (tested_entry g c)
     c.loop-m.invariant.looks
-    (looks-under c.args.case _ _ _ c.in_ok-rest.ensures.rest.0 (length (text_of c.index-mappings-m.result.pattern)) _ _ counted)
+    (looks-under c.args.rules.case _ _ _ c.in_ok-rest.ensures.rest.0 (length (text_of c.index-mappings-m.result.pattern)) _ _ counted)
 
 pub returns-then-is_matched_with_counts-clause-last : goal.returns-then-is_matched_with_counts-clause-last
 returns-then-is_matched_with_counts-clause-last g c =
@@ -67,8 +67,8 @@ returns-then-is_matched_with_counts-clause-last g c =
     let at = c.loop-m.m - 1 in
     let next : c.loop-m.m ≡ at + 1 = omega arith in
     let after = (goal.at.returns-then-is_matched_with_counts-clause-last g c).After-is_matched_with_counts in
-    LastOf-found list c.args.path.now.bytes c.args.path.now.is_dir c.args.case c.loop-m.m at next c.loop-m.invariant.none
-    (AnswersAt-yes list c.args.path.now.bytes c.args.path.now.is_dir c.args.case at (entry_of g.T.Pattern.seen c.index-mappings-m.result) (tested_entry g after)
+    LastOf-found list c.args.path.now.bytes c.args.path.now.is_dir c.args.rules c.loop-m.m at next c.loop-m.invariant.none
+    (AnswersAt-yes list c.args.path.now.bytes c.args.path.now.is_dir c.args.rules at (entry_of g.T.Pattern.seen c.index-mappings-m.result) (tested_entry g after)
     ((told g after).0 c.if-is_matched_with_counts.true))
 
 pub returns-then-is_matched_with_counts-clause-steps : goal.returns-then-is_matched_with_counts-clause-steps
@@ -87,12 +87,12 @@ loop-m-preserved g c =
     let list = entry_list_of g.T.Pattern.seen c.args.list.now in
     let at = c.loop-m.m - 1 in
     let next : c.loop-m.m ≡ at + 1 = omega arith in
-    let refused : ¬ AnswersAt list c.args.path.now.bytes c.args.path.now.is_dir c.args.case at = λ h.
+    let refused : ¬ AnswersAt list c.args.path.now.bytes c.args.path.now.is_dir c.args.rules at = λ h.
     let answered : c.is_matched_with_counts.result ≡ true =
-    (told g after).1 (AnswersAt-only list c.args.path.now.bytes c.args.path.now.is_dir c.args.case at (entry_of g.T.Pattern.seen c.index-mappings-m.result) (tested_entry g after) h) in
+    (told g after).1 (AnswersAt-only list c.args.path.now.bytes c.args.path.now.is_dir c.args.rules at (entry_of g.T.Pattern.seen c.index-mappings-m.result) (tested_entry g after) h) in
     absurd (cc) in
     record {
-      none = NoneFrom-less (AnswersAt list c.args.path.now.bytes c.args.path.now.is_dir c.args.case) c.loop-m.m at next c.loop-m.invariant.none refused;
+      none = NoneFrom-less (AnswersAt list c.args.path.now.bytes c.args.path.now.is_dir c.args.rules) c.loop-m.m at next c.loop-m.invariant.none refused;
       grows = record {
         steps = omega (arith, c.loop-m.invariant.grows.steps, c.is_matched_with_counts.ensures.grows.steps);
         looks = omega (arith, c.loop-m.invariant.grows.looks, c.is_matched_with_counts.ensures.grows.looks);
@@ -102,4 +102,4 @@ loop-m-preserved g c =
     }
 
 pub returns-clause-last : goal.returns-clause-last
-returns-clause-last g c = NoneFrom-all (AnswersAt (entry_list_of g.T.Pattern.seen c.args.list.now) c.args.path.now.bytes c.args.path.now.is_dir c.args.case) c.loop-m.m (omega arith) c.loop-m.invariant.none
+returns-clause-last g c = NoneFrom-all (AnswersAt (entry_list_of g.T.Pattern.seen c.args.list.now) c.args.path.now.bytes c.args.path.now.is_dir c.args.rules) c.loop-m.m (omega arith) c.loop-m.invariant.none

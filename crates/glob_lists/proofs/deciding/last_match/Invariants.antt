@@ -13,7 +13,7 @@ use Rattle.glob_lists.proofs.deciding.last_match.Given as goal
 -- no mapping from here on answers, and what was counted is what stripping the base and those mappings may take
 abbrev pub invariant-loop-m : goal.invariant-loop-m
 invariant-loop-m g l = record {
-  none : NoneFrom (AnswersAt (entry_list_of g.T.Pattern.seen l.list) l.path.bytes l.path.is_dir l.case) l.m;
+  none : NoneFrom (AnswersAt (entry_list_of g.T.Pattern.seen l.list) l.path.bytes l.path.is_dir l.rules) l.m;
   grows : NeverFall l.fn.counts l.counts;
   steps : l.counts.steps
       ≤ l.fn.counts.steps

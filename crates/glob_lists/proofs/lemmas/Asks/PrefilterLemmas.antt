@@ -1,22 +1,28 @@
 -- What a pattern that answers for a path asks for is shown by the path.
-use Rattle.std.proofs.Common.{◌≡◌, ◌⊎◌, inl, inr, ⊎_elim, ℕ, zero, suc, ◌+◌, ◌-◌, ◌*◌, ◌%◌, ◌^◌, ◌<◌, ◌≤◌, Bool, true, false, List, ◌++◌, length, get_or, take, drop, Option, None, Some, refl, sym, ◌∙◌, ap, subst, arith, length-drop, if◌then◌else◌}
+use Rattle.std.proofs.Common.{◌≡◌, ◌⊎◌, inl, inr, ⊎_elim, ℕ, zero, suc, ◌+◌, ◌-◌, ◌*◌, ◌%◌, ◌^◌, ◌<◌, ◌≤◌, Bool, true, false, not, List, ◌++◌, length, get_or, take, drop, Option, None, Some, refl, sym, ◌∙◌, ap, subst, arith, length-drop, if◌then◌else◌}
 use Rattle.std.specs.List.{list_any}
 use Rattle.std.specs.Char.{to_ascii_lowercase}
 use Rattle.std.specs.Int.{bit_at}
 use Rattle.std.proofs.Math.Seq.{drop-append_seam}
-use Rattle.std.proofs.lemmas.Bool.{cases_Bool, cases_eq, cond_both}
+use Rattle.std.proofs.lemmas.Bool.{cases_Bool, cases_eq, cond_both, false≢true}
 use Rattle.std.proofs.lemmas.List.{drop-drop, get_or-drop, get_or-map, get_or_default, take-append-drop}
 use Rattle.std.proofs.lemmas.List.Folds.{list_any_none}
 use Rattle.gix_glob.specs.declared.pattern.Case.{Case}
+use Rattle.glob_lists.specs.declared.rules.Rules.{Rules}
 use Rattle.gix_glob.specs.declared.pattern.Mode as pattern
-use Rattle.gix_glob.specs.declared.wildmatch.Mode as wildmatch
+use Rattle.gix_glob.specs.declared.wildmatch.Way.{Way}
 use Rattle.gix_glob.specs.Bytes.{HasByte, fold, folds, slash}
 use Rattle.gix_glob.specs.LiteralBytes.{AreAlike, EndsAlike, HasAlike, HasAlikePair, IsUnescapedUpTo, is_joining}
-use Rattle.gix_glob.specs.Matching.{Splits}
+use Rattle.gix_glob.specs.Matching.{SplitsBy}
 use Rattle.gix_glob.specs.Patterns.{looks_at_name}
 use Rattle.gix_glob.specs.RepositoryPaths.{IsBasenameStart, subject, with_case}
+use Rattle.gix_glob.specs.Ways.{way_of}
 use Rattle.gix_glob.specs.Stripping.{RestOf}
-use Rattle.glob_lists.specs.Deciding.{AnswersFor, path_mode}
+use Rattle.glob_lists.specs.Deciding.{AnswersFor}
+use Rattle.glob_lists.specs.declared.rules.Reading.{Reading}
+use Rattle.glob_lists.specs.declared.rules.Reading.TheVariants.{Crate, Git}
+use Rattle.glob_lists.specs.Rules.{AnswersAs, path_mode}
+use Rattle.gix_glob.specs.GitPaths.{FrontAndRest, git_way}
 use Rattle.glob_lists.specs.declared.asks.literals.TheConstants.{LONGEST_END}
 use Rattle.glob_lists.specs.declared.asks.probe.Probe.{Probe}
 use Rattle.glob_lists.specs.declared.asks.row.Row.{Row}
@@ -27,31 +33,31 @@ use Rattle.glob_lists.specs.Private.Asks.Showing.{HasBytes, HasEnd, HoldsBits, P
 use Rattle.glob_lists.proofs.lemmas.Asks.BitLemmas.{HoldsBits-drop}
 use Rattle.glob_lists.proofs.lemmas.Asks.EndNumbers.{without_bytes-shift}
 
+-- how a value may be matched by a text: whole, or by front and rest
+abbrev pub Relation : Type 1
+Relation = List ℕ → List ℕ → Way → Type 0
+
 -- The laws `matched_values_end_as_the_text`, `matched_values_have_the_literal_bytes` and `matched_values_have_the_literal_pairs`,
--- restated: a lemma can't cite a clause.
-abbrev pub EndsAsTheText : Type 0
-EndsAsTheText = (front end value : List ℕ) (mode : wildmatch.Mode) → list_any is_joining end ≡ false → Splits value (front ++ end) mode → EndsAlike mode value end
-
-abbrev pub HasTheBytes : Type 0
-HasTheBytes = (text value : List ℕ) (mode : wildmatch.Mode) (i b : ℕ) → IsUnescapedUpTo text i → HasByte text i b → is_joining b ≡ false → Splits value text mode → HasAlike mode value b
-
-abbrev pub HasThePairs : Type 0
-HasThePairs = (text value : List ℕ) (mode : wildmatch.Mode) (i a b : ℕ) → IsUnescapedUpTo text (i + 1) → HasByte text i a → HasByte text (i + 1) b
-    → is_joining a ≡ false → is_joining b ≡ false → Splits value text mode → HasAlikePair mode value a b
+-- restated for one way to be matched: a lemma can't cite a clause.
+pub record HasLiterals (Matches : Relation) : Type 0 where
+  pub ends : (front end value : List ℕ) (way : Way) → list_any is_joining end ≡ false → Matches value (front ++ end) way → EndsAlike way value end
+  pub bytes : (text value : List ℕ) (way : Way) (i b : ℕ) → IsUnescapedUpTo text i → HasByte text i b → is_joining b ≡ false → Matches value text way → HasAlike way value b
+  pub pairs : (text value : List ℕ) (way : Way) (i a b : ℕ) → IsUnescapedUpTo text (i + 1) → HasByte text i a → HasByte text (i + 1) b
+      → is_joining a ≡ false → is_joining b ≡ false → Matches value text way → HasAlikePair way value a b
 
 -- ---- folding
 
 -- bytes that are equal up to the case that a mode asks for are equal up to case
-fold_lower : (mode : wildmatch.Mode) (a b : ℕ) → fold mode a ≡ fold mode b → to_ascii_lowercase a ≡ to_ascii_lowercase b
-fold_lower mode a b same = ⊎_elim
-    (λ (folding : folds mode ≡ true). rw folding at same)
-    (λ (exact : folds mode ≡ false). ap to_ascii_lowercase (rw exact at same))
-    (cases_Bool (folds mode))
+fold_lower : (way : Way) (a b : ℕ) → fold way a ≡ fold way b → to_ascii_lowercase a ≡ to_ascii_lowercase b
+fold_lower way a b same = ⊎_elim
+    (λ (folding : folds way ≡ true). rw folding at same)
+    (λ (exact : folds way ≡ false). ap to_ascii_lowercase (rw exact at same))
+    (cases_Bool (folds way))
 
-alike_at : (mode : wildmatch.Mode) (xs ys : List ℕ) → AreAlike mode xs ys → (m : ℕ) → m < length xs → m < length ys → to_ascii_lowercase (get_or xs m 0) ≡ to_ascii_lowercase (get_or ys m 0)
-alike_at mode xs ys same m inside inside' =
-    fold_lower mode (get_or xs m 0) (get_or ys m 0)
-    (sym (get_or-map (fold mode) xs m 0 0 inside) ∙ (ap (λ (zs : List ℕ). get_or zs m 0) same ∙ get_or-map (fold mode) ys m 0 0 inside'))
+alike_at : (way : Way) (xs ys : List ℕ) → AreAlike way xs ys → (m : ℕ) → m < length xs → m < length ys → to_ascii_lowercase (get_or xs m 0) ≡ to_ascii_lowercase (get_or ys m 0)
+alike_at way xs ys same m inside inside' =
+    fold_lower way (get_or xs m 0) (get_or ys m 0)
+    (sym (get_or-map (fold way) xs m 0 0 inside) ∙ (ap (λ (zs : List ℕ). get_or zs m 0) same ∙ get_or-map (fold way) ys m 0 0 inside'))
 
 -- ---- ends of texts
 
@@ -81,13 +87,13 @@ literal_part text n e =
     ap is_joining same ∙ plain)
 
 -- a value that is matched ends as the text does
-ends_alike : EndsAsTheText → (text value : List ℕ) (mode : wildmatch.Mode) (n : ℕ) → EndsLiterally text n → Splits value text mode → (n ≤ length value) × SameEnd text value n
-ends_alike law text value mode n e s =
+ends_alike : (Matches : Relation) → HasLiterals Matches → (text value : List ℕ) (way : Way) (n : ℕ) → EndsLiterally text n → Matches value text way → (n ≤ length value) × SameEnd text value n
+ends_alike Matches laws text value way n e s =
     let start : ℕ = length text - n in
     let fits = e.fits in
     let long = length-drop start text in
     let whole : text ≡ take start text ++ drop start text = sym (take-append-drop start text) in
-    let ends = law (take start text) (drop start text) value mode (literal_part text n e) (subst (λ (xs : List ℕ). Splits value xs mode) whole s) in
+    let ends = laws.ends (take start text) (drop start text) value way (literal_part text n e) (subst (λ (xs : List ℕ). Matches value xs way) whole s) in
     let short = ends.fits in
     let at : ℕ = length value - length (drop start text) in
     let long' = length-drop at value in (
@@ -97,7 +103,7 @@ ends_alike law text value mode n e s =
           let in_text : start + j ≡ length text - (m + 1) = omega arith in
           let in_value : at + j ≡ length value - (m + 1) = omega arith in
           ap to_ascii_lowercase (ap (λ (k : ℕ). get_or text k 0) (sym in_text) ∙ sym (get_or-drop start text j 0))
-          ∙ (alike_at mode (drop start text) (drop at value) ends.alike j (omega arith) (omega arith)
+          ∙ (alike_at way (drop start text) (drop at value) ends.alike j (omega arith) (omega arith)
           ∙ ap to_ascii_lowercase (get_or-drop at value j 0 ∙ ap (λ (k : ℕ). get_or value k 0) in_value)),
     )
 
@@ -135,8 +141,8 @@ name_has_no_slash pattern_mode rest (Some k) name start m there =
 
 -- ---- a row
 
-module _ (ends : EndsAsTheText) (bytes : HasTheBytes) (pairs : HasThePairs) (text path value : List ℕ) (mode : wildmatch.Mode) (at : ℕ) (row : Row) (probe : Probe)
-    (shows : Shows path probe) (is : value ≡ drop at path) (s : Splits value text mode) where
+module _ (Matches : Relation) (laws : HasLiterals Matches) (text path value : List ℕ) (way : Way) (at : ℕ) (row : Row) (probe : Probe)
+    (shows : Shows path probe) (is : value ≡ drop at path) (s : Matches value text way) where
   value_length : length value ≡ length path - at
   value_length = ap (λ (xs : List ℕ). length xs) is ∙ length-drop at path
 
@@ -144,7 +150,7 @@ module _ (ends : EndsAsTheText) (bytes : HasTheBytes) (pairs : HasThePairs) (tex
   HasEnd-asked e spare =
       let n : ℕ = length_of row in
       let some = e.some in
-      let alike = ends_alike ends text value mode n e.literal s in
+      let alike = ends_alike Matches laws text value way n e.literal s in
       let fits = alike.0 in
       let whole = value_length in
       let cut : row.spare % 64 ≡ 8 * (8 - n) = omega arith in
@@ -164,13 +170,13 @@ module _ (ends : EndsAsTheText) (bytes : HasTheBytes) (pairs : HasThePairs) (tex
 
   bit_is_held : (i j : ℕ) → 0 < i → HoldsBits value held → IsNeededAt text j i ⊎ IsNeededPairAt text j i → bit_at held i ≡ 1
   bit_is_held i j some all (inl n) =
-      let has = bytes text value mode j n.byte n.unescaped n.there n.literal s in
-      let same : bit_of (get_or value has.place 0) ≡ i = ap (λ (b : ℕ). b % 32) (fold_lower mode (get_or value has.place 0) n.byte has.alike) ∙ sym n.bit in
+      let has = laws.bytes text value way j n.byte n.unescaped n.there n.literal s in
+      let same : bit_of (get_or value has.place 0) ≡ i = ap (λ (b : ℕ). b % 32) (fold_lower way (get_or value has.place 0) n.byte has.alike) ∙ sym n.bit in
       subst (λ (k : ℕ). bit_at held k ≡ 1) same (all.bytes has.place has.inside (subst (λ (k : ℕ). 0 < k) (sym same) some))
   bit_is_held i j some all (inr n) =
-      let has = pairs text value mode j n.first n.second n.unescaped n.there n.behind n.literal n.both s in
-      let first = fold_lower mode (get_or value has.place 0) n.first has.alike in
-      let second = fold_lower mode (get_or value (has.place + 1) 0) n.second has.next_alike in
+      let has = laws.pairs text value way j n.first n.second n.unescaped n.there n.behind n.literal n.both s in
+      let first = fold_lower way (get_or value has.place 0) n.first has.alike in
+      let second = fold_lower way (get_or value (has.place + 1) 0) n.second has.next_alike in
       let same : 32 + pair_of (get_or value has.place 0) (get_or value (has.place + 1) 0) ≡ i =
       ap (λ (b : ℕ). 32 + (b * 5 + to_ascii_lowercase (get_or value (has.place + 1) 0)) % 32) first
       ∙ (ap (λ (b : ℕ). 32 + (to_ascii_lowercase n.first * 5 + b) % 32) second ∙ sym n.bit) in
@@ -182,22 +188,45 @@ module _ (ends : EndsAsTheText) (bytes : HasTheBytes) (pairs : HasThePairs) (tex
       (λ (past : i ≡ 0 → ⊥). let needed = asks.needs i bit in bit_is_held i needed.0 (omega arith) (value_is_held bare) needed.1)
       (cases_eq i 0)
 
+  passes : (pattern_mode : pattern.Mode) → Asks text pattern_mode row → (is_name (part_of row.part) ≡ true → (m : ℕ) → ¬ HasByte value m slash) → Passes row probe
+  passes pattern_mode asks bare = record {
+    end = λ some. HasEnd-asked (asks.end some) asks.spare;
+    bits = λ none. HasBytes-needed (asks.bits none) bare;
+  }
+
+-- ---- a pattern, by whichever rules
+
+module _ (whole : HasLiterals SplitsBy) (parted : HasLiterals FrontAndRest) (text : List ℕ) (pattern_mode : pattern.Mode) (path rest : List ℕ) (at : ℕ) (below : rest ≡ drop at path)
+    (start : Option ℕ) (basename : IsBasenameStart rest start) (is_dir : Bool) (case : Case) (row : Row) (probe : Probe) (shows : Shows path probe) (asks : Asks text pattern_mode row) where
+  -- what the pattern looks at is matched whole
+  passes_whole : (way : Way) → SplitsBy (subject pattern_mode rest start) text way → Passes row probe
+  passes_whole way s =
+      let value : List ℕ = subject pattern_mode rest start in
+      let within = subject_is_end pattern_mode rest start in
+      let is : value ≡ drop (at + within.0) path = within.1 ∙ (ap (drop within.0) below ∙ drop-drop within.0 at path) in
+      passes SplitsBy whole text path value way (at + within.0) row probe shows is s pattern_mode asks
+      (λ name. name_has_no_slash pattern_mode rest start (asks.name name) basename)
+
+  -- the whole of what is left is matched by front and rest
+  passes_parted : (way : Way) → looks_at_name pattern_mode ≡ false → FrontAndRest rest text way → Passes row probe
+  passes_parted way other s =
+      passes FrontAndRest parted text path rest way at row probe shows below s pattern_mode asks
+      (λ name. absurd (false≢true (sym other ∙ asks.name name)))
+
+  passes_as : (reading : Reading) → AnswersAs reading text pattern_mode rest start is_dir case → Passes row probe
+  passes_as Crate answers = passes_whole (way_of (with_case path_mode case)) answers.splits
+  passes_as Git answers = ⊎_elim
+      (λ named. passes_whole (git_way case) (answers.by_name named))
+      (λ (other : looks_at_name pattern_mode ≡ false). passes_parted (git_way case) other (answers.by_path (ap not other)))
+      (cases_Bool (looks_at_name pattern_mode))
+
 -- the law `answering_patterns_pass`, restated: a lemma can't cite a clause
 abbrev pub AnsweringPasses : Type 0
-AnsweringPasses = (text : List ℕ) (pattern_mode : pattern.Mode) (base : Option (List ℕ)) (path rest : List ℕ) (is_dir : Bool) (case : Case)
-    (row : Row) (probe : Probe) → Shows path probe → Asks text pattern_mode row → RestOf case base path rest → AnswersFor text pattern_mode rest is_dir case → Passes row probe
+AnsweringPasses = (text : List ℕ) (pattern_mode : pattern.Mode) (base : Option (List ℕ)) (path rest : List ℕ) (is_dir : Bool) (rules : Rules)
+    (row : Row) (probe : Probe) → Shows path probe → Asks text pattern_mode row → RestOf rules.case base path rest → AnswersFor text pattern_mode rest is_dir rules → Passes row probe
 
 -- A pattern that answers for what a base leaves of a path asks for nothing that the path doesn't show.
-pub answering_passes : EndsAsTheText → HasTheBytes → HasThePairs → AnsweringPasses
-answering_passes ends bytes pairs text pattern_mode base path rest is_dir case row probe shows asks left answers =
-    let start = answers.basename_start in
-    let below = rest_is_end case base path rest left in
-    let within = subject_is_end pattern_mode rest start in
-    let value : List ℕ = subject pattern_mode rest start in
-    let at : ℕ = below.0 + within.0 in
-    let is : value ≡ drop at path = within.1 ∙ (ap (drop within.0) below.1 ∙ drop-drop within.0 below.0 path) in
-    let s = answers.answers.splits in record {
-      end = λ some. HasEnd-asked ends bytes pairs text path value (with_case path_mode case) at row probe shows is s (asks.end some) asks.spare;
-      bits = λ none. HasBytes-needed ends bytes pairs text path value (with_case path_mode case) at row probe shows is s (asks.bits none)
-          (λ name. name_has_no_slash pattern_mode rest start (asks.name name) answers.basename);
-    }
+pub answering_passes : HasLiterals SplitsBy → HasLiterals FrontAndRest → AnsweringPasses
+answering_passes whole parted text pattern_mode base path rest is_dir rules row probe shows asks left answers =
+    let below = rest_is_end rules.case base path rest left in
+    passes_as whole parted text pattern_mode path rest below.0 below.1 answers.basename_start answers.basename is_dir rules.case row probe shows asks rules.reading answers.answers

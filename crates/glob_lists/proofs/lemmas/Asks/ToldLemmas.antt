@@ -1,5 +1,5 @@
 -- Patterns that are told by their end: a star and a literal match where the path has the literal's bytes at its end.
-use Rattle.std.proofs.Common.{◌≡◌, ◌⊎◌, inl, inr, ⊎_elim, ℕ, zero, suc, ◌+◌, ◌-◌, ◌*◌, ◌%◌, ◌<◌, ◌≤◌, Bool, true, false, ◌==◌, List, [], ◌∷◌, ◌++◌, length, get_or, drop, Option, None, Some, refl, sym, ◌∙◌, ap, subst, arith, length-drop, length-append, append_assoc, if◌then◌else◌, eqb-true}
+use Rattle.std.proofs.Common.{◌≡◌, ◌⊎◌, inl, inr, ⊎_elim, ℕ, zero, suc, ◌+◌, ◌-◌, ◌*◌, ◌%◌, ◌<◌, ◌≤◌, Bool, true, false, not, ◌==◌, List, [], ◌∷◌, ◌++◌, length, get_or, drop, Option, None, Some, refl, sym, ◌∙◌, ap, subst, arith, length-drop, length-append, append_assoc, if◌then◌else◌, eqb-true}
 use Rattle.std.specs.List.{list_any}
 use Rattle.std.specs.Option.{ForSome}
 use Rattle.std.proofs.Math.Seq.{drop-append_seam}
@@ -7,18 +7,24 @@ use Rattle.std.proofs.lemmas.Bool.{cases_eq, cases_lt, false≢true, false_from_
 use Rattle.std.proofs.lemmas.List.{drop-drop, get_or-drop, get_or_default}
 use Rattle.std.proofs.lemmas.List.Folds.{list_any_none}
 use Rattle.gix_glob.specs.declared.pattern.Case.{Case}
+use Rattle.glob_lists.specs.declared.rules.Rules.{Rules}
 use Rattle.gix_glob.specs.declared.pattern.Mode as pattern
-use Rattle.gix_glob.specs.declared.wildmatch.Mode as wildmatch
+use Rattle.gix_glob.specs.declared.wildmatch.Way.{Way}
 use Rattle.gix_glob.specs.Bytes.{EndsInSlash, HasByte, fold, has_slash, is_special, slash, star}
 use Rattle.gix_glob.specs.LiteralBytes.{is_joining}
-use Rattle.gix_glob.specs.Matching.{Splits}
+use Rattle.gix_glob.specs.Matching.{SplitsBy}
 use Rattle.gix_glob.specs.Paths.{IsFolder}
-use Rattle.gix_glob.specs.Patterns.{is_star_and_literal, looks_at_name}
+use Rattle.gix_glob.specs.Patterns.{is_for_directories, is_star_and_literal, looks_at_name}
 use Rattle.gix_glob.specs.RepositoryPaths.{IsAfterLastSlash, IsBasenameStart, subject, with_case}
+use Rattle.gix_glob.specs.Ways.{way_of}
 use Rattle.gix_glob.specs.Stripping.{RestOf}
 use Rattle.gix_glob.proofs.lemmas.Places.{later_byte}
 use Rattle.glob_patterns.proofs.lemmas.LiteralLemmas.{AreAlike-from, star_literal_in}
-use Rattle.glob_lists.specs.Deciding.{AnswersFor, path_mode}
+use Rattle.glob_lists.specs.Deciding.{AnswersFor}
+use Rattle.glob_lists.specs.declared.rules.Reading.{Reading}
+use Rattle.glob_lists.specs.declared.rules.Reading.TheVariants.{Crate, Git}
+use Rattle.glob_lists.specs.Rules.{AnswersAs, path_mode}
+use Rattle.gix_glob.specs.GitPaths.{git_way}
 use Rattle.glob_lists.specs.declared.asks.literals.TheConstants.{LONGEST_END}
 use Rattle.glob_lists.specs.declared.asks.probe.Probe.{Probe}
 use Rattle.glob_lists.specs.declared.asks.row.Row.{Row}
@@ -141,19 +147,19 @@ has_no_slash value none = list_any_none (λ b. b == slash) value (λ m d below.
     false_from_ne_true (get_or value m d == slash) (λ is. none m (record { inside = below; is = get_or_default value m 0 d below ∙ eqb-true _ slash is })))
 
 -- a value without slash that has the bytes of the literal at its end is matched
-star_matches : (mode : wildmatch.Mode) (text value : List ℕ) (n : ℕ) → HasByte text 0 star → length text ≡ n + 1 → EndsLiterally text n → ((m : ℕ) → ¬ HasByte value m slash)
-    → n ≤ length value → ((m : ℕ) → m < n → from_end text m ≡ from_end value m) → Splits value text mode
-star_matches mode text value n first long literal bare fits same =
+star_matches : (way : Way) (text value : List ℕ) (n : ℕ) → HasByte text 0 star → length text ≡ n + 1 → EndsLiterally text n → ((m : ℕ) → ¬ HasByte value m slash)
+    → n ≤ length value → ((m : ℕ) → m < n → from_end text m ≡ from_end value m) → SplitsBy value text way
+star_matches way text value n first long literal bare fits same =
     let plain = literal_behind text n long literal in
     let cut : length (drop 1 text) ≡ n = (let l = length-drop 1 text in omega arith) in
     let at : ℕ = length value - length (drop 1 text) in
     let left = length-drop at value in
-    star_literal_in text value mode (star_first text first plain) (inr (has_no_slash value bare)) (omega arith)
-    (AreAlike-from mode (drop 1 text) (drop at value) (omega arith) (λ j below.
+    star_literal_in text value way (star_first text first plain) (inr (has_no_slash value bare)) (omega arith)
+    (AreAlike-from way (drop 1 text) (drop at value) (omega arith) (λ j below.
     let m : ℕ = n - (j + 1) in
     let in_text : length text - (m + 1) ≡ 1 + j = omega arith in
     let in_value : length value - (m + 1) ≡ at + j = omega arith in
-    ap (fold mode) (get_or-drop 1 text j 0 ∙ (ap (λ (k : ℕ). get_or text k 0) (sym in_text)
+    ap (fold way) (get_or-drop 1 text j 0 ∙ (ap (λ (k : ℕ). get_or text k 0) (sym in_text)
     ∙ (same m (omega arith) ∙ (ap (λ (k : ℕ). get_or value k 0) in_value ∙ sym (get_or-drop at value j 0)))))))
 
 -- ---- a row that tells
@@ -182,25 +188,37 @@ module _ (text path : List ℕ) (mode : pattern.Mode) (row : Row) (probe : Probe
   no_slash : (m : ℕ) → m < length_of row → ¬ (from_end path m ≡ slash)
   no_slash m below is = false≢true (sym (shape.literal.literal m below) ∙ ap is_joining (same_bytes m below ∙ is))
 
+-- what each way to match says of the name, each reading says of a pattern of names
+told_as : (text : List ℕ) (pattern_mode : pattern.Mode) (rest : List ℕ) (start : Option ℕ) (is_dir : Bool) (case : Case) → looks_at_name pattern_mode ≡ true → is_for_directories pattern_mode ≡ false
+    → ((way : Way) → SplitsBy (subject pattern_mode rest start) text way) → (reading : Reading) → AnswersAs reading text pattern_mode rest start is_dir case
+told_as text pattern_mode rest start is_dir case name any all Crate = record {
+  directory = λ yes. absurd (false≢true (sym any ∙ yes));
+  splits = all (way_of (with_case path_mode case));
+}
+told_as text pattern_mode rest start is_dir case name any all Git = record {
+  directory = λ yes. absurd (false≢true (sym any ∙ yes));
+  by_name = λ _. all (git_way case);
+  by_path = λ other. absurd (false≢true (sym (ap not name) ∙ other));
+}
+
 -- A pattern whose row tells that a path has its end answers for what a folder leaves of the path.
-pub told_answers : (text : List ℕ) (pattern_mode : pattern.Mode) (base : Option (List ℕ)) (path rest : List ℕ) (is_dir : Bool) (case : Case) (row : Row) (probe : Probe)
-    → ForSome base IsFolder → Shows path probe → Asks text pattern_mode row → Passes row probe → IsTold row probe → RestOf case base path rest → AnswersFor text pattern_mode rest is_dir case
-told_answers text pattern_mode base path rest is_dir case row probe folder shows asks passes told left =
+pub told_answers : (text : List ℕ) (pattern_mode : pattern.Mode) (base : Option (List ℕ)) (path rest : List ℕ) (is_dir : Bool) (rules : Rules) (row : Row) (probe : Probe)
+    → ForSome base IsFolder → Shows path probe → Asks text pattern_mode row → Passes row probe → IsTold row probe → RestOf rules.case base path rest → AnswersFor text pattern_mode rest is_dir rules
+told_answers text pattern_mode base path rest is_dir rules row probe folder shows asks passes told left =
     let start = basename_start_of rest in
     let value : List ℕ = subject pattern_mode rest start.0 in
     let n : ℕ = length_of row in
     let told_shape = shape text path pattern_mode row probe shows asks passes told in
     let long = (path_end text path pattern_mode row probe shows asks passes told).fits in
     let few : n ≤ 8 = (let spare = asks.spare in omega arith) in
-    let part = subject_is_part pattern_mode path rest start.0 start.1 (rest_is_part case base path rest folder left) in
+    let part = subject_is_part pattern_mode path rest start.0 start.1 (rest_is_part rules.case base path rest folder left) in
     let fits : n ≤ length value = part_is_long path value n part (omega arith) (no_slash text path pattern_mode row probe shows asks passes told) in
+    let all : (way : Way) → SplitsBy value text way =
+    λ way. star_matches way text value n told_shape.shape.star told_shape.shape.long told_shape.literal
+    (name_has_no_slash pattern_mode rest start.0 told_shape.name start.1) fits
+    (λ m below. same_bytes text path pattern_mode row probe shows asks passes told m below ∙ sym (end_of path value part.at part.is m (omega arith))) in
     record {
       basename_start = start.0;
       basename = start.1;
-      answers = record {
-        directory = λ yes. absurd (false≢true (sym told_shape.all ∙ yes));
-        splits = star_matches (with_case path_mode case) text value n told_shape.shape.star told_shape.shape.long told_shape.literal
-            (name_has_no_slash pattern_mode rest start.0 told_shape.name start.1) fits
-            (λ m below. same_bytes text path pattern_mode row probe shows asks passes told m below ∙ sym (end_of path value part.at part.is m (omega arith)));
-      };
+      answers = told_as text pattern_mode rest start.0 is_dir rules.case told_shape.name told_shape.all all rules.reading;
     }

@@ -4,9 +4,11 @@ use Rattle.std.specs.Prelude.{slice_get}
 use Rattle.std.proofs.lemmas.Bool.{cases_lt}
 use Rattle.std.proofs.lemmas.Option.{same_Some}
 use Rattle.gix_glob.specs.declared.pattern.Case.{Case}
+use Rattle.glob_lists.specs.declared.rules.Rules.{Rules}
 use Rattle.gix_glob.specs.declared.pattern.Mode as pattern
-use Rattle.gix_glob.specs.RepositoryPaths.{Answers, IsAfterLastSlash, IsBasenameStart}
-use Rattle.glob_lists.specs.Deciding.{AnswersAt, AnswersFor, AnswersUnder, PairAnswers, path_mode}
+use Rattle.gix_glob.specs.RepositoryPaths.{IsAfterLastSlash, IsBasenameStart}
+use Rattle.glob_lists.specs.Deciding.{AnswersAt, AnswersFor, AnswersUnder, PairAnswers}
+use Rattle.glob_lists.specs.Rules.{AnswersAs}
 use Rattle.gix_glob.specs.EntryLists.{EntryList}
 use Rattle.glob_lists.specs.Paths.{Path}
 use Rattle.gix_glob.specs.Entries.{Entry}
@@ -35,13 +37,13 @@ basename_once path (Some k) (Some l) x y = ap Some (omega (arith, not_before pat
 
 -- ---- a pattern and a path
 
-module _ (text : List ℕ) (mode : pattern.Mode) (path : List ℕ) (is_dir : Bool) (case : Case) (start : Option ℕ) (basename : IsBasenameStart path start) where
-  AnswersFor-only : AnswersFor text mode path is_dir case → Answers text mode path start (Some is_dir) case path_mode
+module _ (text : List ℕ) (mode : pattern.Mode) (path : List ℕ) (is_dir : Bool) (rules : Rules) (start : Option ℕ) (basename : IsBasenameStart path start) where
+  AnswersFor-only : AnswersFor text mode path is_dir rules → AnswersAs rules.reading text mode path start is_dir rules.case
   AnswersFor-only h =
-      subst (λ k. Answers text mode path k (Some is_dir) case path_mode) (basename_once path h.basename_start start h.basename basename) h.answers
+      subst (λ k. AnswersAs rules.reading text mode path k is_dir rules.case) (basename_once path h.basename_start start h.basename basename) h.answers
 
   -- what a test of the path with the place of its last part says
-  pub AnswersFor-tested : (answer : Bool) → (IsTrue answer ↔ Answers text mode path start (Some is_dir) case path_mode) → (IsTrue answer ↔ AnswersFor text mode path is_dir case)
+  pub AnswersFor-tested : (answer : Bool) → (IsTrue answer ↔ AnswersAs rules.reading text mode path start is_dir rules.case) → (IsTrue answer ↔ AnswersFor text mode path is_dir rules)
   AnswersFor-tested answer told = (
     λ yes. record { basename_start = start; basename = basename; answers = told.0 yes },
     λ h. told.1 (AnswersFor-only h),
@@ -49,51 +51,51 @@ module _ (text : List ℕ) (mode : pattern.Mode) (path : List ℕ) (is_dir : Boo
 
 -- ---- one entry
 
-module _ {V : Type 0} (base : Option (List ℕ)) (path : List ℕ) (is_dir : Bool) (case : Case) (entry : Entry V) (rest : List ℕ) (left : RestOf case base path rest) where
-  pub AnswersUnder-yes : AnswersFor entry.text entry.mode rest is_dir case → AnswersUnder base entry path is_dir case
+module _ {V : Type 0} (base : Option (List ℕ)) (path : List ℕ) (is_dir : Bool) (rules : Rules) (entry : Entry V) (rest : List ℕ) (left : RestOf rules.case base path rest) where
+  pub AnswersUnder-yes : AnswersFor entry.text entry.mode rest is_dir rules → AnswersUnder base entry path is_dir rules
   AnswersUnder-yes answers = record { rest = rest; left = left; answers = answers }
 
-  pub AnswersUnder-only : AnswersUnder base entry path is_dir case → AnswersFor entry.text entry.mode rest is_dir case
+  pub AnswersUnder-only : AnswersUnder base entry path is_dir rules → AnswersFor entry.text entry.mode rest is_dir rules
   AnswersUnder-only h =
-      subst (λ r. AnswersFor entry.text entry.mode r is_dir case) (rest_once case base path h.rest rest h.left left) h.answers
+      subst (λ r. AnswersFor entry.text entry.mode r is_dir rules) (rest_once rules.case base path h.rest rest h.left left) h.answers
 
   -- what a test of the rest with the parts of the entry's pattern says
   pub AnswersUnder-tested : (text : List ℕ) (mode : pattern.Mode) (rest_is_dir answer : Bool) → text ≡ entry.text → mode ≡ entry.mode → rest_is_dir ≡ is_dir
-      → (IsTrue answer ↔ AnswersFor text mode rest rest_is_dir case) → (IsTrue answer ↔ AnswersUnder base entry path is_dir case)
+      → (IsTrue answer ↔ AnswersFor text mode rest rest_is_dir rules) → (IsTrue answer ↔ AnswersUnder base entry path is_dir rules)
   AnswersUnder-tested text mode rest_is_dir answer text_is mode_is dir_is told =
-      let here : IsTrue answer ↔ AnswersFor entry.text entry.mode rest is_dir case = rw text_is at (rw mode_is at (rw dir_is at told)) in
+      let here : IsTrue answer ↔ AnswersFor entry.text entry.mode rest is_dir rules = rw text_is at (rw mode_is at (rw dir_is at told)) in
       (λ yes. AnswersUnder-yes (here.0 yes), λ h. here.1 (AnswersUnder-only h))
 
 -- ---- the entry at a place of a list, and the list at a place of a stack
 
-module _ {V : Type 0} (list : EntryList V) (path : List ℕ) (is_dir : Bool) (case : Case) (m : ℕ) (entry : Entry V) (here : slice_get list.entries m ≡ Some entry) where
-  pub AnswersAt-yes : AnswersUnder list.base entry path is_dir case → AnswersAt list path is_dir case m
+module _ {V : Type 0} (list : EntryList V) (path : List ℕ) (is_dir : Bool) (rules : Rules) (m : ℕ) (entry : Entry V) (here : slice_get list.entries m ≡ Some entry) where
+  pub AnswersAt-yes : AnswersUnder list.base entry path is_dir rules → AnswersAt list path is_dir rules m
   AnswersAt-yes answers = record { entry = entry; there = here; answers = answers }
 
-  pub AnswersAt-only : AnswersAt list path is_dir case m → AnswersUnder list.base entry path is_dir case
-  AnswersAt-only h = subst (λ (e : Entry V). AnswersUnder list.base e path is_dir case) (same_Some h.entry entry (sym h.there ∙ here)) h.answers
+  pub AnswersAt-only : AnswersAt list path is_dir rules m → AnswersUnder list.base entry path is_dir rules
+  AnswersAt-only h = subst (λ (e : Entry V). AnswersUnder list.base e path is_dir rules) (same_Some h.entry entry (sym h.there ∙ here)) h.answers
 
-module _ {V : Type 0} (lists : List (EntryList V)) (path : List ℕ) (is_dir : Bool) (case : Case) (i m : ℕ) (list : EntryList V) (there : slice_get lists i ≡ Some list) where
-  pub PairAnswers-yes : AnswersAt list path is_dir case m → PairAnswers lists path is_dir case i m
+module _ {V : Type 0} (lists : List (EntryList V)) (path : List ℕ) (is_dir : Bool) (rules : Rules) (i m : ℕ) (list : EntryList V) (there : slice_get lists i ≡ Some list) where
+  pub PairAnswers-yes : AnswersAt list path is_dir rules m → PairAnswers lists path is_dir rules i m
   PairAnswers-yes answers = record { list = list; there = there; answers = answers }
 
-  pub PairAnswers-only : PairAnswers lists path is_dir case i m → AnswersAt list path is_dir case m
-  PairAnswers-only h = subst (λ (l : EntryList V). AnswersAt l path is_dir case m) (same_Some h.list list (sym h.there ∙ there)) h.answers
+  pub PairAnswers-only : PairAnswers lists path is_dir rules i m → AnswersAt list path is_dir rules m
+  PairAnswers-only h = subst (λ (l : EntryList V). AnswersAt l path is_dir rules m) (same_Some h.list list (sym h.there ∙ there)) h.answers
 
   -- nothing answers for a path that doesn't begin with the base
-  pub PairAnswers-nothing_left : NothingLeft case list.base path → ¬ PairAnswers lists path is_dir case i m
+  pub PairAnswers-nothing_left : NothingLeft rules.case list.base path → ¬ PairAnswers lists path is_dir rules i m
   PairAnswers-nothing_left none h = (let at = PairAnswers-only h in none at.answers.rest at.answers.left)
 
 -- ---- a pair whose pattern is tested
 
-module _ {V : Type 0} (lists : List (EntryList V)) (case : Case) (path : Path) (i m : ℕ) (list : EntryList V) (entry : Entry V) (there : slice_get lists i ≡ Some list)
+module _ {V : Type 0} (lists : List (EntryList V)) (rules : Rules) (path : Path) (i m : ℕ) (list : EntryList V) (entry : Entry V) (there : slice_get lists i ≡ Some list)
     (here : slice_get list.entries m ≡ Some entry) where
   -- what is left of the path was tested
-  pub asked_rest : (rest : Path) (text : List ℕ) (mode : pattern.Mode) (answer : Bool) → (RestOf case list.base path.bytes rest.bytes × (rest.is_dir ≡ path.is_dir)) → text ≡ entry.text → mode ≡ entry.mode
-      → (IsTrue answer ↔ AnswersFor text mode rest.bytes rest.is_dir case) → (IsTrue answer ↔ PairAnswers lists path.bytes path.is_dir case i m)
+  pub asked_rest : (rest : Path) (text : List ℕ) (mode : pattern.Mode) (answer : Bool) → (RestOf rules.case list.base path.bytes rest.bytes × (rest.is_dir ≡ path.is_dir)) → text ≡ entry.text → mode ≡ entry.mode
+      → (IsTrue answer ↔ AnswersFor text mode rest.bytes rest.is_dir rules) → (IsTrue answer ↔ PairAnswers lists path.bytes path.is_dir rules i m)
   asked_rest rest text mode answer left text_is mode_is told =
-      let under : IsTrue answer ↔ AnswersUnder list.base entry path.bytes path.is_dir case =
-      AnswersUnder-tested list.base path.bytes path.is_dir case entry rest.bytes left.0 text mode rest.is_dir answer text_is mode_is left.1 told in (
-        λ yes. PairAnswers-yes lists path.bytes path.is_dir case i m list there (AnswersAt-yes list path.bytes path.is_dir case m entry here (under.0 yes)),
-        λ h. under.1 (AnswersAt-only list path.bytes path.is_dir case m entry here (PairAnswers-only lists path.bytes path.is_dir case i m list there h)),
+      let under : IsTrue answer ↔ AnswersUnder list.base entry path.bytes path.is_dir rules =
+      AnswersUnder-tested list.base path.bytes path.is_dir rules entry rest.bytes left.0 text mode rest.is_dir answer text_is mode_is left.1 told in (
+        λ yes. PairAnswers-yes lists path.bytes path.is_dir rules i m list there (AnswersAt-yes list path.bytes path.is_dir rules m entry here (under.0 yes)),
+        λ h. under.1 (AnswersAt-only list path.bytes path.is_dir rules m entry here (PairAnswers-only lists path.bytes path.is_dir rules i m list there h)),
       )

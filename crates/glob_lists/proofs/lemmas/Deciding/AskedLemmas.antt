@@ -3,7 +3,7 @@ use Rattle.std.proofs.Common.{◌≡◌, inl, inr, ⊎_elim, ℕ, ◌+◌, ◌�
 use Rattle.std.specs.Prelude.{slice_get, sum_by}
 use Rattle.std.proofs.lemmas.Bool.{cases_eq}
 use Rattle.std.proofs.lemmas.List.Sums.{sum_by-take-drop}
-use Rattle.gix_glob.specs.declared.pattern.Case.{Case}
+use Rattle.glob_lists.specs.declared.rules.Rules.{Rules}
 use Rattle.gix_glob.specs.EntryLists.{EntryList}
 use Rattle.gix_glob.specs.Steps.{Counts, NeverFall}
 use Rattle.glob_lists.specs.Deciding.{Decides, PairAnswers}
@@ -58,15 +58,15 @@ module _ {V : Type 0} (lists : List (EntryList V)) (more : EntryList V → ℕ) 
 
 -- ---- the last list that answers
 
-module _ {V : Type 0} (lists : List (EntryList V)) (path : Path) (case : Case) where
-  pub NoListFrom-last : (k j : ℕ) → k ≡ j + 1 → NoListFrom lists path.bytes path.is_dir case k → IsLastOfList lists path case j None → NoListFrom lists path.bytes path.is_dir case j
-  NoListFrom-last k j next later none = NoneFrom-less (λ (i : ℕ). (m : ℕ) × PairAnswers lists path.bytes path.is_dir case i m) k j next later (λ h. none h.0 h.1)
+module _ {V : Type 0} (lists : List (EntryList V)) (path : Path) (rules : Rules) where
+  pub NoListFrom-last : (k j : ℕ) → k ≡ j + 1 → NoListFrom lists path.bytes path.is_dir rules k → IsLastOfList lists path rules j None → NoListFrom lists path.bytes path.is_dir rules j
+  NoListFrom-last k j next later none = NoneFrom-less (λ (i : ℕ). (m : ℕ) × PairAnswers lists path.bytes path.is_dir rules i m) k j next later (λ h. none h.0 h.1)
 
-  pub Decides-last : (k j last : ℕ) → k ≡ j + 1 → NoListFrom lists path.bytes path.is_dir case k → IsLastOfList lists path case j (Some last) → Decides lists path.bytes path.is_dir case (Some (j, last))
+  pub Decides-last : (k j last : ℕ) → k ≡ j + 1 → NoListFrom lists path.bytes path.is_dir rules k → IsLastOfList lists path rules j (Some last) → Decides lists path.bytes path.is_dir rules (Some (j, last))
   Decides-last k j last next later found = record {
     answers = found.0;
     last = λ i m h.
-        ⊎_elim (λ (same : i ≡ j). inr (same, found.1 m (subst (λ (a : ℕ). PairAnswers lists path.bytes path.is_dir case a m) same h)))
-        (λ (apart : i ≡ j → ⊥). let low = NoneFrom-last (λ (i : ℕ). (m : ℕ) × PairAnswers lists path.bytes path.is_dir case i m) k j next later i (m, h) in inl (omega arith))
+        ⊎_elim (λ (same : i ≡ j). inr (same, found.1 m (subst (λ (a : ℕ). PairAnswers lists path.bytes path.is_dir rules a m) same h)))
+        (λ (apart : i ≡ j → ⊥). let low = NoneFrom-last (λ (i : ℕ). (m : ℕ) × PairAnswers lists path.bytes path.is_dir rules i m) k j next later i (m, h) in inl (omega arith))
         (cases_eq i j);
   }

@@ -5,7 +5,7 @@ use Rattle.std.proofs.lemmas.Bool.{cases_eq, cases_lt}
 use Rattle.std.proofs.Common.{⊎_elim}
 use Rattle.std.proofs.lemmas.List.Sums.{sum_by-take-drop}
 use Rattle.std.proofs.lemmas.Option.{slice_get_within}
-use Rattle.gix_glob.specs.declared.pattern.Case.{Case}
+use Rattle.glob_lists.specs.declared.rules.Rules.{Rules}
 use Rattle.gix_glob.specs.Entries.{Entry}
 use Rattle.gix_glob.specs.EntryLists.{EntryList}
 use Rattle.gix_glob.specs.PatternLimits.{pattern_look_limit}
@@ -21,27 +21,27 @@ use Rattle.glob_lists.proofs.lemmas.Deciding.DecisionSums.{sum_by-drop-le, sum_b
 
 -- ---- which entry answers
 
-module _ {V : Type 0} (list : EntryList V) (path : Path) (case : Case) where
+module _ {V : Type 0} (list : EntryList V) (path : Path) (rules : Rules) where
   -- none between some places, and none between the next ones
-  pub NoneAnswers-joined : (from middle to : ℕ) → NoneAnswers list path case from middle → NoneAnswers list path case middle to → NoneAnswers list path case from to
+  pub NoneAnswers-joined : (from middle to : ℕ) → NoneAnswers list path rules from middle → NoneAnswers list path rules middle to → NoneAnswers list path rules from to
   NoneAnswers-joined from middle to low high m above below answers = ⊎_elim
       (λ (before : m < middle). low m above before answers)
       (λ (past : middle ≤ m). high m past below answers)
       (cases_lt m middle)
 
   -- one entry more doesn't answer
-  pub NoneAnswers-less : (from next to : ℕ) → next ≡ from + 1 → ¬ AnswersAt list path.bytes path.is_dir case from → NoneAnswers list path case next to → NoneAnswers list path case from to
+  pub NoneAnswers-less : (from next to : ℕ) → next ≡ from + 1 → ¬ AnswersAt list path.bytes path.is_dir rules from → NoneAnswers list path rules next to → NoneAnswers list path rules from to
   NoneAnswers-less from next to is not later m above below answers = ⊎_elim
-      (λ (here : m ≡ from). not (subst (AnswersAt list path.bytes path.is_dir case) here answers))
+      (λ (here : m ≡ from). not (subst (AnswersAt list path.bytes path.is_dir rules) here answers))
       (λ (apart : m ≡ from → ⊥). later m (omega arith) below answers)
       (cases_eq m from)
 
   -- no entry stands past the last one
-  pub NoneAnswers-all : (end : ℕ) → length list.entries ≤ end → NoneAnswers list path case 0 end → (m : ℕ) → ¬ AnswersAt list path.bytes path.is_dir case m
+  pub NoneAnswers-all : (end : ℕ) → length list.entries ≤ end → NoneAnswers list path rules 0 end → (m : ℕ) → ¬ AnswersAt list path.bytes path.is_dir rules m
   NoneAnswers-all end all none m answers = (let inside = slice_get_within list.entries m answers.entry answers.there in none m (omega arith) (omega arith) answers)
 
   -- the next entry that answers, looked for from the end on, is the last one
-  pub IsLastMatch-next : (passed_from end place : ℕ) → length list.entries ≤ end → IsNextMatch list path case passed_from end place → IsLastMatch list path case (Some place)
+  pub IsLastMatch-next : (passed_from end place : ℕ) → length list.entries ≤ end → IsNextMatch list path rules passed_from end place → IsLastMatch list path rules (Some place)
   IsLastMatch-next passed_from end place all next = (
     next.answers,
     λ m answers.
@@ -53,18 +53,18 @@ module _ {V : Type 0} (list : EntryList V) (path : Path) (case : Case) where
   )
 
   -- what the next match from the end on is
-  pub IsLastMatch-found : (passed_from end : ℕ) (found : Option ℕ) → length list.entries ≤ end → MatchOption found (NoneAnswers list path case 0 end) (IsNextMatch list path case passed_from end)
-      → IsLastMatch list path case found
+  pub IsLastMatch-found : (passed_from end : ℕ) (found : Option ℕ) → length list.entries ≤ end → MatchOption found (NoneAnswers list path rules 0 end) (IsNextMatch list path rules passed_from end)
+      → IsLastMatch list path rules found
   IsLastMatch-found passed_from end None all none = NoneAnswers-all end all none
   IsLastMatch-found passed_from end (Some place) all next = IsLastMatch-next passed_from end place all next
 
 -- what is said of a list is said of it in its stack
-module _ {V : Type 0} (lists : List (EntryList V)) (path : Path) (case : Case) (i : ℕ) (list : EntryList V) (there : slice_get lists i ≡ Some list) where
-  pub IsLastOfList-at : (found : Option ℕ) → IsLastMatch list path case found → IsLastOfList lists path case i found
-  IsLastOfList-at None none = λ m answers. none m (PairAnswers-only lists path.bytes path.is_dir case i m list there answers)
+module _ {V : Type 0} (lists : List (EntryList V)) (path : Path) (rules : Rules) (i : ℕ) (list : EntryList V) (there : slice_get lists i ≡ Some list) where
+  pub IsLastOfList-at : (found : Option ℕ) → IsLastMatch list path rules found → IsLastOfList lists path rules i found
+  IsLastOfList-at None none = λ m answers. none m (PairAnswers-only lists path.bytes path.is_dir rules i m list there answers)
   IsLastOfList-at (Some last) h = (
-    PairAnswers-yes lists path.bytes path.is_dir case i last list there h.0,
-    λ m answers. h.1 m (PairAnswers-only lists path.bytes path.is_dir case i m list there answers),
+    PairAnswers-yes lists path.bytes path.is_dir rules i last list there h.0,
+    λ m answers. h.1 m (PairAnswers-only lists path.bytes path.is_dir rules i m list there answers),
   )
 
 -- ---- what that takes

@@ -2,7 +2,7 @@
 use Rattle.std.proofs.Common.{◌≡◌, inl, inr, ℕ, ◌-◌, ◌*◌, List, [], ◌∷◌, ◌++◌, length, Option, None, Some, sym, ◌∙◌, ap, subst, arith}
 use Rattle.std.specs.Prelude.{slice_get}
 use Rattle.std.proofs.lemmas.Option.{same_Some, slice_get_within}
-use Rattle.gix_glob.specs.declared.pattern.Case.{Case}
+use Rattle.glob_lists.specs.declared.rules.Rules.{Rules}
 use Rattle.gix_glob.specs.declared.pattern.Mode as pattern
 use Rattle.gix_glob.specs.Entries.{Entry}
 use Rattle.gix_glob.specs.EntryLists.{EntryList}
@@ -57,32 +57,32 @@ module _ {V : Type 0} (list : EntryList V) (rows : List Row) (are : AreAsked lis
       asks.spare
 
   -- the row of an entry that answers passes
-  pub row_passes : (path : Path) (case : Case) (probe : Probe) → AnsweringPasses → Shows path.bytes probe → (m : ℕ) → AnswersAt list path.bytes path.is_dir case m
+  pub row_passes : (path : Path) (rules : Rules) (probe : Probe) → AnsweringPasses → Shows path.bytes probe → (m : ℕ) → AnswersAt list path.bytes path.is_dir rules m
       → (row : Row) × (slice_get rows m ≡ Some row) × Passes row probe
-  row_passes path case probe law shows m answers =
+  row_passes path rules probe law shows m answers =
       let inside = slice_get_within list.entries m answers.entry answers.there in
       let many = are.many in
       let row = slice_get-inside rows m (omega arith) in
       let asks = are.each m answers.entry row.0 answers.there row.1 in
       let under = answers.answers in
-      (row.0, row.1, law answers.entry.text answers.entry.mode list.base path.bytes under.rest path.is_dir case row.0 probe shows asks under.left under.answers)
+      (row.0, row.1, law answers.entry.text answers.entry.mode list.base path.bytes under.rest path.is_dir rules row.0 probe shows asks under.left under.answers)
 
   -- between places between which no row passes no entry answers
-  pub NoneAnswers-passed : (path : Path) (case : Case) (probe : Probe) → AnsweringPasses → Shows path.bytes probe → (from to : ℕ) → NonePasses rows probe from to → NoneAnswers list path case from to
-  NoneAnswers-passed path case probe law shows from to none m low below answers =
-      let at = row_passes path case probe law shows m answers in
+  pub NoneAnswers-passed : (path : Path) (rules : Rules) (probe : Probe) → AnsweringPasses → Shows path.bytes probe → (from to : ℕ) → NonePasses rows probe from to → NoneAnswers list path rules from to
+  NoneAnswers-passed path rules probe law shows from to none m low below answers =
+      let at = row_passes path rules probe law shows m answers in
       none m at.0 low below at.1 at.2
 
   -- where a path shows nothing that the rows ask for together, no entry answers
-  pub none_seen_answers : (path : Path) (case : Case) (probe : Probe) (sight : Sight) → AnsweringPasses → Shows path.bytes probe → SeesAll rows sight → IsUnseen (Some sight) probe
-      → (m : ℕ) → ¬ AnswersAt list path.bytes path.is_dir case m
-  none_seen_answers path case probe sight law shows sees unseen m answers =
-      let at = row_passes path case probe law shows m answers in
+  pub none_seen_answers : (path : Path) (rules : Rules) (probe : Probe) (sight : Sight) → AnsweringPasses → Shows path.bytes probe → SeesAll rows sight → IsUnseen (Some sight) probe
+      → (m : ℕ) → ¬ AnswersAt list path.bytes path.is_dir rules m
+  none_seen_answers path rules probe sight law shows sees unseen m answers =
+      let at = row_passes path rules probe law shows m answers in
       unseen (Passes-seen probe sight at.0 (rows_spare_bytes m at.0 at.1) (sees m at.0 at.1) at.2)
 
 -- where it is known that a path shows nothing that the rows ask for together, no entry answers
-pub unseen_answers : {V : Type 0} (list : EntryList V) (rows : ListRows) → AreRowsOf list rows → (path : Path) (case : Case) (probe : Probe) (sight : Option Sight) → sight ≡ rows.sight → AnsweringPasses
-    → Shows path.bytes probe → IsUnseen sight probe → (m : ℕ) → ¬ AnswersAt list path.bytes path.is_dir case m
-unseen_answers list rows are path case probe None is law shows unseen m = absurd unseen
-unseen_answers list rows are path case probe (Some sight) is law shows unseen m =
-    none_seen_answers list rows.rows.items are.asked path case probe sight law shows (rw (← is) at are.seen) unseen m
+pub unseen_answers : {V : Type 0} (list : EntryList V) (rows : ListRows) → AreRowsOf list rows → (path : Path) (rules : Rules) (probe : Probe) (sight : Option Sight) → sight ≡ rows.sight → AnsweringPasses
+    → Shows path.bytes probe → IsUnseen sight probe → (m : ℕ) → ¬ AnswersAt list path.bytes path.is_dir rules m
+unseen_answers list rows are path rules probe None is law shows unseen m = absurd unseen
+unseen_answers list rows are path rules probe (Some sight) is law shows unseen m =
+    none_seen_answers list rows.rows.items are.asked path rules probe sight law shows (rw (← is) at are.seen) unseen m

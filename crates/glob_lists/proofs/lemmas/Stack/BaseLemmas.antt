@@ -5,6 +5,7 @@ use Rattle.std.specs.Char.{to_ascii_lowercase}
 use Rattle.std.proofs.lemmas.List.{get_or-map, get_or_past, length-map}
 use Rattle.std.proofs.Math.ListN.{get_or-append}
 use Rattle.gix_glob.specs.declared.pattern.Case.{Case}
+use Rattle.glob_lists.specs.declared.rules.Rules.{Rules}
 use Rattle.gix_glob.specs.declared.pattern.Case.TheVariants.{Sensitive, Fold}
 use Rattle.gix_glob.specs.EntryLists.{EntryList}
 use Rattle.gix_glob.specs.Stripping.{Rest, RestOf, folding_by}
@@ -42,7 +43,7 @@ Begins-left case None path rest is = record { within = omega arith; inside = ome
 Begins-left case (Some base) path rest is = Begins-rest case base path rest is
 
 -- a list that has an answer for a path has a base that begins it
-pub Begins-answers : {V : Type 0} (lists : List (EntryList V)) (path : List ℕ) (is_dir : Bool) (case : Case) (i m : ℕ) → PairAnswers lists path is_dir case i m → Begins (base_at lists i) path
-Begins-answers {V} lists path is_dir case i m h =
+pub Begins-answers : {V : Type 0} (lists : List (EntryList V)) (path : List ℕ) (is_dir : Bool) (rules : Rules) (i m : ℕ) → PairAnswers lists path is_dir rules i m → Begins (base_at lists i) path
+Begins-answers {V} lists path is_dir rules i m h =
     subst (λ (l : Option (EntryList V)). Begins (base_of l) path) (sym h.there)
-    (Begins-left case h.list.base path h.answers.answers.rest h.answers.answers.left)
+    (Begins-left rules.case h.list.base path h.answers.answers.rest h.answers.answers.left)

@@ -4,7 +4,7 @@ use Rattle.std.specs.Prelude.{slice_get}
 use Rattle.std.proofs.lemmas.Bool.{cases_eq, cases_lt}
 use Rattle.std.proofs.lemmas.List.{length-reverse}
 use Rattle.std.proofs.lemmas.Option.{slice_get_within}
-use Rattle.gix_glob.specs.declared.pattern.Case.{Case}
+use Rattle.glob_lists.specs.declared.rules.Rules.{Rules}
 use Rattle.gix_glob.specs.EntryLists.{EntryList}
 use Rattle.glob_lists.specs.Deciding.{AnswersAt, PairAnswers}
 use Rattle.glob_lists.specs.Index.{AreMatches, ComesBefore}
@@ -14,16 +14,16 @@ use Rattle.glob_lists.specs.Private.Stack.Finding.{AreFoundFrom, IsFrom}
 use Rattle.glob_lists.proofs.lemmas.Deciding.Answering.{PairAnswers-only, PairAnswers-yes}
 use Rattle.glob_lists.proofs.lemmas.Elements.{slice_get-push_cases, slice_get-push_new, slice_get-push_old, slice_get-reverse, slice_get-reverse_back}
 
-module _ {V : Type 0} (lists : List (EntryList V)) (path : Path) (case : Case) where
+module _ {V : Type 0} (lists : List (EntryList V)) (path : Path) (rules : Rules) where
   abbrev Answer : ℕ → ℕ → Type 0
-  Answer i m = PairAnswers lists path.bytes path.is_dir case i m
+  Answer i m = PairAnswers lists path.bytes path.is_dir rules i m
 
   -- no entry of a list from one place up to another answers
   abbrev NoneBetween : ℕ → ℕ → ℕ → Type 0
   NoneBetween j from to = (m : ℕ) → from ≤ m → m < to → ¬ Answer j m
 
   abbrev Found : ℕ → ℕ → List (ℕ × ℕ) → Type 0
-  Found j n found = AreFoundFrom lists path case j n found
+  Found j n found = AreFoundFrom lists path rules j n found
 
   -- past the last list nothing is found
   pub AreFoundFrom-none : (j n : ℕ) (found : List (ℕ × ℕ)) → length lists ≤ j → found ≡ [] → Found j n found
@@ -111,7 +111,7 @@ module _ {V : Type 0} (lists : List (EntryList V)) (path : Path) (case : Case) w
         old : {i m : ℕ} → (x : ℕ) × (slice_get found x ≡ Some (i, m)) → (x : ℕ) × (slice_get (found ++ (j, n) ∷ []) x ≡ Some (i, m))
         old {i} {m} x = (x.0, slice_get-push_old found (j, n) x.0 (i, m) x.1)
 
-  pub AreFoundFrom-all : (found : List (ℕ × ℕ)) → Found 0 0 found → AreMatches lists path.bytes path.is_dir case (reverse found)
+  pub AreFoundFrom-all : (found : List (ℕ × ℕ)) → Found 0 0 found → AreMatches lists path.bytes path.is_dir rules (reverse found)
   AreFoundFrom-all found h = record {
     each = λ x pair got. h.each (length found - 1 - x) pair (slice_get-reverse found x pair got);
     rising = λ x y a b less got_a got_b.
@@ -127,8 +127,8 @@ module _ {V : Type 0} (lists : List (EntryList V)) (path : Path) (case : Case) w
 
   module _ (j : ℕ) (list : EntryList V) (there : slice_get lists j ≡ Some list) where
     -- the pairs of the list
-    no_pair : (m : ℕ) → ¬ AnswersAt list path.bytes path.is_dir case m → ¬ Answer j m
-    no_pair m not answers = not (PairAnswers-only lists path.bytes path.is_dir case j m list there answers)
+    no_pair : (m : ℕ) → ¬ AnswersAt list path.bytes path.is_dir rules m → ¬ Answer j m
+    no_pair m not answers = not (PairAnswers-only lists path.bytes path.is_dir rules j m list there answers)
 
     -- past its last entry as much is found as from the next list on
     pub AreFoundFrom-list : (next n : ℕ) (found : List (ℕ × ℕ)) → next ≡ j + 1 → length list.entries ≤ n → Found next 0 found → Found j n found
@@ -137,7 +137,7 @@ module _ {V : Type 0} (lists : List (EntryList V)) (path : Path) (case : Case) w
         (λ (less : k < next). ⊎_elim
         (λ (later : j < k). absurd (omega arith))
         (λ (same : (j ≡ k) × (n ≤ e)).
-        let at = PairAnswers-only lists path.bytes path.is_dir case j e list there (subst (λ (a : ℕ). Answer a e) (sym same.0) answers) in
+        let at = PairAnswers-only lists path.bytes path.is_dir rules j e list there (subst (λ (a : ℕ). Answer a e) (sym same.0) answers) in
         let inside = slice_get_within list.entries e at.entry at.there in
         absurd (omega (arith, same.1)))
         from)
@@ -146,16 +146,16 @@ module _ {V : Type 0} (lists : List (EntryList V)) (path : Path) (case : Case) w
         h
 
     -- its next entry that answers
-    pub AreFoundFrom-match : (n k m : ℕ) (found : List (ℕ × ℕ)) → IsNextMatch list path case n k m → Found j k found → Found j n (found ++ (j, m) ∷ [])
+    pub AreFoundFrom-match : (n k m : ℕ) (found : List (ℕ × ℕ)) → IsNextMatch list path rules n k m → Found j k found → Found j n (found ++ (j, m) ∷ [])
     AreFoundFrom-match n k m found next h =
         let here : n ≡ m = sym next.here in
         let below = next.below in
         subst (λ (a : ℕ). Found j a (found ++ (j, m) ∷ [])) (sym here)
-        (AreFoundFrom-here j m k found (omega arith) (PairAnswers-yes lists path.bytes path.is_dir case j m list there next.answers)
+        (AreFoundFrom-here j m k found (omega arith) (PairAnswers-yes lists path.bytes path.is_dir rules j m list there next.answers)
         (λ e low high. no_pair e (next.between e (omega arith) high)) h)
 
     -- none is left
-    pub AreFoundFrom-end : (k : ℕ) (found : List (ℕ × ℕ)) → NoneAnswers list path case 0 k → Found j k found → Found j 0 found
+    pub AreFoundFrom-end : (k : ℕ) (found : List (ℕ × ℕ)) → NoneAnswers list path rules 0 k → Found j k found → Found j 0 found
     AreFoundFrom-end k found none h = AreFoundFrom-skip j 0 j k found (inr (refl, omega arith))
         (λ i e from before answers. ⊎_elim
         (λ (less : i < j). ⊎_elim

@@ -14,7 +14,7 @@ invariant-candidates g l = record {
   other : 1 < length l.heads → l.walk.other.0 ≤ l.walk.passed_from;
   walk : (1 < length l.heads → AreChained l.rows l.heads) → IsWalkOver l.rows l.heads l.probe l.walk;
   none : All (λ pattern. IsLawfulEntry (g.P.Viewed.seen pattern)) l.patterns → AreAsked (map g.P.Viewed.seen l.patterns) l.rows → (1 < length l.heads → AreChained l.rows l.heads)
-      → NoneFrom (AnswersAt (list_without_base (map g.P.Viewed.seen l.patterns)) l.path.bytes l.path.is_dir l.case) l.walk.passed_from;
+      → NoneFrom (AnswersAt (list_without_base (map g.P.Viewed.seen l.patterns)) l.path.bytes l.path.is_dir l.rules) l.walk.passed_from;
 }
 
 abbrev pub decreases-candidates : goal.decreases-candidates

@@ -1,7 +1,7 @@
 -- What the entries of one list answer for a path, from the last one to the first, and what it takes to find that.
 use Rattle.std.specs.Prelude.{◌≡◌, ◌↔◌, ℕ, ◌+◌, ◌<◌, ◌≤◌, Bool, IsTrue, List, Option, MatchOption, drop, length, sum_by}
 use Rattle.std.specs.Option.{ForSome}
-use Rattle.gix_glob.specs.declared.pattern.Case.{Case}
+use Rattle.glob_lists.specs.declared.rules.Rules.{Rules}
 use Rattle.gix_glob.specs.EntryLists.{EntryList}
 use Rattle.gix_glob.specs.Paths.{IsFolder}
 use Rattle.gix_glob.specs.PatternLimits.{pattern_look_limit}
@@ -20,31 +20,31 @@ use Rattle.glob_lists.specs.Private.Asks.Showing.{Shows}
 use Rattle.glob_lists.specs.Private.Lists.Walking.{IsInside, IsWalkOver}
 
 -- The answer tells whether a pattern of this row answers for what some folder leaves of the path that shows the probe.
-abbrev pub TellsBelow : Row → Probe → List ℕ → pattern.Mode → Option ℕ → Path → Case → Bool → Type 0
-TellsBelow row probe text mode place rest case answer =
-    (base : Option (List ℕ)) (path : List ℕ) → ForSome base IsFolder → Shows path probe → RestOf case base path rest.bytes → IsPattern text mode place
-    → IsTrue answer ↔ AnswersFor text mode rest.bytes rest.is_dir case
+abbrev pub TellsBelow : Row → Probe → List ℕ → pattern.Mode → Option ℕ → Path → Rules → Bool → Type 0
+TellsBelow row probe text mode place rest rules answer =
+    (base : Option (List ℕ)) (path : List ℕ) → ForSome base IsFolder → Shows path probe → RestOf rules.case base path rest.bytes → IsPattern text mode place
+    → IsTrue answer ↔ AnswersFor text mode rest.bytes rest.is_dir rules
 
 -- the place of the last entry of the list that answers, where there is one
-abbrev pub IsLastMatch : {V : Type 0} → EntryList V → Path → Case → Option ℕ → Type 0
-IsLastMatch list path case found =
-    MatchOption found ((m : ℕ) → ¬ AnswersAt list path.bytes path.is_dir case m)
-    (λ last. AnswersAt list path.bytes path.is_dir case last × ((m : ℕ) → AnswersAt list path.bytes path.is_dir case m → m ≤ last))
+abbrev pub IsLastMatch : {V : Type 0} → EntryList V → Path → Rules → Option ℕ → Type 0
+IsLastMatch list path rules found =
+    MatchOption found ((m : ℕ) → ¬ AnswersAt list path.bytes path.is_dir rules m)
+    (λ last. AnswersAt list path.bytes path.is_dir rules last × ((m : ℕ) → AnswersAt list path.bytes path.is_dir rules m → m ≤ last))
 
 -- no entry from one place up to another answers
-abbrev pub NoneAnswers : {V : Type 0} → EntryList V → Path → Case → ℕ → ℕ → Type 0
-NoneAnswers list path case from to = (m : ℕ) → from ≤ m → m < to → ¬ AnswersAt list path.bytes path.is_dir case m
+abbrev pub NoneAnswers : {V : Type 0} → EntryList V → Path → Rules → ℕ → ℕ → Type 0
+NoneAnswers list path rules from to = (m : ℕ) → from ≤ m → m < to → ¬ AnswersAt list path.bytes path.is_dir rules m
 
 -- The place is the one that was come to, its entry answers, and from there up to `end` no other one does.
-pub record IsNextMatch {V : Type 0} (list : EntryList V) (path : Path) (case : Case) (passed_from end place : ℕ) : Type 0 where
+pub record IsNextMatch {V : Type 0} (list : EntryList V) (path : Path) (rules : Rules) (passed_from end place : ℕ) : Type 0 where
   pub here : place ≡ passed_from
   pub below : passed_from < end
-  pub answers : AnswersAt list path.bytes path.is_dir case place
-  pub between : NoneAnswers list path case (passed_from + 1) end
+  pub answers : AnswersAt list path.bytes path.is_dir rules place
+  pub between : NoneAnswers list path rules (passed_from + 1) end
 
 -- The base of the list leaves this of the path.
-pub record IsRest {V : Type 0} (list : EntryList V) (path : Path) (case : Case) (rest : Path) : Type 0 where
-  pub left : RestOf case list.base path.bytes rest.bytes
+pub record IsRest {V : Type 0} (list : EntryList V) (path : Path) (rules : Rules) (rest : Path) : Type 0 where
+  pub left : RestOf rules.case list.base path.bytes rest.bytes
   pub is_dir : rest.is_dir ≡ path.is_dir
 
 -- The walk is one over the rows.

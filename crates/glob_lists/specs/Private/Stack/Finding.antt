@@ -1,6 +1,6 @@
 -- What prepared lists answer for a path, from the last one to the first, and what it takes to find that.
 use Rattle.std.specs.Prelude.{◌≡◌, ◌⊎◌, ℕ, ◌<◌, ◌≤◌, List, Some, length, slice_get}
-use Rattle.gix_glob.specs.declared.pattern.Case.{Case}
+use Rattle.glob_lists.specs.declared.rules.Rules.{Rules}
 use Rattle.gix_glob.specs.EntryLists.{EntryList}
 use Rattle.gix_glob.specs.Steps.{Counts}
 use Rattle.glob_lists.specs.Deciding.{PairAnswers}
@@ -22,8 +22,8 @@ abbrev pub IsFrom : ℕ → ℕ → ℕ → ℕ → Type 0
 IsFrom j n i m = (j < i) ⊎ ((j ≡ i) × (n ≤ m))
 
 -- The pairs from (j, n) on that answer, each of them once, from the last one to the first.
-pub record AreFoundFrom {V : Type 0} (lists : List (EntryList V)) (path : Path) (case : Case) (j n : ℕ) (found : List (ℕ × ℕ)) : Type 0 where
-  pub each : (x : ℕ) (pair : ℕ × ℕ) → slice_get found x ≡ Some pair → PairAnswers lists path.bytes path.is_dir case pair.0 pair.1
+pub record AreFoundFrom {V : Type 0} (lists : List (EntryList V)) (path : Path) (rules : Rules) (j n : ℕ) (found : List (ℕ × ℕ)) : Type 0 where
+  pub each : (x : ℕ) (pair : ℕ × ℕ) → slice_get found x ≡ Some pair → PairAnswers lists path.bytes path.is_dir rules pair.0 pair.1
   pub from : (x : ℕ) (pair : ℕ × ℕ) → slice_get found x ≡ Some pair → IsFrom j n pair.0 pair.1
   pub falling : (x y : ℕ) (a b : ℕ × ℕ) → x < y → slice_get found x ≡ Some a → slice_get found y ≡ Some b → ComesBefore b.0 b.1 a.0 a.1
-  pub all : (i m : ℕ) → PairAnswers lists path.bytes path.is_dir case i m → IsFrom j n i m → (x : ℕ) × (slice_get found x ≡ Some (i, m))
+  pub all : (i m : ℕ) → PairAnswers lists path.bytes path.is_dir rules i m → IsFrom j n i m → (x : ℕ) × (slice_get found x ≡ Some (i, m))

@@ -3,7 +3,7 @@ use Rattle.std.proofs.Common.{◌≡◌, ◌⊎◌, inl, inr, ℕ, suc, ◌+◌,
 use Rattle.std.proofs.Math.Seq.{drop-append_seam, get_or-append_seam, take-suc}
 use Rattle.std.proofs.Math.ListN.{drop_of_length-le, get_or-append}
 use Rattle.std.proofs.lemmas.List.{take-append-drop, drop-drop, get_or-drop, length-take}
-use Rattle.glob_matcher.specs.declared.wildmatch.mode.Mode.{Mode}
+use Rattle.glob_matcher.specs.declared.wildmatch.way.Way.{Way}
 use Rattle.glob_matcher.specs.Bytes.{EndsInSlash, NoSlash, slash}
 use Rattle.glob_matcher.specs.Tokens.{Token, Byte, Any, OneOf, Free, Local, Dirs, Nothing, TokenAt, From}
 use Rattle.glob_matcher.specs.Matching.{OneByte, Lang, IsCut, SplitsFrom}
@@ -68,8 +68,8 @@ IsOne Any = Unit {0}
 IsOne (OneOf set) = Unit {0}
 IsOne _ = ⊥
 
-module _ (mode : Mode) where
-  pub fits_one : (t : Token) (c : ℕ) → Fits mode t c → IsOne t
+module _ (way : Way) where
+  pub fits_one : (t : Token) (c : ℕ) → Fits way t c → IsOne t
   fits_one (Byte b) c fits = tt
   fits_one Any c fits = tt
   fits_one (OneOf set) c fits = tt
@@ -78,7 +78,7 @@ module _ (mode : Mode) where
   fits_one Dirs c fits = absurd fits
   fits_one Nothing c fits = absurd fits
 
-  pub lang_is_one : (t : Token) (piece : List ℕ) → IsOne t → Lang mode t piece → OneByte (Fits mode t) piece
+  pub lang_is_one : (t : Token) (piece : List ℕ) → IsOne t → Lang way t piece → OneByte (Fits way t) piece
   lang_is_one (Byte b) piece one w = w
   lang_is_one Any piece one w = w
   lang_is_one (OneOf set) piece one w = w
@@ -87,7 +87,7 @@ module _ (mode : Mode) where
   lang_is_one Dirs piece one w = absurd one
   lang_is_one Nothing piece one w = absurd one
 
-  pub one_is_lang : (t : Token) (piece : List ℕ) → OneByte (Fits mode t) piece → Lang mode t piece
+  pub one_is_lang : (t : Token) (piece : List ℕ) → OneByte (Fits way t) piece → Lang way t piece
   one_is_lang (Byte b) piece w = w
   one_is_lang Any piece w = w
   one_is_lang (OneOf set) piece w = w
@@ -132,92 +132,92 @@ module _ (v : List ℕ) (k e : ℕ) where
       ap (λ (n : ℕ). get_or v n 0) (sym place) ∙ (sym (piece_at v k e piece x (length ends.front) (omega arith)) ∙ last) in
       inr (record { past = omega arith; inside = x.high; slash = byte })
 
-module _ (mode : Mode) (p v : List ℕ) where
+module _ (way : Way) (p v : List ℕ) where
   -- What the first token takes, and what the rest splits.
-  pub token_in : (i j k e : ℕ) (t : Token) (piece : List ℕ) → TokenAt mode p i t j
-      → IsPiece v k e piece → Lang mode t piece → SplitsFrom v e p j mode → SplitsFrom v k p i mode
+  pub token_in : (i j k e : ℕ) (t : Token) (piece : List ℕ) → TokenAt way p i t j
+      → IsPiece v k e piece → Lang way t piece → SplitsFrom v e p j way → SplitsFrom v k p i way
   token_in i j k e t piece here x w later = record {
     tokens = t ∷ later.tokens;
     read = (j, here, later.read);
     cut = (piece, drop e v, x.joined, w, later.cut);
   }
 
-  pub token_out : (i j k : ℕ) (t : Token) → TokenAt mode p i t j → k ≤ length v
-      → SplitsFrom v k p i mode → (e : ℕ) × (piece : List ℕ) × IsPiece v k e piece × Lang mode t piece × SplitsFrom v e p j mode
+  pub token_out : (i j k : ℕ) (t : Token) → TokenAt way p i t j → k ≤ length v
+      → SplitsFrom v k p i way → (e : ℕ) × (piece : List ℕ) × IsPiece v k e piece × Lang way t piece × SplitsFrom v e p j way
   token_out i j k t here inside all = out all.tokens all.read all.cut where
-    out : (ts : List Token) → From mode p i ts → IsCut mode ts (drop k v)
-        → (e : ℕ) × (piece : List ℕ) × IsPiece v k e piece × Lang mode t piece × SplitsFrom v e p j mode
-    out [] read cut = let here_inside = TokenAt-inside mode p i t j here in absurd (omega arith)
+    out : (ts : List Token) → From way p i ts → IsCut way ts (drop k v)
+        → (e : ℕ) × (piece : List ℕ) × IsPiece v k e piece × Lang way t piece × SplitsFrom v e p j way
+    out [] read cut = let here_inside = TokenAt-inside way p i t j here in absurd (omega arith)
     out (u ∷ us) read cut =
-        let same = TokenAt-unique mode p i u t read.0 j read.1 here in
+        let same = TokenAt-unique way p i u t read.0 j read.1 here in
         let parts = piece_of v k cut.0 cut.1 inside cut.2 in (
           k + length cut.0,
           cut.0,
           parts.0,
-          subst (λ (x : Token). Lang mode x cut.0) same.0 cut.3,
+          subst (λ (x : Token). Lang way x cut.0) same.0 cut.3,
           record {
             tokens = us;
-            read = subst (λ (n : ℕ). From mode p n us) same.1 read.2;
-            cut = subst (λ (xs : List ℕ). IsCut mode us xs) parts.1 cut.4;
+            read = subst (λ (n : ℕ). From way p n us) same.1 read.2;
+            cut = subst (λ (xs : List ℕ). IsCut way us xs) parts.1 cut.4;
           },
         )
 
   -- The tokens from the pattern's end on split what is empty.
-  pub end_in : (i k : ℕ) → i ≡ length p → length v ≤ k → SplitsFrom v k p i mode
+  pub end_in : (i k : ℕ) → i ≡ length p → length v ≤ k → SplitsFrom v k p i way
   end_in i k at_end past = record { tokens = []; read = at_end; cut = drop_of_length-le v past }
 
-  pub end_out : (i k : ℕ) → i ≡ length p → SplitsFrom v k p i mode → length v ≤ k
+  pub end_out : (i k : ℕ) → i ≡ length p → SplitsFrom v k p i way → length v ≤ k
   end_out i k at_end all = out all.tokens all.read all.cut where
-    out : (ts : List Token) → From mode p i ts → IsCut mode ts (drop k v) → length v ≤ k
+    out : (ts : List Token) → From way p i ts → IsCut way ts (drop k v) → length v ≤ k
     out [] read cut =
         let none : length v - k ≡ 0 = sym (length-drop k v) ∙ ap (λ (xs : List ℕ). length xs) cut in omega arith
-    out (u ∷ us) read cut = let here_inside = TokenAt-inside mode p i u read.0 read.1 in absurd (omega arith)
+    out (u ∷ us) read cut = let here_inside = TokenAt-inside way p i u read.0 read.1 in absurd (omega arith)
 
   -- One byte taken.
-  pub one_in : (i j k : ℕ) (t : Token) → TokenAt mode p i t j → k < length v
-      → Fits mode t (get_or v k 0) → SplitsFrom v (k + 1) p j mode → SplitsFrom v k p i mode
+  pub one_in : (i j k : ℕ) (t : Token) → TokenAt way p i t j → k < length v
+      → Fits way t (get_or v k 0) → SplitsFrom v (k + 1) p j way → SplitsFrom v k p i way
   one_in i j k t here inside fits later =
-      let one = one_byte_in (Fits mode t) v k inside fits in
+      let one = one_byte_in (Fits way t) v k inside fits in
       record {
         tokens = t ∷ later.tokens;
         read = (j, here, later.read);
-        cut = (get_or v k 0 ∷ [], drop (k + 1) v, one.1, one_is_lang mode t (get_or v k 0 ∷ []) one.0, later.cut);
+        cut = (get_or v k 0 ∷ [], drop (k + 1) v, one.1, one_is_lang way t (get_or v k 0 ∷ []) one.0, later.cut);
       }
 
-  pub one_out : (i j k : ℕ) (t : Token) → IsOne t → TokenAt mode p i t j
-      → SplitsFrom v k p i mode → (k < length v) × Fits mode t (get_or v k 0) × SplitsFrom v (k + 1) p j mode
+  pub one_out : (i j k : ℕ) (t : Token) → IsOne t → TokenAt way p i t j
+      → SplitsFrom v k p i way → (k < length v) × Fits way t (get_or v k 0) × SplitsFrom v (k + 1) p j way
   one_out i j k t one here all = out all.tokens all.read all.cut where
-    out : (ts : List Token) → From mode p i ts → IsCut mode ts (drop k v)
-        → (k < length v) × Fits mode t (get_or v k 0) × SplitsFrom v (k + 1) p j mode
-    out [] read cut = let here_inside = TokenAt-inside mode p i t j here in absurd (omega arith)
+    out : (ts : List Token) → From way p i ts → IsCut way ts (drop k v)
+        → (k < length v) × Fits way t (get_or v k 0) × SplitsFrom v (k + 1) p j way
+    out [] read cut = let here_inside = TokenAt-inside way p i t j here in absurd (omega arith)
     out (u ∷ us) read cut =
-        let same = TokenAt-unique mode p i u t read.0 j read.1 here in
-        let piece : OneByte (Fits mode t) cut.0 =
-        lang_is_one mode t cut.0 one (subst (λ (x : Token). Lang mode x cut.0) same.0 cut.3) in
-        let parts = one_byte_out (Fits mode t) v k cut.0 cut.1 cut.2 piece in (
+        let same = TokenAt-unique way p i u t read.0 j read.1 here in
+        let piece : OneByte (Fits way t) cut.0 =
+        lang_is_one way t cut.0 one (subst (λ (x : Token). Lang way x cut.0) same.0 cut.3) in
+        let parts = one_byte_out (Fits way t) v k cut.0 cut.1 cut.2 piece in (
           parts.0,
           parts.1,
           record {
             tokens = us;
-            read = subst (λ (n : ℕ). From mode p n us) same.1 read.2;
-            cut = subst (λ (xs : List ℕ). IsCut mode us xs) parts.2 cut.4;
+            read = subst (λ (n : ℕ). From way p n us) same.1 read.2;
+            cut = subst (λ (xs : List ℕ). IsCut way us xs) parts.2 cut.4;
           },
         )
 
   -- A run that crosses slashes takes any stretch.
-  pub free_in : (i j k e : ℕ) → TokenAt mode p i Free j → k ≤ e → e ≤ length v
-      → SplitsFrom v e p j mode → SplitsFrom v k p i mode
+  pub free_in : (i j k e : ℕ) → TokenAt way p i Free j → k ≤ e → e ≤ length v
+      → SplitsFrom v e p j way → SplitsFrom v k p i way
   free_in i j k e here low high later =
       token_in i j k e Free (take (e - k) (drop k v)) here (stretch_is_piece v k e low high) tt later
 
-  pub free_out : (i j k : ℕ) → TokenAt mode p i Free j → k ≤ length v
-      → SplitsFrom v k p i mode → (e : ℕ) × (k ≤ e) × (e ≤ length v) × SplitsFrom v e p j mode
+  pub free_out : (i j k : ℕ) → TokenAt way p i Free j → k ≤ length v
+      → SplitsFrom v k p i way → (e : ℕ) × (k ≤ e) × (e ≤ length v) × SplitsFrom v e p j way
   free_out i j k here inside all =
       let out = token_out i j k Free here inside all in (out.0, out.2.low, out.2.high, out.4)
 
   -- A run within a component takes a stretch without slash.
-  pub local_in : (i j k e : ℕ) → TokenAt mode p i Local j → k ≤ e → e ≤ length v → NoSlash v k e
-      → SplitsFrom v e p j mode → SplitsFrom v k p i mode
+  pub local_in : (i j k e : ℕ) → TokenAt way p i Local j → k ≤ e → e ≤ length v → NoSlash v k e
+      → SplitsFrom v e p j way → SplitsFrom v k p i way
   local_in i j k e here low high none later =
       let x = stretch_is_piece v k e low high in
       let bare : NoSlash (take (e - k) (drop k v)) 0 (length (take (e - k) (drop k v))) = record {
@@ -227,8 +227,8 @@ module _ (mode : Mode) (p v : List ℕ) where
       } in
       token_in i j k e Local (take (e - k) (drop k v)) here x bare later
 
-  pub local_out : (i j k : ℕ) → TokenAt mode p i Local j → k ≤ length v
-      → SplitsFrom v k p i mode → (e : ℕ) × (k ≤ e) × (e ≤ length v) × NoSlash v k e × SplitsFrom v e p j mode
+  pub local_out : (i j k : ℕ) → TokenAt way p i Local j → k ≤ length v
+      → SplitsFrom v k p i way → (e : ℕ) × (k ≤ e) × (e ≤ length v) × NoSlash v k e × SplitsFrom v e p j way
   local_out i j k here inside all =
       let out = token_out i j k Local here inside all in
       let x : IsPiece v k out.0 out.1 = out.2 in
@@ -242,24 +242,24 @@ module _ (mode : Mode) (p v : List ℕ) where
       (out.0, x.low, x.high, none, out.4)
 
   -- A double star with its slash takes nothing, or a stretch that ends in a slash.
-  pub dirs_in_empty : (i j k : ℕ) → TokenAt mode p i Dirs j → k ≤ length v
-      → SplitsFrom v k p j mode → SplitsFrom v k p i mode
+  pub dirs_in_empty : (i j k : ℕ) → TokenAt way p i Dirs j → k ≤ length v
+      → SplitsFrom v k p j way → SplitsFrom v k p i way
   dirs_in_empty i j k here inside later =
       token_in i j k k Dirs [] here (record { low = omega arith; high = inside; joined = refl; long = omega arith }) (inl refl) later
 
-  pub dirs_in : (i j k e : ℕ) → TokenAt mode p i Dirs j → AfterSlash v k e
-      → SplitsFrom v e p j mode → SplitsFrom v k p i mode
+  pub dirs_in : (i j k e : ℕ) → TokenAt way p i Dirs j → AfterSlash v k e
+      → SplitsFrom v e p j way → SplitsFrom v k p i way
   dirs_in i j k e here after later =
       let x = stretch_is_piece v k e (omega (arith, after.past)) after.inside in
       token_in i j k e Dirs (take (e - k) (drop k v)) here x (inr (ends_in_slash v k e after)) later
 
-  pub dirs_out : (i j k : ℕ) → TokenAt mode p i Dirs j → k ≤ length v
-      → SplitsFrom v k p i mode → (e : ℕ) × ((e ≡ k) ⊎ AfterSlash v k e) × SplitsFrom v e p j mode
+  pub dirs_out : (i j k : ℕ) → TokenAt way p i Dirs j → k ≤ length v
+      → SplitsFrom v k p i way → (e : ℕ) × ((e ≡ k) ⊎ AfterSlash v k e) × SplitsFrom v e p j way
   dirs_out i j k here inside all =
       let out = token_out i j k Dirs here inside all in
       (out.0, slash_before v k out.0 out.1 out.2 out.3, out.4)
 
   -- What matches nothing splits nothing.
-  pub nothing_out : (i j k : ℕ) → TokenAt mode p i Nothing j → k ≤ length v
-      → SplitsFrom v k p i mode → ⊥
+  pub nothing_out : (i j k : ℕ) → TokenAt way p i Nothing j → k ≤ length v
+      → SplitsFrom v k p i way → ⊥
   nothing_out i j k here inside all = (token_out i j k Nothing here inside all).3

@@ -1,27 +1,27 @@
 -- A value without slash is split alike in each mode, where the pattern begins with no double star and its slash.
-use Rattle.std.proofs.Common.{◌≡◌, ◌≢◌, ◌↔◌, ◌⊎◌, inl, inr, ⊎_elim, ℕ, zero, suc, ◌+◌, ◌-◌, ◌<◌, ◌≤◌, Bool, true, false, not, ◌&&◌, ◌==◌, if◌then◌else◌, List, [], ◌∷◌, length, get_or, refl, sym, ◌∙◌, subst, arith, eq-eqb}
+use Rattle.std.proofs.Common.{◌≡◌, ◌≢◌, ◌↔◌, ◌⊎◌, inl, inr, ⊎_elim, ℕ, zero, suc, ◌+◌, ◌-◌, ◌<◌, ◌≤◌, Bool, true, false, not, ◌&&◌, ◌==◌, if◌then◌else◌, List, [], ◌∷◌, length, get_or, refl, sym, ap, ◌∙◌, subst, arith, eq-eqb}
 use Rattle.std.specs.List.{list_any}
 use Rattle.std.proofs.lemmas.Bool.{false≢true, false_from_ne_true, cases_Bool, cases_lt, eqb-true}
 use Rattle.std.proofs.lemmas.Bool.Decides.{eqb_tells}
 use Rattle.std.proofs.lemmas.List.Folds.{list_any_at}
-use Rattle.glob_matcher.specs.declared.wildmatch.mode.Mode.{Mode}
+use Rattle.glob_matcher.specs.declared.wildmatch.way.Way.{Way}
 use Rattle.glob_matcher.specs.declared.wildmatch.items.Class.{Class}
 use Rattle.glob_matcher.specs.declared.wildmatch.items.Class.TheVariants as class
 use Rattle.glob_matcher.specs.declared.wildmatch.items.Item.{Item}
 use Rattle.glob_matcher.specs.declared.wildmatch.items.Item.TheVariants as item
-use Rattle.glob_matcher.specs.Bytes.{HasByte, IsEscaped, NoSlash, backslash, fold, folds, has_slash, is_path, slash, star}
+use Rattle.glob_matcher.specs.Bytes.{HasByte, IsEscaped, NoSlash, backslash, fold, is_exact_one, has_slash, is_path, slash, star}
 use Rattle.glob_matcher.specs.Sets.{Set, class_holds, item_holds, set_holds}
 use Rattle.glob_matcher.specs.Tokens.{Token, Byte, Any, OneOf, Free, Local, Dirs, Nothing, TokenAt, DirsAt, IsRun, IsBounded, From}
-use Rattle.glob_matcher.specs.Matching.{Splits, SplitsFrom}
+use Rattle.glob_matcher.specs.Matching.{SplitsBy, SplitsFrom}
 use Rattle.glob_matcher.specs.Private.Fitting.{Fits}
-use Rattle.glob_matcher.proofs.lemmas.reading.TokenLemmas.{run_lead}
+use Rattle.glob_matcher.proofs.lemmas.reading.TokenLemmas.{byte_in_both, run_lead}
 use Rattle.glob_matcher.proofs.lemmas.reading.Existence.{From-short, TokenAt-past}
 use Rattle.glob_matcher.proofs.lemmas.cutting.CutLemmas.{IsOne, end_in, end_out, one_in, one_out, free_in, free_out, local_in, local_out, nothing_out}
 use Rattle.glob_matcher.proofs.lemmas.cutting.SlashLemmas.{ends_in_slash_byte, fold_slash}
 
--- ---- tests of a byte that is no slash, in modes that agree on case
+-- ---- tests of a byte that is no slash, in ways that fold alike
 
-module _ (m n : Mode) (case : folds m ≡ folds n) where
+module _ (m n : Way) (case : m.folding ≡ n.folding) where
   same_fold : (b : ℕ) → fold m b ≡ fold n b
   same_fold b = rw case refl
 
@@ -42,7 +42,7 @@ module _ (m n : Mode) (case : folds m ≡ folds n) where
   same_item : (b : ℕ) (x : Item) → item_holds m b x ≡ item_holds n b x
   same_item b (item.Member c) = rw case refl
   same_item b (item.Range low high) = rw case refl
-  same_item b (item.Class c) = rw case (same_class c (fold n b))
+  same_item b (item.Class c) = ap (class_holds m c) (same_fold b) ∙ same_class c (fold n b)
 
   same_items : (b : ℕ) (xs : List Item) → list_any (item_holds m b) xs ≡ list_any (item_holds n b) xs
   same_items b [] = refl
@@ -121,9 +121,9 @@ bounded_or_not p i j = elim (cases_lt j (i + 2)) [
 
 -- no double star and its slash begin at place i, in any mode
 pub NoDirs : List ℕ → ℕ → Type 0
-NoDirs p i = (mode : Mode) (j : ℕ) → ¬ DirsAt mode p i j
+NoDirs p i = (way : Way) (j : ℕ) → ¬ DirsAt way p i j
 
-module _ (m n : Mode) (p v : List ℕ) (case : folds m ≡ folds n) (none : NoSlash v 0 (length v)) where
+module _ (m n : Way) (p v : List ℕ) (case : m.folding ≡ n.folding) (none : NoSlash v 0 (length v)) where
   -- what is split from place i on in the one mode is split in the other
   Over : ℕ → Type 0
   Over i = (k : ℕ) → k ≤ length v → SplitsFrom v k p i m → SplitsFrom v k p i n
@@ -148,12 +148,12 @@ module _ (m n : Mode) (p v : List ℕ) (case : folds m ≡ folds n) (none : NoSl
   -- after a run there is no star
   no_dirs_after_run : (i j : ℕ) → IsRun p i j → NoDirs p j
   unfolding NoDirs
-  no_dirs_after_run i j run mode e dirs = run.whole (run_lead p j dirs.run_end dirs.run)
+  no_dirs_after_run i j run way e dirs = run.whole (run_lead p j dirs.run_end dirs.run)
 
   -- nor does a double star come after a byte that isn't a slash
   no_dirs_after_one : (i j c : ℕ) (t : Token) → IsOne t → TokenAt m p i t j → c ≢ slash → Fits m t c → NoDirs p j
   unfolding NoDirs
-  no_dirs_after_one i j c t one here other fits mode e dirs = elim dirs.bounded.before [
+  no_dirs_after_one i j c t one here other fits way e dirs = elim dirs.bounded.before [
     | inl first ↦ let past : i < j = TokenAt-past m p i t j here in omega arith
     | inr h ↦ other (fold_slash m c (subst (λ (u : Token). Fits m u c) (ends_in_slash_byte m p i t j one here h) fits))
   ]
@@ -171,7 +171,7 @@ module _ (m n : Mode) (p v : List ℕ) (case : folds m ≡ folds n) (none : NoSl
   token_over : (i j k : ℕ) (t : Token) → NoDirs p i → TokenAt m p i t j → (NoDirs p j → Over j) → k ≤ length v
       → SplitsFrom v k p i m → SplitsFrom v k p i n
   unfolding Over NoDirs
-  token_over i j k (Byte b) no_dirs here later inside all = one_over i j k (Byte b) tt here here later all
+  token_over i j k (Byte b) no_dirs here later inside all = one_over i j k (Byte b) tt here (byte_in_both m n p i b j (ap is_exact_one case) here) later all
   token_over i j k Any no_dirs here later inside all = one_over i j k Any tt here here later all
   token_over i j k (OneOf s) no_dirs here later inside all = one_over i j k (OneOf s) tt here here later all
   token_over i j k Free no_dirs here later inside all =
@@ -202,7 +202,7 @@ module _ (m n : Mode) (p v : List ℕ) (case : folds m ≡ folds n) (none : NoSl
 -- ---- the law
 
 -- where no place of the value has a slash, and no double star and its slash begin the pattern, the modes tell nothing apart
-pub splits_alike : (m n : Mode) (p v : List ℕ) → folds m ≡ folds n → has_slash v ≡ false → NoDirs p 0 → Splits v p m ↔ Splits v p n
+pub splits_alike : (m n : Way) (p v : List ℕ) → m.folding ≡ n.folding → has_slash v ≡ false → NoDirs p 0 → SplitsBy v p m ↔ SplitsBy v p n
 unfolding Over
 splits_alike m n p v case bare no_dirs = (
   λ s. over m n p v case none (length p) 0 (omega arith) no_dirs 0 (omega arith) s,
@@ -214,13 +214,13 @@ splits_alike m n p v case bare no_dirs = (
 -- a pattern without slash has no double star and its slash
 pub no_dirs_without_slash : (p : List ℕ) → has_slash p ≡ false → NoDirs p 0
 unfolding NoDirs
-no_dirs_without_slash p bare mode j dirs =
+no_dirs_without_slash p bare way j dirs =
     let there = dirs.slash in
     false≢true (sym bare ∙ list_any_at (λ b. b == slash) p dirs.run_end 0 there.inside (eq-eqb _ _ there.is))
 
 -- nor does one that doesn't begin with two stars begin with them
 pub no_dirs_without_stars : (p : List ℕ) → ¬ (HasByte p 0 star × HasByte p 1 star) → NoDirs p 0
 unfolding NoDirs
-no_dirs_without_stars p few mode j dirs =
+no_dirs_without_stars p few way j dirs =
     let many : 0 + 2 ≤ dirs.run_end = dirs.bounded.many in
     few (dirs.run.stars 0 (omega arith) (omega arith), dirs.run.stars 1 (omega arith) (omega arith))

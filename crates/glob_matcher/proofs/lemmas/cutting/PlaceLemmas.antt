@@ -1,7 +1,7 @@
 -- Places in a part of the value, and in the value: what a search in the part says of the whole.
 use Rattle.std.proofs.Common.{◌≡◌, ◌≢◌, ℕ, ◌+◌, ◌-◌, ◌<◌, ◌≤◌, List, length, get_or, take, drop, Some, refl, sym, ◌∙◌, ap, subst, arith, get_or-drop, get_or-take, length-take, length-drop, eq-eqb, eqb-true}
 use Rattle.memchr.specs.Find.{NoneBefore, Nowhere, Passes, is_byte}
-use Rattle.glob_matcher.specs.declared.wildmatch.mode.Mode.{Mode}
+use Rattle.glob_matcher.specs.declared.wildmatch.way.Way.{Way}
 use Rattle.glob_matcher.specs.Bytes.{fold, slash}
 use Rattle.glob_matcher.specs.Private.StarSearch.{Skips, IsComponentEnd}
 
@@ -13,17 +13,17 @@ pub part_length : (v : List ℕ) (k n : ℕ) → k + n ≤ length v → length (
 part_length v k n fits = simp (length-take, length-drop) (omega arith)
 
 -- what is passed over in a part is passed over in the value
-pub skips_part : (mode : Mode) (v : List ℕ) (k n b d : ℕ) → k + n ≤ length v
-    → Skips mode (take n (drop k v)) (Some b) 0 d → Skips mode v (Some b) k (k + d)
-skips_part mode v k n b d fits part =
+pub skips_part : (way : Way) (v : List ℕ) (k n b d : ℕ) → k + n ≤ length v
+    → Skips way (take n (drop k v)) (Some b) 0 d → Skips way v (Some b) k (k + d)
+skips_part way v k n b d fits part =
     let inside : d ≤ n = subst (λ (l : ℕ). d ≤ l) (part_length v k n fits) part.inside in record {
       low = omega arith;
       inside = omega arith;
       differs = λ m low below.
           let same = part_byte v k n (m - k) (omega arith) in
           let sum : k + (m - k) ≡ m = omega arith in
-          let differs : fold mode (get_or (take n (drop k v)) (m - k) 0) ≢ fold mode b = part.differs (m - k) (omega arith) (omega arith) in
-          subst (λ (c : ℕ). fold mode c ≢ fold mode b) (same ∙ ap (λ (l : ℕ). get_or v l 0) sum) differs;
+          let differs : fold way (get_or (take n (drop k v)) (m - k) 0) ≢ fold way b = part.differs (m - k) (omega arith) (omega arith) in
+          subst (λ (c : ℕ). fold way c ≢ fold way b) (same ∙ ap (λ (l : ℕ). get_or v l 0) sum) differs;
     }
 
 -- no slash in a part
@@ -57,12 +57,12 @@ component_last v k n whole none =
       ends = λ below. absurd (omega arith);
     }
 
-pub skips_whole_part : (mode : Mode) (v : List ℕ) (k e b : ℕ) → k ≤ e → e ≤ length v
-    → Skips mode (take (e - k) (drop k v)) (Some b) 0 (length (take (e - k) (drop k v)))
-    → Skips mode v (Some b) k e
-skips_whole_part mode v k e b low inside part =
+pub skips_whole_part : (way : Way) (v : List ℕ) (k e b : ℕ) → k ≤ e → e ≤ length v
+    → Skips way (take (e - k) (drop k v)) (Some b) 0 (length (take (e - k) (drop k v)))
+    → Skips way v (Some b) k e
+skips_whole_part way v k e b low inside part =
     let sum : k + (e - k) ≡ e = omega arith in
-    subst (λ (n : ℕ). Skips mode v (Some b) k n) sum
-    (skips_part mode v k (e - k) b (e - k) (omega arith)
-    (subst (λ (n : ℕ). Skips mode (take (e - k) (drop k v)) (Some b) 0 n)
+    subst (λ (n : ℕ). Skips way v (Some b) k n) sum
+    (skips_part way v k (e - k) b (e - k) (omega arith)
+    (subst (λ (n : ℕ). Skips way (take (e - k) (drop k v)) (Some b) 0 n)
     (part_length v k (e - k) (omega arith)) part))

@@ -1,7 +1,7 @@
 -- One alignment: after some tokens of one byte each, what is known where it stands is known where it began.
 use Rattle.std.proofs.Common.{◌≡◌, ◌⊎◌, inl, inr, ℕ, ◌+◌, ◌-◌, ◌<◌, ◌≤◌, IsTrue, List, [], ◌∷◌, ◌++◌, length, get_or, drop, refl, sym, ◌∙◌, ap, subst, arith, length-drop}
 use Rattle.std.proofs.lemmas.Bool.{cases_lt}
-use Rattle.glob_matcher.specs.declared.wildmatch.mode.Mode.{Mode}
+use Rattle.glob_matcher.specs.declared.wildmatch.way.Way.{Way}
 use Rattle.glob_matcher.specs.Bytes.{HasByte, NoSlash, is_path, slash, star}
 use Rattle.glob_matcher.specs.Tokens.{Token, Byte, Any, OneOf, Free, Local, Dirs, Nothing, TokenAt, From}
 use Rattle.glob_matcher.specs.Matching.{OneByte, Lang, IsCut, SplitsFrom}
@@ -14,39 +14,39 @@ use Rattle.glob_matcher.proofs.lemmas.cutting.SlashLemmas.{fold_slash, only_slas
 use Rattle.glob_matcher.proofs.lemmas.reading.Starts.{start_next}
 
 -- The value's bytes from place k on are cut by a beginning, not the whole, of the tokens from place i of the pattern on.
-pub record EndsShortFrom (v : List ℕ) (k : ℕ) (p : List ℕ) (i : ℕ) (mode : Mode) : Type 0 where
+pub record EndsShortFrom (v : List ℕ) (k : ℕ) (p : List ℕ) (i : ℕ) (way : Way) : Type 0 where
   pub beginning : List Token
   pub next : Token
   pub rest : List Token
-  pub read : From mode p i (beginning ++ next ∷ rest)
-  pub cut : IsCut mode beginning (drop k v)
+  pub read : From way p i (beginning ++ next ∷ rest)
+  pub cut : IsCut way beginning (drop k v)
 
 -- Place m of the value, where the alignment may begin too, leads to place n.
-pub record Moved (mode : Mode) (p v : List ℕ) (i k j e m n : ℕ) : Type 0 where
+pub record Moved (way : Way) (p v : List ℕ) (i k j e m n : ℕ) : Type 0 where
   pub inside : n ≤ length v
-  pub here : SplitsFrom v n p j mode
+  pub here : SplitsFrom v n p j way
   pub behind : i < j → HasByte p (j - 1) slash → get_or v (n - 1) 0 ≡ slash
-  pub level : IsTrue (is_path mode) → NoSlash v k m → NoSlash v e n
+  pub level : IsTrue (is_path way) → NoSlash v k m → NoSlash v e n
 
 -- What the list of tokens from the start on says of the list from here on.
-pub record ListMoved (mode : Mode) (p : List ℕ) (j : ℕ) (ts : List Token) : Type 0 where
+pub record ListMoved (way : Way) (p : List ℕ) (j : ℕ) (ts : List Token) : Type 0 where
   pub tokens : List Token
-  pub read : From mode p j tokens
+  pub read : From way p j tokens
   pub counted : star_count tokens ≡ star_count ts
   pub single : TakeOneByte ts → TakeOneByte tokens
 
 -- The alignment began at places i and k, and stands at places j and e.
-pub record Aligned (mode : Mode) (p v : List ℕ) (i k j e : ℕ) : Type 0 where
-  pub start : IsStart p j mode
+pub record Aligned (way : Way) (p v : List ℕ) (i k j e : ℕ) : Type 0 where
+  pub start : IsStart p j way
   pub low : i ≤ j
   pub value_low : k ≤ e
   pub value_high : e ≤ length v
   pub no_star : i < j → ¬ HasByte p i star
-  pub back : SplitsFrom v e p j mode → SplitsFrom v k p i mode
-  pub forth : (m : ℕ) → k ≤ m → m ≤ length v → SplitsFrom v m p i mode → Moved mode p v i k j e m (m + (e - k))
-  pub list : (ts : List Token) → From mode p i ts → ListMoved mode p j ts
-  pub short_back : EndsShortFrom v e p j mode → EndsShortFrom v k p i mode
-  pub short_forth : EndsShortFrom v k p i mode → EndsShortFrom v e p j mode
+  pub back : SplitsFrom v e p j way → SplitsFrom v k p i way
+  pub forth : (m : ℕ) → k ≤ m → m ≤ length v → SplitsFrom v m p i way → Moved way p v i k j e m (m + (e - k))
+  pub list : (ts : List Token) → From way p i ts → ListMoved way p j ts
+  pub short_back : EndsShortFrom v e p j way → EndsShortFrom v k p i way
+  pub short_forth : EndsShortFrom v k p i way → EndsShortFrom v e p j way
 
 one_count : (t : Token) (ts : List Token) → IsOne t → star_count (t ∷ ts) ≡ star_count ts
 one_count (Byte b) ts one = refl
@@ -58,9 +58,9 @@ one_count Dirs ts one = absurd one
 one_count Nothing ts one = absurd one
 
 -- a token of one byte doesn't begin with a star
-pub one_no_star : (mode : Mode) (p : List ℕ) (i : ℕ) (t : Token) (j : ℕ) → IsOne t → TokenAt mode p i t j → ¬ HasByte p i star
-one_no_star mode p i t j one here h = by (star_or_other mode p i t j here) where
-  by : IsStarToken p i t j ⊎ IsOtherToken p i t j → ⊥
+pub one_no_star : (way : Way) (p : List ℕ) (i : ℕ) (t : Token) (j : ℕ) → IsOne t → TokenAt way p i t j → ¬ HasByte p i star
+one_no_star way p i t j one here h = by (star_or_other way p i t j here) where
+  by : IsStarToken p i t j ⊎ IsOtherToken way p i t j → ⊥
   by (inl x) =
       let more : star_count (t ∷ []) ≡ star_count [] + 1 = x.counts [] in
       let none : star_count (t ∷ []) ≡ star_count [] = one_count t [] one in
@@ -86,93 +86,93 @@ single_one Dirs ts x = x
 single_one Nothing ts x = x
 
 -- the list after a token of one byte
-module _ {mode : Mode} {p : List ℕ} (i : ℕ) (t : Token) (j : ℕ) where
-  list_next : (ts : List Token) → IsOne t → TokenAt mode p i t j
-      → From mode p i ts → ListMoved mode p j ts
-  list_next [] one here read = let inside = TokenAt-inside mode p i t j here in absurd (omega arith)
+module _ {way : Way} {p : List ℕ} (i : ℕ) (t : Token) (j : ℕ) where
+  list_next : (ts : List Token) → IsOne t → TokenAt way p i t j
+      → From way p i ts → ListMoved way p j ts
+  list_next [] one here read = let inside = TokenAt-inside way p i t j here in absurd (omega arith)
   list_next (u ∷ us) one here read =
-      let same = TokenAt-unique mode p i t u j read.0 here read.1 in
+      let same = TokenAt-unique way p i t u j read.0 here read.1 in
       let one' : IsOne u = subst IsOne same.0 one in record {
         tokens = us;
-        read = subst (λ (n : ℕ). From mode p n us) (sym same.1) read.2;
+        read = subst (λ (n : ℕ). From way p n us) (sym same.1) read.2;
         counted = sym (one_count u us one');
         single = one_single u us one';
       }
 
-list_then : {mode : Mode} {p : List ℕ} {i j : ℕ} {ts : List Token} → ListMoved mode p i ts
-    → ((us : List Token) → From mode p i us → ListMoved mode p j us) → ListMoved mode p j ts
+list_then : {way : Way} {p : List ℕ} {i j : ℕ} {ts : List Token} → ListMoved way p i ts
+    → ((us : List Token) → From way p i us → ListMoved way p j us) → ListMoved way p j ts
 list_then x next =
     let y = next x.tokens x.read in
     record { tokens = y.tokens; read = y.read; counted = y.counted ∙ x.counted; single = λ s. y.single (x.single s) }
 
-module _ {mode : Mode} {p v : List ℕ} {i k : ℕ} (t : Token) (j : ℕ) where
+module _ {way : Way} {p v : List ℕ} {i k : ℕ} (t : Token) (j : ℕ) where
   -- one more byte taken by the beginning of a list
-  short_in : TokenAt mode p i t j → k < length v
-      → Fits mode t (get_or v k 0) → EndsShortFrom v (k + 1) p j mode → EndsShortFrom v k p i mode
+  short_in : TokenAt way p i t j → k < length v
+      → Fits way t (get_or v k 0) → EndsShortFrom v (k + 1) p j way → EndsShortFrom v k p i way
   short_in here inside fits later =
-      let one = one_byte_in (Fits mode t) v k inside fits in record {
+      let one = one_byte_in (Fits way t) v k inside fits in record {
         beginning = t ∷ later.beginning;
         next = later.next;
         rest = later.rest;
         read = (j, here, later.read);
-        cut = (get_or v k 0 ∷ [], drop (k + 1) v, one.1, one_is_lang mode t (get_or v k 0 ∷ []) one.0, later.cut);
+        cut = (get_or v k 0 ∷ [], drop (k + 1) v, one.1, one_is_lang way t (get_or v k 0 ∷ []) one.0, later.cut);
       }
 
-  pub short_out : IsOne t → TokenAt mode p i t j → k < length v
-      → EndsShortFrom v k p i mode → Fits mode t (get_or v k 0) × EndsShortFrom v (k + 1) p j mode
+  pub short_out : IsOne t → TokenAt way p i t j → k < length v
+      → EndsShortFrom v k p i way → Fits way t (get_or v k 0) × EndsShortFrom v (k + 1) p j way
   short_out one here inside all = out all.beginning all.read all.cut where
-    out : (ts : List Token) → From mode p i (ts ++ all.next ∷ all.rest) → IsCut mode ts (drop k v)
-        → Fits mode t (get_or v k 0) × EndsShortFrom v (k + 1) p j mode
+    out : (ts : List Token) → From way p i (ts ++ all.next ∷ all.rest) → IsCut way ts (drop k v)
+        → Fits way t (get_or v k 0) × EndsShortFrom v (k + 1) p j way
     out [] read cut =
         let none : length v - k ≡ 0 = sym (length-drop k v) ∙ ap (λ (xs : List ℕ). length xs) cut in absurd (omega arith)
     out (u ∷ us) read cut =
-        let same = TokenAt-unique mode p i u t read.0 j read.1 here in
-        let piece : OneByte (Fits mode t) cut.0 =
-        lang_is_one mode t cut.0 one (subst (λ (x : Token). Lang mode x cut.0) same.0 cut.3) in
-        let parts = one_byte_out (Fits mode t) v k cut.0 cut.1 cut.2 piece in (
+        let same = TokenAt-unique way p i u t read.0 j read.1 here in
+        let piece : OneByte (Fits way t) cut.0 =
+        lang_is_one way t cut.0 one (subst (λ (x : Token). Lang way x cut.0) same.0 cut.3) in
+        let parts = one_byte_out (Fits way t) v k cut.0 cut.1 cut.2 piece in (
           parts.1,
           record {
             beginning = us;
             next = all.next;
             rest = all.rest;
-            read = subst (λ (n : ℕ). From mode p n (us ++ all.next ∷ all.rest)) same.1 read.2;
-            cut = subst (λ (xs : List ℕ). IsCut mode us xs) parts.2 cut.4;
+            read = subst (λ (n : ℕ). From way p n (us ++ all.next ∷ all.rest)) same.1 read.2;
+            cut = subst (λ (xs : List ℕ). IsCut way us xs) parts.2 cut.4;
           },
         )
 
-module _ {mode : Mode} {p v : List ℕ} {i k j e : ℕ} (t : Token) (next : ℕ) where
+module _ {way : Way} {p v : List ℕ} {i k j e : ℕ} (t : Token) (next : ℕ) where
   -- what a byte taken moves
-  moved_next : {m n : ℕ} → Moved mode p v i k j e m n → e ≤ n
-      → IsOne t → TokenAt mode p j t next → Fits mode t (get_or v e 0) → Moved mode p v i k next (e + 1) m (n + 1)
+  moved_next : {m n : ℕ} → Moved way p v i k j e m n → e ≤ n
+      → IsOne t → TokenAt way p j t next → Fits way t (get_or v e 0) → Moved way p v i k next (e + 1) m (n + 1)
   moved_next {m} {n} x low one here fits =
-      let out = one_out mode p v j next n t one here x.here in
+      let out = one_out way p v j next n t one here x.here in
       let inside : n < length v = out.0 in record {
         inside = omega arith;
         here = out.2;
         behind = λ past is.
-            let same : t ≡ Byte slash = ends_in_slash_byte mode p j t next one here is in
+            let same : t ≡ Byte slash = ends_in_slash_byte way p j t next one here is in
             let back : n + 1 - 1 ≡ n = omega arith in
-            let taken : Fits mode (Byte slash) (get_or v n 0) = subst (λ (u : Token). Fits mode u (get_or v n 0)) same out.1 in
-            subst (λ (q : ℕ). get_or v q 0 ≡ slash) (sym back) (fold_slash mode (get_or v n 0) taken);
+            let taken : Fits way (Byte slash) (get_or v n 0) = subst (λ (u : Token). Fits way u (get_or v n 0)) same out.1 in
+            subst (λ (q : ℕ). get_or v q 0 ≡ slash) (sym back) (fold_slash way (get_or v n 0) taken);
         level = λ path none. record {
           at = λ q above below is.
               let before : NoSlash v e n = x.level path none in
               at_last q path before above is (cases_lt q n) (omega arith) out.1;
         };
       } where
-        at_last : (q : ℕ) → IsTrue (is_path mode) → NoSlash v e n → e + 1 ≤ q → get_or v q 0 ≡ slash → (q < n) ⊎ (n ≤ q) → q ≤ n
-            → Fits mode t (get_or v n 0) → ⊥
+        at_last : (q : ℕ) → IsTrue (is_path way) → NoSlash v e n → e + 1 ≤ q → get_or v q 0 ≡ slash → (q < n) ⊎ (n ≤ q) → q ≤ n
+            → Fits way t (get_or v n 0) → ⊥
         at_last q path before above is (inl less) most taken = before.at q (omega arith) less is
         at_last q path before above is (inr more) most taken =
             let same : q ≡ n = omega arith in
             let byte : get_or v n 0 ≡ slash = subst (λ (r : ℕ). get_or v r 0 ≡ slash) same is in
             let first : get_or v e 0 ≡ slash =
-            only_slash mode t (get_or v e 0) path (subst (λ (c : ℕ). Fits mode t c) byte taken) fits in
+            only_slash way t (get_or v e 0) path (subst (λ (c : ℕ). Fits way t c) byte taken) fits in
             before.at e (omega arith) (omega arith) first
 
-  pub aligned_next : Aligned mode p v i k j e
-      → IsOne t → TokenAt mode p j t next → j < next → e < length v → Fits mode t (get_or v e 0)
-      → Aligned mode p v i k next (e + 1)
+  pub aligned_next : Aligned way p v i k j e
+      → IsOne t → TokenAt way p j t next → j < next → e < length v → Fits way t (get_or v e 0)
+      → Aligned way p v i k next (e + 1)
   aligned_next x one here past inside fits =
       let low : i ≤ j = x.low in
       let value_low : k ≤ e = x.value_low in record {
@@ -181,10 +181,10 @@ module _ {mode : Mode} {p v : List ℕ} {i k j e : ℕ} (t : Token) (next : ℕ)
         value_low = omega arith;
         value_high = omega arith;
         no_star = λ more h. first h (cases_lt i j);
-        back = λ s. x.back (one_in mode p v j next e t here inside fits s);
+        back = λ s. x.back (one_in way p v j next e t here inside fits s);
         forth = λ m low high s.
             let same : m + (e + 1 - k) ≡ m + (e - k) + 1 = omega arith in
-            subst (λ (n : ℕ). Moved mode p v i k next (e + 1) m n) (sym same)
+            subst (λ (n : ℕ). Moved way p v i k next (e + 1) m n) (sym same)
             (moved_next (x.forth m low high s) (omega arith) one here fits);
         list = λ ts read. list_then (x.list ts read) (λ us. list_next j t next us one here);
         short_back = λ s. x.short_back (short_in t next here inside fits s);
@@ -195,4 +195,4 @@ module _ {mode : Mode} {p v : List ℕ} {i k j e : ℕ} (t : Token) (next : ℕ)
         first h (inr same) =
             let low : i ≤ j = x.low in
             let is : i ≡ j = omega arith in
-            one_no_star mode p j t next one here (subst (λ (n : ℕ). HasByte p n star) is h)
+            one_no_star way p j t next one here (subst (λ (n : ℕ). HasByte p n star) is h)

@@ -1,17 +1,19 @@
 -- Where an alignment ends, what it answers means what the contract says: at the pattern's end, at a token of one byte, at one that
 -- matches nothing, and at a star token.
-use Rattle.std.proofs.Common.{◌≡◌, ◌≢◌, ◌⊎◌, inl, inr, ℕ, ◌+◌, ◌-◌, ◌<◌, ◌≤◌, true, false, List, [], ◌∷◌, ◌++◌, length, get_or, drop, ◌↔◌, refl, sym, subst, arith}
+use Rattle.std.proofs.Common.{◌≡◌, ◌≢◌, ◌⊎◌, inl, inr, ℕ, ◌+◌, ◌-◌, ◌<◌, ◌≤◌, true, false, List, [], ◌∷◌, ◌++◌, length, get_or, drop, ◌↔◌, refl, sym, subst, arith, ◌∙◌}
 use Rattle.std.proofs.lemmas.Bool.{cases_eq, cases_lt}
 use Rattle.std.proofs.Math.ListN.{drop_of_length-le}
-use Rattle.glob_matcher.specs.declared.wildmatch.mode.Mode.{Mode}
+use Rattle.glob_matcher.specs.declared.wildmatch.way.Way.{Way}
+use Rattle.glob_matcher.specs.Ways.{way_of}
 use Rattle.glob_matcher.specs.declared.wildmatch.pruned.Answer.{Answer}
 use Rattle.glob_matcher.specs.declared.wildmatch.pruned.Answer.TheVariants.{Match, NoMatch, AbortAll}
-use Rattle.glob_matcher.specs.Bytes.{HasByte, star}
+use Rattle.glob_matcher.specs.Bytes.{HasByte, star, is_exact}
 use Rattle.glob_matcher.specs.Tokens.{Token, Free, Dirs, Nothing, TokenAt, From}
-use Rattle.glob_matcher.specs.Matching.{Splits, SplitsFrom}
+use Rattle.glob_matcher.specs.Matching.{SplitsBy, SplitsFrom}
 use Rattle.glob_matcher.specs.Private.Fitting.{Fits}
 use Rattle.glob_matcher.specs.Pruning.{Holds, Excludes, TakeOneByte, EndsShort, BeginsCrossing, Aborts, IsAttempt, star_count}
 use Rattle.glob_matcher.specs.Private.StarSearch.{HasRoom}
+use Rattle.glob_matcher.proofs.lemmas.reading.WayLemmas.{modes_are_inexact}
 use Rattle.glob_matcher.proofs.lemmas.reading.TokenLemmas.{From-unique, TokenAt-unique, TokenAt-inside, run_lead}
 use Rattle.glob_matcher.proofs.lemmas.cutting.CutLemmas.{IsOne, one_out, end_in, end_out, nothing_out}
 use Rattle.glob_matcher.proofs.lemmas.cutting.SplitLemmas.{star_count_alike}
@@ -21,36 +23,36 @@ use Rattle.glob_matcher.proofs.lemmas.pruned.Alignments.{EndsShortFrom, Aligned,
 -- ---- the tokens from a place on, by that place
 
 -- each token from place i of the pattern on takes one byte
-record IsFlat (p : List ℕ) (i : ℕ) (mode : Mode) : Type 0 where
+record IsFlat (p : List ℕ) (i : ℕ) (way : Way) : Type 0 where
   pub tokens : List Token
-  pub read : From mode p i tokens
+  pub read : From way p i tokens
   pub single : TakeOneByte tokens
 
-record AbortsAt (answer : Answer) (p : List ℕ) (i : ℕ) (v : List ℕ) (k : ℕ) (mode : Mode) : Type 0 where
-  pub short : IsFlat p i mode → (answer ≡ AbortAll) ↔ EndsShortFrom v k p i mode
-  pub long : IsFlat p i mode → (answer ≡ AbortAll) ⊎ ((answer ≡ Match) ⊎ (answer ≡ NoMatch))
-  pub crossing : BeginsCrossingAt p i mode → answer ≢ NoMatch
+record AbortsAt (answer : Answer) (p : List ℕ) (i : ℕ) (v : List ℕ) (k : ℕ) (way : Way) : Type 0 where
+  pub short : IsFlat p i way → (answer ≡ AbortAll) ↔ EndsShortFrom v k p i way
+  pub long : IsFlat p i way → (answer ≡ AbortAll) ⊎ ((answer ≡ Match) ⊎ (answer ≡ NoMatch))
+  pub crossing : BeginsCrossingAt p i way → answer ≢ NoMatch
 
-module _ {mode : Mode} {p : List ℕ} {i : ℕ} (ts : List Token) (read : From mode p i ts) where
-  short_by_place : {v : List ℕ} {k : ℕ} → EndsShort mode ts (drop k v) → EndsShortFrom v k p i mode
+module _ {way : Way} {p : List ℕ} {i : ℕ} (ts : List Token) (read : From way p i ts) where
+  short_by_place : {v : List ℕ} {k : ℕ} → EndsShort way ts (drop k v) → EndsShortFrom v k p i way
   short_by_place e = record {
     beginning = e.0;
     next = e.1;
     rest = e.2;
-    read = subst (λ (us : List Token). From mode p i us) e.3 read;
+    read = subst (λ (us : List Token). From way p i us) e.3 read;
     cut = e.4;
   }
 
-  short_by_tokens : {v : List ℕ} {k : ℕ} → EndsShortFrom v k p i mode → EndsShort mode ts (drop k v)
-  short_by_tokens e = (e.beginning, e.next, e.rest, From-unique mode p i ts (e.beginning ++ e.next ∷ e.rest) read e.read, e.cut)
+  short_by_tokens : {v : List ℕ} {k : ℕ} → EndsShortFrom v k p i way → EndsShort way ts (drop k v)
+  short_by_tokens e = (e.beginning, e.next, e.rest, From-unique way p i ts (e.beginning ++ e.next ∷ e.rest) read e.read, e.cut)
 
-  crossing_by_place : BeginsCrossing ts → BeginsCrossingAt p i mode
+  crossing_by_place : BeginsCrossing ts → BeginsCrossingAt p i way
   crossing_by_place b = by b.1 where
-    by : (ts ≡ Free ∷ b.0) ⊎ (ts ≡ Dirs ∷ b.0) → BeginsCrossingAt p i mode
-    by (inl so) = let there = subst (λ (us : List Token). From mode p i us) so read in record { after = there.0; token = inl there.1 }
-    by (inr so) = let there = subst (λ (us : List Token). From mode p i us) so read in record { after = there.0; token = inr there.1 }
+    by : (ts ≡ Free ∷ b.0) ⊎ (ts ≡ Dirs ∷ b.0) → BeginsCrossingAt p i way
+    by (inl so) = let there = subst (λ (us : List Token). From way p i us) so read in record { after = there.0; token = inl there.1 }
+    by (inr so) = let there = subst (λ (us : List Token). From way p i us) so read in record { after = there.0; token = inr there.1 }
 
-  aborts_by_tokens : {answer : Answer} {v : List ℕ} {k : ℕ} → AbortsAt answer p i v k mode → Aborts answer mode ts (drop k v)
+  aborts_by_tokens : {answer : Answer} {v : List ℕ} {k : ℕ} → AbortsAt answer p i v k way → Aborts answer way ts (drop k v)
   aborts_by_tokens {answer} {v} {k} x = record {
     short = λ single.
         let same = x.short (record { tokens = ts; read = read; single = single }) in
@@ -60,30 +62,30 @@ module _ {mode : Mode} {p : List ℕ} {i : ℕ} (ts : List Token) (read : From m
   }
 
 -- what an answer excludes, and where an abort comes, by the place
-in_room : {answer : Answer} {mode : Mode} {p v : List ℕ} {i k depth : ℕ}
-    → (HasRoom p i mode depth → Excludes answer p i v k mode) → (HasRoom p i mode depth → AbortsAt answer p i v k mode)
-    → (ts : List Token) → From mode p i ts → depth + star_count ts ≤ 63
-    → Excludes answer p i v k mode × Aborts answer mode ts (drop k v)
-in_room {mode = mode} {p = p} {v = v} {i = i} {k = k} {depth = depth} excludes aborts ts read few =
-    let room : HasRoom p i mode depth = record { tokens = ts; read = read; few = few } in
+in_room : {answer : Answer} {way : Way} {p v : List ℕ} {i k depth : ℕ}
+    → (HasRoom p i way depth → Excludes answer p i v k way) → (HasRoom p i way depth → AbortsAt answer p i v k way)
+    → (ts : List Token) → From way p i ts → depth + star_count ts ≤ 63
+    → Excludes answer p i v k way × Aborts answer way ts (drop k v)
+in_room {way = way} {p = p} {v = v} {i = i} {k = k} {depth = depth} excludes aborts ts read few =
+    let room : HasRoom p i way depth = record { tokens = ts; read = read; few = few } in
     (excludes room, aborts_by_tokens ts read {v = v} {k = k} (aborts room))
 
 -- a crossing token begins with a star
-crossing_star : (mode : Mode) (p : List ℕ) (i : ℕ) → BeginsCrossingAt p i mode → HasByte p i star
-crossing_star mode p i x = by x.token where
-  by : TokenAt mode p i Free x.after ⊎ TokenAt mode p i Dirs x.after → HasByte p i star
+crossing_star : (way : Way) (p : List ℕ) (i : ℕ) → BeginsCrossingAt p i way → HasByte p i star
+crossing_star way p i x = by x.token where
+  by : TokenAt way p i Free x.after ⊎ TokenAt way p i Dirs x.after → HasByte p i star
   by (inl so) = run_lead p i x.after so.0
   by (inr so) = run_lead p i so.run_end so.run
 
-module _ {mode : Mode} {p v : List ℕ} {i k j e : ℕ} (x : Aligned mode p v i k j e) where
+module _ {way : Way} {p v : List ℕ} {i k j e : ℕ} (x : Aligned way p v i k j e) where
   -- the start itself leads here
-  moved_here : SplitsFrom v k p i mode → SplitsFrom v e p j mode
+  moved_here : SplitsFrom v k p i way → SplitsFrom v e p j way
   moved_here s =
       let low : k ≤ e = x.value_low in
       let high : e ≤ length v = x.value_high in
       let same : k + (e - k) ≡ e = omega arith in
-      let moved : Moved mode p v i k j e k (k + (e - k)) = x.forth k (omega arith) (omega arith) s in
-      subst (λ (m : ℕ). SplitsFrom v m p j mode) same moved.here
+      let moved : Moved way p v i k j e k (k + (e - k)) = x.forth k (omega arith) (omega arith) s in
+      subst (λ (m : ℕ). SplitsFrom v m p j way) same moved.here
 
   -- where a star begins at the start, the alignment hasn't moved
   star_at_start : HasByte p i star → i ≡ j
@@ -92,23 +94,23 @@ module _ {mode : Mode} {p v : List ℕ} {i k j e : ℕ} (x : Aligned mode p v i 
     by (inl past) = absurd (x.no_star past h)
     by (inr same) = let low : i ≤ j = x.low in omega arith
 
-  crossing_here : BeginsCrossingAt p i mode → BeginsCrossingAt p j mode
-  crossing_here b = subst (λ (m : ℕ). BeginsCrossingAt p m mode) (star_at_start (crossing_star mode p i b)) b
+  crossing_here : BeginsCrossingAt p i way → BeginsCrossingAt p j way
+  crossing_here b = subst (λ (m : ℕ). BeginsCrossingAt p m way) (star_at_start (crossing_star way p i b)) b
 
-  flat_here : IsFlat p i mode → IsFlat p j mode
+  flat_here : IsFlat p i way → IsFlat p j way
   flat_here f =
       let moved = x.list f.tokens f.read in record { tokens = moved.tokens; read = moved.read; single = moved.single f.single }
 
   -- at the pattern's end
-  no_short_end : j ≡ length p → ¬ EndsShortFrom v e p j mode
+  no_short_end : j ≡ length p → ¬ EndsShortFrom v e p j way
   no_short_end at_end so = by so.beginning so.read where
-    by : (ts : List Token) → From mode p j (ts ++ so.next ∷ so.rest) → ⊥
-    by [] read = let inside = TokenAt-inside mode p j so.next read.0 read.1 in omega arith
-    by (t ∷ ts) read = let inside = TokenAt-inside mode p j t read.0 read.1 in omega arith
+    by : (ts : List Token) → From way p j (ts ++ so.next ∷ so.rest) → ⊥
+    by [] read = let inside = TokenAt-inside way p j so.next read.0 read.1 in omega arith
+    by (t ∷ ts) read = let inside = TokenAt-inside way p j t read.0 read.1 in omega arith
 
-  end_match : {depth : ℕ} → depth ≢ 64 → j ≡ length p → e ≡ length v → IsAttempt Match p i v k mode depth
+  end_match : {depth : ℕ} → depth ≢ 64 → j ≡ length p → e ≡ length v → IsAttempt Match p i v k way depth
   end_match shallow at_end all = record {
-    split = λ so. x.back (end_in mode p v j e at_end (omega arith));
+    split = λ so. x.back (end_in way p v j e at_end (omega arith));
     room = in_room
         (λ room. record {
           here = λ ne. absurd (ne refl);
@@ -125,13 +127,13 @@ module _ {mode : Mode} {p v : List ℕ} {i k j e : ℕ} (x : Aligned mode p v i 
     limit = λ deep. absurd (shallow deep);
   }
 
-  end_more : {depth : ℕ} → depth ≢ 64 → j ≡ length p → e ≢ length v → IsAttempt NoMatch p i v k mode depth
+  end_more : {depth : ℕ} → depth ≢ 64 → j ≡ length p → e ≢ length v → IsAttempt NoMatch p i v k way depth
   end_more shallow at_end more = record {
     split = λ so. cc;
     room = in_room
         (λ room. record {
           here = λ ne s.
-              let all : length v ≤ e = end_out mode p v j e at_end (moved_here s) in
+              let all : length v ≤ e = end_out way p v j e at_end (moved_here s) in
               let high : e ≤ length v = x.value_high in
               more (omega arith);
           everywhere = λ so. cc;
@@ -142,21 +144,21 @@ module _ {mode : Mode} {p v : List ℕ} {i k j e : ℕ} (x : Aligned mode p v i 
           short = λ flat. ((λ so. cc), λ so. absurd (no_short_end at_end (x.short_forth so)));
           long = λ flat. inr (inr refl);
           crossing = λ b so.
-              let inside = HasByte.inside (crossing_star mode p j (crossing_here b)) in omega arith;
+              let inside = HasByte.inside (crossing_star way p j (crossing_here b)) in omega arith;
         });
     path = λ so. cc;
     limit = λ deep. absurd (shallow deep);
   }
 
   pub end_here : {depth : ℕ} {answer : Answer} → depth ≢ 64 → j ≡ length p → (e ≡ length v → answer ≡ Match)
-      → (e ≢ length v → answer ≡ NoMatch) → IsAttempt answer p i v k mode depth
+      → (e ≢ length v → answer ≡ NoMatch) → IsAttempt answer p i v k way depth
   end_here {depth} shallow at_end ends more = elim (cases_eq e (length v)) [
-    | inl all ↦ subst (λ (a : Answer). IsAttempt a p i v k mode depth) (sym (ends all)) (end_match shallow at_end all)
-    | inr left ↦ subst (λ (a : Answer). IsAttempt a p i v k mode depth) (sym (more left)) (end_more shallow at_end left)
+    | inl all ↦ subst (λ (a : Answer). IsAttempt a p i v k way depth) (sym (ends all)) (end_match shallow at_end all)
+    | inr left ↦ subst (λ (a : Answer). IsAttempt a p i v k way depth) (sym (more left)) (end_more shallow at_end left)
   ]
 
   -- at a token that nothing of the value from here on splits
-  lost : ((m : ℕ) → e ≤ m → m ≤ length v → ¬ SplitsFrom v m p j mode) → Excludes AbortAll p i v k mode
+  lost : ((m : ℕ) → e ≤ m → m ≤ length v → ¬ SplitsFrom v m p j way) → Excludes AbortAll p i v k way
   lost never = record {
     here = λ ne s. never e (omega arith) x.value_high (moved_here s);
     everywhere = λ so bare m low high s.
@@ -167,22 +169,22 @@ module _ {mode : Mode} {p v : List ℕ} {i k j e : ℕ} (x : Aligned mode p v i 
     limit = λ so. cc;
   }
 
-  one_lost : (t : Token) (next : ℕ) → IsOne t → TokenAt mode p j t next → e ≡ length v
-      → (m : ℕ) → e ≤ m → m ≤ length v → ¬ SplitsFrom v m p j mode
+  one_lost : (t : Token) (next : ℕ) → IsOne t → TokenAt way p j t next → e ≡ length v
+      → (m : ℕ) → e ≤ m → m ≤ length v → ¬ SplitsFrom v m p j way
   one_lost t next one here all m low high s =
-      let out = one_out mode p v j next m t one here s in
+      let out = one_out way p v j next m t one here s in
       let inside : m < length v = out.0 in
       omega arith
 
   -- the value ends before the list does
-  short_now : (t : Token) (next : ℕ) → TokenAt mode p j t next → e ≡ length v → IsFlat p j mode → EndsShortFrom v e p j mode
+  short_now : (t : Token) (next : ℕ) → TokenAt way p j t next → e ≡ length v → IsFlat p j way → EndsShortFrom v e p j way
   short_now t next here all f = by f.tokens f.read where
-    by : (ts : List Token) → From mode p j ts → EndsShortFrom v e p j mode
-    by [] read = let inside = TokenAt-inside mode p j t next here in absurd (omega arith)
+    by : (ts : List Token) → From way p j ts → EndsShortFrom v e p j way
+    by [] read = let inside = TokenAt-inside way p j t next here in absurd (omega arith)
     by (u ∷ us) read = record { beginning = []; next = u; rest = us; read = read; cut = drop_of_length-le v (omega arith) }
 
-  pub value_ends : {depth : ℕ} → depth ≢ 64 → (t : Token) (next : ℕ) → IsOne t → TokenAt mode p j t next → e ≡ length v
-      → IsAttempt AbortAll p i v k mode depth
+  pub value_ends : {depth : ℕ} → depth ≢ 64 → (t : Token) (next : ℕ) → IsOne t → TokenAt way p j t next → e ≡ length v
+      → IsAttempt AbortAll p i v k way depth
   value_ends shallow t next one here all = record {
     split = λ so. cc;
     room = in_room
@@ -197,19 +199,19 @@ module _ {mode : Mode} {p v : List ℕ} {i k j e : ℕ} (x : Aligned mode p v i 
   }
 
   -- the first token of a list whose tokens take one byte each
-  flat_one : (t : Token) (next : ℕ) → TokenAt mode p j t next → IsFlat p j mode → IsOne t
+  flat_one : (t : Token) (next : ℕ) → TokenAt way p j t next → IsFlat p j way → IsOne t
   flat_one t next here f = by f.tokens f.read f.single where
-    by : (ts : List Token) → From mode p j ts → TakeOneByte ts → IsOne t
-    by [] read single = let inside = TokenAt-inside mode p j t next here in absurd (omega arith)
+    by : (ts : List Token) → From way p j ts → TakeOneByte ts → IsOne t
+    by [] read single = let inside = TokenAt-inside way p j t next here in absurd (omega arith)
     by (u ∷ us) read single =
-        let same = TokenAt-unique mode p j u t read.0 next read.1 here in
+        let same = TokenAt-unique way p j u t read.0 next read.1 here in
         subst IsOne same.0 (single_one u us single)
 
-  pub nothing_here : {depth : ℕ} → depth ≢ 64 → (next : ℕ) → TokenAt mode p j Nothing next → IsAttempt AbortAll p i v k mode depth
+  pub nothing_here : {depth : ℕ} → depth ≢ 64 → (next : ℕ) → TokenAt way p j Nothing next → IsAttempt AbortAll p i v k way depth
   nothing_here shallow next here = record {
     split = λ so. cc;
     room = in_room
-        (λ room. lost (λ m low high s. nothing_out mode p v j next m here high s))
+        (λ room. lost (λ m low high s. nothing_out way p v j next m here high s))
         (λ room. record {
           short = λ flat. absurd (flat_one Nothing next here (flat_here flat));
           long = λ flat. inl refl;
@@ -219,13 +221,13 @@ module _ {mode : Mode} {p v : List ℕ} {i k j e : ℕ} (x : Aligned mode p v i 
     limit = λ deep. absurd (shallow deep);
   }
 
-  pub misses : {depth : ℕ} → depth ≢ 64 → (t : Token) (next : ℕ) → IsOne t → TokenAt mode p j t next → e < length v
-      → ¬ Fits mode t (get_or v e 0) → IsAttempt NoMatch p i v k mode depth
+  pub misses : {depth : ℕ} → depth ≢ 64 → (t : Token) (next : ℕ) → IsOne t → TokenAt way p j t next → e < length v
+      → ¬ Fits way t (get_or v e 0) → IsAttempt NoMatch p i v k way depth
   misses shallow t next one here inside unfit = record {
     split = λ so. cc;
     room = in_room
         (λ room. record {
-          here = λ ne s. unfit (one_out mode p v j next e t one here (moved_here s)).1;
+          here = λ ne s. unfit (one_out way p v j next e t one here (moved_here s)).1;
           everywhere = λ so. cc;
           component = λ so. cc;
           limit = λ so. cc;
@@ -233,14 +235,14 @@ module _ {mode : Mode} {p v : List ℕ} {i k j e : ℕ} (x : Aligned mode p v i 
         (λ room. record {
           short = λ flat. ((λ so. cc), λ so. absurd (unfit (short_out t next one here inside (x.short_forth so)).0));
           long = λ flat. inr (inr refl);
-          crossing = λ b so. absurd (one_no_star mode p j t next one here (crossing_star mode p j (crossing_here b)));
+          crossing = λ b so. absurd (one_no_star way p j t next one here (crossing_star way p j (crossing_here b)));
         });
     path = λ so. cc;
     limit = λ deep. absurd (shallow deep);
   }
 
   -- at a star token
-  pub star_here : {depth : ℕ} {answer : Answer} → depth ≢ 64 → AtStar answer p j v e mode depth → IsAttempt answer p i v k mode depth
+  pub star_here : {depth : ℕ} {answer : Answer} → depth ≢ 64 → AtStar answer p j v e way depth → IsAttempt answer p i v k way depth
   star_here {depth} shallow s = record {
     split = λ so. x.back (s.found so);
     room = in_room
@@ -264,7 +266,7 @@ module _ {mode : Mode} {p v : List ℕ} {i k j e : ℕ} (x : Aligned mode p v i 
     path = s.path;
     limit = λ deep. absurd (shallow deep);
   } where
-    room_here : HasRoom p i mode depth → HasRoom p j mode depth
+    room_here : HasRoom p i way depth → HasRoom p j way depth
     room_here room =
         let moved = x.list room.tokens room.read in
         let few : depth + star_count room.tokens ≤ 63 = room.few in
@@ -283,26 +285,26 @@ module _ {mode : Mode} {p v : List ℕ} {i k j e : ℕ} (x : Aligned mode p v i 
           let same : j ≡ i = omega arith in
           absurd (bare (subst (λ (m : ℕ). HasByte p m star) same at_star))
 
-    not_flat : IsFlat p i mode → ⊥
+    not_flat : IsFlat p i way → ⊥
     not_flat flat =
-        one_no_star mode p j s.token s.after (flat_one s.token s.after s.here (flat_here flat)) s.here at_star
+        one_no_star way p j s.token s.after (flat_one s.token s.after s.here (flat_here flat)) s.here at_star
 
 -- ---- whole patterns
 
-pub whole_match : {mode : Mode} {p v : List ℕ} → Splits v p mode → Holds true (Splits v p mode) p
+pub whole_match : {way : Way} {p v : List ℕ} → SplitsBy v p way → Holds true (SplitsBy v p way) p
 whole_match s = record {
   yes = λ so. s;
   excludes = λ n stars few all. refl;
 }
 
-pub whole_no_match : {mode : Mode} {p v : List ℕ} {answer : Answer} → IsAttempt answer p 0 v 0 mode 0 → answer ≢ Match
-    → Holds false (Splits v p mode) p
-whole_no_match {mode} {p} x no_match = record {
+pub whole_no_match : {way : Way} {p v : List ℕ} {answer : Answer} → is_exact way ≡ false → IsAttempt answer p 0 v 0 way 0 → answer ≢ Match
+    → Holds false (SplitsBy v p way) p
+whole_no_match {way} {p} inexact x no_match = record {
   yes = λ so. cc;
   excludes = λ n stars few all.
       let counted : star_count all.tokens ≡ star_count stars.1 =
-      star_count_alike mode stars.0 p 0 all.tokens stars.1 all.read stars.2 in
+      star_count_alike way (way_of stars.0) (inexact ∙ sym (modes_are_inexact stars.0)) p 0 all.tokens stars.1 all.read stars.2 in
       let is : star_count stars.1 ≡ n = stars.3 in
-      let room : HasRoom p 0 mode 0 = record { tokens = all.tokens; read = all.read; few = omega arith } in
+      let room : HasRoom p 0 way 0 = record { tokens = all.tokens; read = all.read; few = omega arith } in
       absurd ((excluded x room).here no_match all);
 }

@@ -1,12 +1,12 @@
 -- Each pattern has a reading: from each place inside it some token is spelled. It is said so that it needs no decision
 -- whether a bracket begins a set: what follows from each reading, where it is an order of numbers, holds.
-use Rattle.std.proofs.Common.{◌≡◌, inl, inr, ℕ, zero, suc, ◌+◌, ◌<◌, ◌≤◌, Bool, true, false, List, [], ◌∷◌, length, get_or, Option, refl, sym, ◌∙◌, subst, arith, if◌then◌else◌}
-use Rattle.std.proofs.lemmas.Bool.{cases_lt}
+use Rattle.std.proofs.Common.{◌≡◌, inl, inr, ℕ, zero, suc, ◌+◌, ◌<◌, ◌≤◌, Bool, true, false, List, [], ◌∷◌, length, get_or, Option, refl, sym, ◌∙◌, subst, arith, if◌then◌else◌, ⊎_elim, ap, not}
+use Rattle.std.proofs.lemmas.Bool.{cases_lt, cases_Bool}
 use Rattle.std.proofs.lemmas.Bool.Decides.{eqb_tells}
-use Rattle.glob_matcher.specs.declared.wildmatch.mode.Mode.{Mode}
+use Rattle.glob_matcher.specs.declared.wildmatch.way.Way.{Way}
 use Rattle.glob_matcher.specs.declared.wildmatch.items.Item.{Item}
 use Rattle.glob_matcher.specs.declared.wildmatch.items.Item.TheVariants as item
-use Rattle.glob_matcher.specs.Bytes.{HasByte, is_path, star, open_bracket, backslash}
+use Rattle.glob_matcher.specs.Bytes.{HasByte, IsEscaped, is_dead, is_path, star, open_bracket, backslash}
 use Rattle.glob_matcher.specs.Private.Spelling.{question_mark, close_bracket}
 use Rattle.glob_matcher.specs.Sets.{Set, SetAt, ItemAt, ItemsAt, IsUpperEnd, member_of}
 use Rattle.glob_matcher.specs.Tokens.{Token, Byte, Any, OneOf, Free, Local, Dirs, Nothing, TokenAt, IsRun, IsBounded, From, Tokens}
@@ -53,23 +53,23 @@ set_inside p i s j e =
     omega arith
 
 -- a token ends past its place
-pub TokenAt-past : (mode : Mode) (p : List ℕ) (i : ℕ) (t : Token) (j : ℕ) → TokenAt mode p i t j → i < j
-TokenAt-past mode p i (Byte b) j (inl e) = omega (arith, e.1)
-TokenAt-past mode p i (Byte b) j (inr e) = omega (arith, e.2)
-TokenAt-past mode p i Any j e = omega (arith, e.1)
-TokenAt-past mode p i (OneOf s) j e = set_past p i s j e
-TokenAt-past mode p i Free j e = e.0.some
-TokenAt-past mode p i Local j e = e.0.some
-TokenAt-past mode p i Dirs j e = let some : i < e.run_end = e.run.some in let after : j ≡ e.run_end + 1 = e.after in omega arith
-TokenAt-past mode p i Nothing j e =
-    let inside : i < length p = TokenAt-inside mode p i Nothing j e in let at_end : j ≡ length p = e.1 in omega arith
+pub TokenAt-past : (way : Way) (p : List ℕ) (i : ℕ) (t : Token) (j : ℕ) → TokenAt way p i t j → i < j
+TokenAt-past way p i (Byte b) j (inl e) = omega (arith, e.1)
+TokenAt-past way p i (Byte b) j (inr e) = omega (arith, e.2)
+TokenAt-past way p i Any j e = omega (arith, e.1)
+TokenAt-past way p i (OneOf s) j e = set_past p i s j e
+TokenAt-past way p i Free j e = e.0.some
+TokenAt-past way p i Local j e = e.0.some
+TokenAt-past way p i Dirs j e = let some : i < e.run_end = e.run.some in let after : j ≡ e.run_end + 1 = e.after in omega arith
+TokenAt-past way p i Nothing j e =
+    let inside : i < length p = TokenAt-inside way p i Nothing j e in let at_end : j ≡ length p = e.1 in omega arith
 
 -- there are no more tokens than bytes
-pub From-short : (mode : Mode) (p : List ℕ) (i : ℕ) (ts : List Token) → From mode p i ts → i + length ts ≤ length p
-From-short mode p i [] e = let at_end : i ≡ length p = e in omega arith
-From-short mode p i (t ∷ ts) e =
-    let past : i < e.0 = TokenAt-past mode p i t e.0 e.1 in
-    let rest : e.0 + length ts ≤ length p = From-short mode p e.0 ts e.2 in
+pub From-short : (way : Way) (p : List ℕ) (i : ℕ) (ts : List Token) → From way p i ts → i + length ts ≤ length p
+From-short way p i [] e = let at_end : i ≡ length p = e in omega arith
+From-short way p i (t ∷ ts) e =
+    let past : i < e.0 = TokenAt-past way p i t e.0 e.1 in
+    let rest : e.0 + length ts ≤ length p = From-short way p e.0 ts e.2 in
     omega arith
 
 -- a run of stars has an end
@@ -97,10 +97,10 @@ run_exists p i h =
     (λ m from below. let at : i ≡ m = omega arith in subst (λ (x : ℕ). HasByte p x star) at h)
 
 -- no place inside is without a token
-star_token : (mode : Mode) (p : List ℕ) (i j : ℕ) → IsRun p i j → j ≤ length p
-    → ((t : Token) (m : ℕ) → TokenAt mode p i t m → m ≤ length p → ⊥) → ⊥
-star_token mode p i j run inside none = by_mode (is_path mode) refl where
-  bounded : is_path mode ≡ true → IsBounded p i j → ⊥
+star_token : (way : Way) (p : List ℕ) (i j : ℕ) → IsRun p i j → j ≤ length p
+    → ((t : Token) (m : ℕ) → TokenAt way p i t m → m ≤ length p → ⊥) → ⊥
+star_token way p i j run inside none = by_mode (is_path way) refl where
+  bounded : is_path way ≡ true → IsBounded p i j → ⊥
   bounded path both =
       none Free j (
         run,
@@ -113,13 +113,13 @@ star_token mode p i j run inside none = by_mode (is_path mode) refl where
       )
       inside
 
-  by_mode : (path : Bool) → is_path mode ≡ path → ⊥
+  by_mode : (path : Bool) → is_path way ≡ path → ⊥
   by_mode true path = none Local j (run, path, bounded path) inside
   by_mode false plain = none Free j (run, λ path. let wrong : true ≡ false = sym path ∙ plain in cc) inside
 
-some_token : (mode : Mode) (p : List ℕ) (i : ℕ) → i < length p
-    → ((t : Token) (j : ℕ) → TokenAt mode p i t j → j ≤ length p → ⊥) → ⊥
-some_token mode p i inside none = elim (eqb_tells (get_or p i 0) backslash) [
+some_token : (way : Way) (p : List ℕ) (i : ℕ) → i < length p
+    → ((t : Token) (j : ℕ) → TokenAt way p i t j → j ≤ length p → ⊥) → ⊥
+some_token way p i inside none = elim (eqb_tells (get_or p i 0) backslash) [
   | inl same ↦ escape (record { inside = inside; is = same.1 })
   | inr not_escape ↦ elim (eqb_tells (get_or p i 0) question_mark) [
     | inl same ↦ none Any (i + 1) (record { inside = inside; is = same.1 }, refl) (omega arith)
@@ -129,7 +129,7 @@ some_token mode p i inside none = elim (eqb_tells (get_or p i 0) backslash) [
           (inr (record { inside = inside; is = same.1 }, λ s j set. none (OneOf s) j set (set_inside p i s j set)), refl)
           (omega arith)
       | inr not_set ↦ elim (eqb_tells (get_or p i 0) star) [
-        | inl same ↦ let run = run_exists p i (record { inside = inside; is = same.1 }) in star_token mode p i run.0 run.1 run.2 none
+        | inl same ↦ let run = run_exists p i (record { inside = inside; is = same.1 }) in star_token way p i run.0 run.1 run.2 none
         | inr not_star ↦
             none (Byte (get_or p i 0)) (i + 1)
             (inr (record { inside = inside; is = refl }, stands_for_itself (get_or p i 0) not_star.1 not_any.1 not_set.1 not_escape.1, refl)) (omega arith)
@@ -140,25 +140,28 @@ some_token mode p i inside none = elim (eqb_tells (get_or p i 0) backslash) [
   escape : HasByte p i backslash → ⊥
   escape h = elim (cases_lt (i + 1) (length p)) [
     | inl more ↦
-        none (Byte (get_or p (i + 1) 0)) (i + 2)
-        (inl (record { escape = h; byte = record { inside = more; is = refl } }, refl)) (omega arith)
-    | inr last ↦ none Nothing (length p) (inl (h, omega arith), refl) (omega arith)
+        let e : IsEscaped p i (get_or p (i + 1) 0) = record { escape = h; byte = record { inside = more; is = refl } } in
+        ⊎_elim
+        (λ (dead : is_dead way (get_or p (i + 1) 0) ≡ true). none Nothing (length p) (inl (h, inr (get_or p (i + 1) 0, e.byte, dead)), refl) (omega arith))
+        (λ (live : is_dead way (get_or p (i + 1) 0) ≡ false). none (Byte (get_or p (i + 1) 0)) (i + 2) (inl (e, refl, ap not live)) (omega arith))
+        (cases_Bool (is_dead way (get_or p (i + 1) 0)))
+    | inr last ↦ none Nothing (length p) (inl (h, inl (omega arith)), refl) (omega arith)
   ]
 
-some_reading : (mode : Mode) (p : List ℕ) (n i : ℕ) → i ≤ length p → length p ≤ i + n → ((ts : List Token) → From mode p i ts → ⊥) → ⊥
-some_reading mode p zero i inside fuel none = none [] (omega arith)
-some_reading mode p (suc n) i inside fuel none = elim (cases_lt i (length p)) [
+some_reading : (way : Way) (p : List ℕ) (n i : ℕ) → i ≤ length p → length p ≤ i + n → ((ts : List Token) → From way p i ts → ⊥) → ⊥
+some_reading way p zero i inside fuel none = none [] (omega arith)
+some_reading way p (suc n) i inside fuel none = elim (cases_lt i (length p)) [
   | inr at_end ↦ none [] (omega arith)
   | inl more ↦
-      some_token mode p i more (λ t j here low.
-      let past : i < j = TokenAt-past mode p i t j here in
-      some_reading mode p n j low (omega arith) (λ ts read. none (t ∷ ts) (j, here, read)))
+      some_token way p i more (λ t j here low.
+      let past : i < j = TokenAt-past way p i t j here in
+      some_reading way p n j low (omega arith) (λ ts read. none (t ∷ ts) (j, here, read)))
 ]
 
 -- An order of numbers that follows from each reading of the pattern holds.
-pub settle : (mode : Mode) (p : List ℕ) (a b : ℕ) → ((ts : List Token) → Tokens mode p ts → a ≤ b) → a ≤ b
-settle mode p a b follows = elim (cases_lt b a) [
+pub settle : (way : Way) (p : List ℕ) (a b : ℕ) → ((ts : List Token) → Tokens way p ts → a ≤ b) → a ≤ b
+settle way p a b follows = elim (cases_lt b a) [
   | inl above ↦
-      absurd (some_reading mode p (length p) 0 (omega arith) (omega arith) (λ ts read. let low : a ≤ b = follows ts read in omega arith))
+      absurd (some_reading way p (length p) 0 (omega arith) (omega arith) (λ ts read. let low : a ≤ b = follows ts read in omega arith))
   | inr low ↦ low
 ]

@@ -1,14 +1,15 @@
--- In plain mode a token is read from the bytes that it spells: where two texts have the same bytes, they have the same tokens.
-use Rattle.std.proofs.Common.{◌≡◌, ◌⊎◌, inl, inr, ℕ, ◌+◌, ◌-◌, ◌<◌, ◌≤◌, Bool, true, false, if◌then◌else◌, List, [], ◌∷◌, length, get_or, slice_range, Option, None, refl, sym, ◌∙◌, subst, arith}
+-- A token is read from the bytes that it spells, but that in path mode what stands around a run counts: where two texts have the same bytes,
+-- they have the same tokens.
+use Rattle.std.proofs.Common.{◌≡◌, ◌↔◌, ◌⊎◌, inl, inr, IsTrue, ℕ, ◌+◌, ◌-◌, ◌<◌, ◌≤◌, Bool, true, false, if◌then◌else◌, List, [], ◌∷◌, length, get_or, slice_range, Option, None, refl, sym, ◌∙◌, subst, arith}
 use Rattle.std.proofs.lemmas.Bool.{cases_lt}
 use Rattle.std.proofs.lemmas.Grind.{same_number_lists}
-use Rattle.glob_matcher.specs.declared.wildmatch.mode.Mode.{Mode}
+use Rattle.glob_matcher.specs.declared.wildmatch.way.Way.{Way}
 use Rattle.glob_matcher.specs.declared.wildmatch.items.Item.{Item}
 use Rattle.glob_matcher.specs.declared.wildmatch.items.Item.TheVariants as item
-use Rattle.glob_matcher.specs.Bytes.{HasByte, IsEscaped, is_path, star, open_bracket, backslash}
+use Rattle.glob_matcher.specs.Bytes.{HasByte, IsEscaped, is_path, slash, star, open_bracket, backslash}
 use Rattle.glob_matcher.specs.Private.Spelling.{close_bracket, exclamation_mark, caret, question_mark, dash, colon, IsSign}
 use Rattle.glob_matcher.specs.Sets.{BeginsRange, BeginsClass, NamesClass, IsBare, IsUpperEnd, IsFirstFrom, ItemAt, ItemsAt, SetAt, Set, member_of}
-use Rattle.glob_matcher.specs.Tokens.{Token, Byte, Any, OneOf, Free, Local, Dirs, Nothing, TokenAt, IsRun, IsBroken, Spells, From}
+use Rattle.glob_matcher.specs.Tokens.{Token, Byte, Any, OneOf, Free, Local, Dirs, Nothing, TokenAt, IsBounded, IsRun, IsBroken, Spells, From}
 use Rattle.glob_matcher.proofs.lemmas.reading.SetLemmas.{two_bytes}
 use Rattle.glob_matcher.proofs.lemmas.reading.Existence.{items_close, item_past, items_past, upper_past, set_past, set_inside, TokenAt-past, From-short}
 use Rattle.glob_matcher.proofs.lemmas.cutting.PlaceLemmas.{part_byte, part_length}
@@ -145,6 +146,14 @@ start_low x false = omega arith
 
 -- ---- sets and tokens
 
+-- in path mode, what begins at place x of the one text is as bounded as what begins at place y of the other
+abbrev pub BoundAlike : Way → List ℕ → List ℕ → ℕ → ℕ → Type 0
+BoundAlike way p q x y = IsTrue (is_path way) → (j m : ℕ) → j + y ≡ m + x → IsRun p x j → IsBounded p x j ↔ IsBounded q y m
+
+-- in plain mode nothing is asked
+pub plain_bounds : (way : Way) (p q : List ℕ) (x y : ℕ) → is_path way ≡ false → BoundAlike way p q x y
+plain_bounds way p q x y plain = λ path j m sum run. absurd (let no : true ≡ false = sym path ∙ plain in cc)
+
 module _ (p : List ℕ) (a : ℕ) (q : List ℕ) (b n : ℕ) where
   -- the first bracket that closes is not past one that does
   none_alike : Alike p a q b n → (x y z : ℕ) → Faces a b n x y → HasByte p z close_bracket → x + 2 ≤ z → z < a + n
@@ -239,32 +248,51 @@ module _ (p : List ℕ) (a : ℕ) (q : List ℕ) (b n : ℕ) where
         after = omega arith;
       }
 
-  token_alike : Alike p a q b n → (mode : Mode) (x y : ℕ) (t : Token) (j m : ℕ) → is_path mode ≡ false → Faces a b n x y → j < a + n
-      → j + y ≡ m + x → (t ≡ Nothing → TokenAt mode q y Nothing m) → TokenAt mode p x t j → TokenAt mode q y t m
-  token_alike l mode x y (Byte c) j m plain f inside sum broken (inl e) =
+  token_alike : Alike p a q b n → (way : Way) (x y : ℕ) (t : Token) (j m : ℕ) → BoundAlike way p q x y → Faces a b n x y → j < a + n
+      → j + y ≡ m + x → (t ≡ Nothing → TokenAt way q y Nothing m) → TokenAt way p x t j → TokenAt way q y t m
+  token_alike l way x y (Byte c) j m bounds f inside sum broken (inl e) =
       let end : j ≡ x + 2 = e.1 in
-      inl (escaped_alike p a q b n l x y c f (omega arith) e.0, omega arith)
-  token_alike l mode x y (Byte c) j m plain f inside sum broken (inr e) =
+      inl (escaped_alike p a q b n l x y c f (omega arith) e.0, omega arith, e.2)
+  token_alike l way x y (Byte c) j m bounds f inside sum broken (inr e) =
       let end : j ≡ x + 1 = e.2 in
       inr (l.there x y c f e.0, e.1, omega arith)
-  token_alike l mode x y Any j m plain f inside sum broken e =
+  token_alike l way x y Any j m bounds f inside sum broken e =
       let end : j ≡ x + 1 = e.1 in
       (l.there x y question_mark f e.0, omega arith)
-  token_alike l mode x y (OneOf s) j m plain f inside sum broken e = set_alike l x y s j m f (omega arith) sum e
-  token_alike l mode x y Free j m plain f inside sum broken e =
-      (run_alike p a q b n l x y j m f sum inside e.0, λ path. cc)
-  token_alike l mode x y Local j m plain f inside sum broken e = let path = e.1 in cc
-  token_alike l mode x y Dirs j m plain f inside sum broken e = let path = e.path in cc
-  token_alike l mode x y Nothing j m plain f inside sum broken e = broken refl
+  token_alike l way x y (OneOf s) j m bounds f inside sum broken e = set_alike l x y s j m f (omega arith) sum e
+  token_alike l way x y Free j m bounds f inside sum broken e =
+      let past : x < j = e.0.some in
+      let end = faces_on a b n x y j m f (omega arith) (omega arith) inside in (
+        run_alike p a q b n l x y j m f sum inside e.0,
+        λ path. ((bounds path j m sum e.0).0 (e.1 path).0, λ h. (e.1 path).1 (l.back j m slash end h)),
+      )
+  token_alike l way x y Local j m bounds f inside sum broken e =
+      (run_alike p a q b n l x y j m f sum inside e.0, e.1, λ h. e.2 ((bounds e.1 j m sum e.0).1 h))
+  token_alike l way x y Dirs j m bounds f inside sum broken e =
+      let past : x < e.run_end = e.run.some in
+      let after : j ≡ e.run_end + 1 = e.after in
+      let k = y + (e.run_end - x) in
+      let end = faces_on a b n x y e.run_end k f (omega arith) (omega arith) (omega arith) in record {
+        path = e.path;
+        run_end = k;
+        run = run_alike p a q b n l x y e.run_end k f (omega arith) (omega arith) e.run;
+        bounded = (bounds e.path e.run_end k (omega arith) e.run).0 e.bounded;
+        slash = l.there e.run_end k slash end e.slash;
+        after = omega arith;
+      }
+  token_alike l way x y Nothing j m bounds f inside sum broken e = broken refl
 
 -- what cannot be read in the one text cannot be read in the other, where they are alike up to their ends
 broken_alike : (p : List ℕ) (a : ℕ) (q : List ℕ) (b n : ℕ) → Alike p a q b n → length p + b ≡ length q + a → length p < a + n
-    → (x y : ℕ) → Faces a b n x y → IsBroken p x → IsBroken q y
-broken_alike p a q b n l ends over x y f (inl e) =
+    → (way : Way) (x y : ℕ) → Faces a b n x y → IsBroken way p x → IsBroken way q y
+broken_alike p a q b n l ends over way x y f (inl (h, inl last)) =
     let same : x + b ≡ y + a = f.same in
-    let last : x + 1 ≡ length p = e.1 in
-    inl (l.there x y backslash f e.0, omega arith)
-broken_alike p a q b n l ends over x y f (inr e) =
+    inl (l.there x y backslash f h, inl (omega arith))
+broken_alike p a q b n l ends over way x y f (inl (h, inr dead)) =
+    let inside : x + 1 < length p = dead.1.inside in
+    let next = faces_on a b n x y (x + 1) (y + 1) f (omega arith) (omega arith) (omega arith) in
+    inl (l.there x y backslash f h, inr (dead.0, l.there (x + 1) (y + 1) dead.0 next dead.1, dead.2))
+broken_alike p a q b n l ends over way x y f (inr e) =
     inr (
       l.there x y open_bracket f e.0,
       λ s k set.
@@ -279,38 +307,38 @@ broken_alike p a q b n l ends over x y f (inr e) =
 
 -- Texts that are alike from two places up to their ends have the same tokens from there on.
 pub from_alike : (p : List ℕ) (a : ℕ) (q : List ℕ) (b n : ℕ) → Alike p a q b n → length p + b ≡ length q + a → length p < a + n
-    → (mode : Mode) (x y : ℕ) (ts : List Token) → is_path mode ≡ false → Faces a b n x y → From mode p x ts → From mode q y ts
-from_alike p a q b n l ends over mode x y [] plain f e =
+    → (way : Way) → ((x y : ℕ) → Faces a b n x y → BoundAlike way p q x y) → (x y : ℕ) (ts : List Token) → Faces a b n x y → From way p x ts → From way q y ts
+from_alike p a q b n l ends over way bounds x y [] f e =
     let same : x + b ≡ y + a = f.same in
     let at_end : x ≡ length p = e in
     omega arith
-from_alike p a q b n l ends over mode x y (t ∷ ts) plain f e =
+from_alike p a q b n l ends over way bounds x y (t ∷ ts) f e =
     let same : x + b ≡ y + a = f.same in
-    let past : x < e.0 = TokenAt-past mode p x t e.0 e.1 in
-    let short : e.0 + length ts ≤ length p = From-short mode p e.0 ts e.2 in
+    let past : x < e.0 = TokenAt-past way p x t e.0 e.1 in
+    let short : e.0 + length ts ≤ length p = From-short way p e.0 ts e.2 in
     let m : ℕ = y + (e.0 - x) in
-    let broken : t ≡ Nothing → TokenAt mode q y Nothing m = λ is.
-    let here : TokenAt mode p x Nothing e.0 = subst (λ (u : Token). TokenAt mode p x u e.0) is e.1 in
+    let broken : t ≡ Nothing → TokenAt way q y Nothing m = λ is.
+    let here : TokenAt way p x Nothing e.0 = subst (λ (u : Token). TokenAt way p x u e.0) is e.1 in
     let at_end : e.0 ≡ length p = here.1 in
-    (broken_alike p a q b n l ends over x y f here.0, omega arith) in (
+    (broken_alike p a q b n l ends over way x y f here.0, omega arith) in (
       m,
-      token_alike p a q b n l mode x y t e.0 m plain f (omega arith) (omega arith) broken e.1,
-      from_alike p a q b n l ends over mode e.0 m ts plain
+      token_alike p a q b n l way x y t e.0 m (bounds x y f) f (omega arith) (omega arith) broken e.1,
+      from_alike p a q b n l ends over way bounds e.0 m ts
           (faces_on a b n x y e.0 m f (omega arith) (omega arith) (omega arith)) e.2,
     )
 
 -- Texts that are alike at their beginning have the same tokens there.
-pub spells_alike : (p q : List ℕ) (n : ℕ) → Alike p 0 q 0 n → (mode : Mode) (x : ℕ) (ts : List Token) (i : ℕ) → is_path mode ≡ false
-    → i < n → i < length p → Spells mode p x ts i → Spells mode q x ts i
-spells_alike p q n l mode x [] i plain below inside e = e
-spells_alike p q n l mode x (t ∷ ts) i plain below inside e =
-    let past : x < e.0 = TokenAt-past mode p x t e.0 e.1 in
-    let forward : e.0 ≤ i = spells_forward mode p e.0 ts i e.2 in
-    let broken : t ≡ Nothing → TokenAt mode q x Nothing e.0 = λ is.
-    let here : TokenAt mode p x Nothing e.0 = subst (λ (u : Token). TokenAt mode p x u e.0) is e.1 in
+pub spells_alike : (p q : List ℕ) (n : ℕ) → Alike p 0 q 0 n → (way : Way) (x : ℕ) (ts : List Token) (i : ℕ) → is_path way ≡ false
+    → i < n → i < length p → Spells way p x ts i → Spells way q x ts i
+spells_alike p q n l way x [] i plain below inside e = e
+spells_alike p q n l way x (t ∷ ts) i plain below inside e =
+    let past : x < e.0 = TokenAt-past way p x t e.0 e.1 in
+    let forward : e.0 ≤ i = spells_forward way p e.0 ts i e.2 in
+    let broken : t ≡ Nothing → TokenAt way q x Nothing e.0 = λ is.
+    let here : TokenAt way p x Nothing e.0 = subst (λ (u : Token). TokenAt way p x u e.0) is e.1 in
     let at_end : e.0 ≡ length p = here.1 in
     absurd (omega arith) in (
       e.0,
-      token_alike p 0 q 0 n l mode x x t e.0 e.0 plain (record { low = omega arith; below = omega arith; same = refl }) (omega arith) refl broken e.1,
-      spells_alike p q n l mode e.0 ts i plain below inside e.2,
+      token_alike p 0 q 0 n l way x x t e.0 e.0 (plain_bounds way p q x x plain) (record { low = omega arith; below = omega arith; same = refl }) (omega arith) refl broken e.1,
+      spells_alike p q n l way e.0 ts i plain below inside e.2,
     )

@@ -3,7 +3,7 @@ use Rattle.std.proofs.Common.{◌≡◌, ◌↔◌, inl, inr, ℕ, ◌+◌, ◌<
 use Rattle.std.specs.List.{list_any}
 use Rattle.glob_matcher.specs.declared.wildmatch.items.Item.{Item}
 use Rattle.glob_matcher.specs.declared.wildmatch.items.Item.TheVariants as item
-use Rattle.glob_matcher.specs.declared.wildmatch.mode.Mode.{Mode}
+use Rattle.glob_matcher.specs.declared.wildmatch.way.Way.{Way}
 use Rattle.glob_matcher.specs.Bytes.{HasByte, is_path, open_bracket, slash}
 use Rattle.glob_matcher.specs.Private.Spelling.{close_bracket, IsSign}
 use Rattle.glob_matcher.specs.Sets.{Set, SetAt, ItemAt, ItemsAt, item_holds, member_of, set_holds}
@@ -78,16 +78,16 @@ or_false true = refl
 or_false false = refl
 
 -- Where the closing bracket stands, the items so far make the set.
-pub set_closed : {text : List ℕ} (mode : Mode) (b : ℕ) {held first : Bool} {low : Option ℕ} {i : ℕ} (place : ℕ) (negated : Bool)
+pub set_closed : {text : List ℕ} (way : Way) (b : ℕ) {held first : Bool} {low : Option ℕ} {i : ℕ} (place : ℕ) (negated : Bool)
     → HasByte text place open_bracket → IsTrue negated ↔ IsSign text (place + 1)
-    → IsUnderway text (first_item negated place) (item_holds mode b) held first low i → ItemsAt text first low i [] i
+    → IsUnderway text (first_item negated place) (item_holds way b) held first low i → ItemsAt text first low i [] i
     → (s : Set) × SetAt text place s (i + 1)
-    × ((not (is_path mode && b == slash) && (if negated then not held else held)) ≡ set_holds mode s b)
-set_closed {text = text} mode b {held = held} {i = i} place negated bracket sign so_far close =
+    × ((not (is_path way && b == slash) && (if negated then not held else held)) ≡ set_holds way s b)
+set_closed {text = text} way b {held = held} {i = i} place negated bracket sign so_far close =
     let all = so_far.forth [] i close in (
       make_set negated all.0,
       record { bracket = bracket; sign = sign; close = i; items = all.1; after = refl },
-      ap (λ (h : Bool). not (is_path mode && b == slash) && (if negated then not h else h)) (sym (or_false held) ∙ all.2),
+      ap (λ (h : Bool). not (is_path way && b == slash) && (if negated then not h else h)) (sym (or_false held) ∙ all.2),
     )
 
 -- Where neither an item nor the closing bracket stands, no set does.

@@ -3,7 +3,7 @@ use Rattle.std.proofs.Common.{◌≡◌, ◌≢◌, inl, inr, ℕ, zero, suc, �
 use Rattle.std.proofs.lemmas.Bool.{cases_eq, cases_lt}
 use Rattle.std.specs.Char.{to_ascii_lowercase}
 use Rattle.std.specs.Prelude.{OnSome}
-use Rattle.glob_matcher.specs.declared.wildmatch.mode.Mode.{Mode}
+use Rattle.glob_matcher.specs.declared.wildmatch.way.Way.{Way}
 use Rattle.glob_matcher.specs.declared.wildmatch.marks.Mark.{Mark}
 use Rattle.glob_matcher.specs.declared.wildmatch.needle.Follow.{Follow}
 use Rattle.glob_matcher.specs.declared.wildmatch.needle.Follow.TheVariants as follow
@@ -33,11 +33,11 @@ use Rattle.glob_matcher.proofs.lemmas.two_marks.TakenByteCosts.{allows_on, allow
 use Rattle.glob_matcher.proofs.lemmas.two_marks.MovedMarkCosts.{allows_free_moved, allows_local_moved, left_missed}
 use Rattle.glob_matcher.proofs.lemmas.two_marks.Prices.{amount-mono, move-some, Takes-on}
 
-fold-exact : (mode : Mode) (b : ℕ) → folds mode ≡ false → fold mode b ≡ b
-fold-exact mode b off = ap (λ (on : Bool). if on then to_ascii_lowercase b else b) off
+fold-exact : (way : Way) (b : ℕ) → folds way ≡ false → fold way b ≡ b
+fold-exact way b off = ap (λ (on : Bool). if on then to_ascii_lowercase b else b) off
 
-fold-lowercase : (mode : Mode) (b : ℕ) → folds mode ≡ true → fold mode b ≡ to_ascii_lowercase b
-fold-lowercase mode b on = ap (λ (x : Bool). if x then to_ascii_lowercase b else b) on
+fold-lowercase : (way : Way) (b : ℕ) → folds way ≡ true → fold way b ≡ to_ascii_lowercase b
+fold-lowercase way b on = ap (λ (x : Bool). if x then to_ascii_lowercase b else b) on
 
 -- a byte of the value is what follows
 abbrev pub Suits : Follow → ℕ → Type 0
@@ -46,81 +46,81 @@ Suits (follow.Folded b) = λ c. to_ascii_lowercase c ≡ to_ascii_lowercase b
 Suits follow.End = λ c. ⊥
 
 -- a byte that is what follows is taken by the token there
-pub fits_what_follows : (mode : Mode) (p : List ℕ) (i : ℕ) (f : Follow) (c : ℕ) → Follows mode p i f → Suits f c
-    → (i < length p) × StandsForItself (get_or p i 0) × Fits mode (Byte (get_or p i 0)) c
-fits_what_follows mode p i (follow.Byte b) c is suits = (
+pub fits_what_follows : (way : Way) (p : List ℕ) (i : ℕ) (f : Follow) (c : ℕ) → Follows way p i f → Suits f c
+    → (i < length p) × StandsForItself (get_or p i 0) × Fits way (Byte (get_or p i 0)) c
+fits_what_follows way p i (follow.Byte b) c is suits = (
   is.0.inside,
   subst StandsForItself (sym is.0.is) is.1,
-  ap (fold mode) (suits ∙ sym is.0.is),
+  ap (fold way) (suits ∙ sym is.0.is),
 )
-fits_what_follows mode p i (follow.Folded b) c is suits = (
+fits_what_follows way p i (follow.Folded b) c is suits = (
   is.0.inside,
   subst StandsForItself (sym is.0.is) is.1,
-  fold-lowercase mode c is.2 ∙ (suits ∙ (sym (fold-lowercase mode b is.2) ∙ ap (fold mode) (sym is.0.is))),
+  fold-lowercase way c is.2 ∙ (suits ∙ (sym (fold-lowercase way b is.2) ∙ ap (fold way) (sym is.0.is))),
 )
-fits_what_follows mode p i follow.End c is suits = absurd suits
+fits_what_follows way p i follow.End c is suits = absurd suits
 
 -- where the value has not what follows, the token there takes no byte
-pub misses_what_follows : (mode : Mode) (p v : List ℕ) (i k : ℕ) (f : Follow) → Follows mode p i f → k < length v → ¬ Suits f (get_or v k 0)
-    → ¬ SplitsFrom v k p i mode
-misses_what_follows mode p v i k (follow.Byte b) is inside other =
-    misses_byte v k (literal_token mode p i is.0.inside (subst StandsForItself (sym is.0.is) is.1)) refl (omega arith)
-    (λ fits. other (sym (fold-exact mode (get_or v k 0) is.2) ∙ (fits.1 ∙ (fold-exact mode (get_or p i 0) is.2 ∙ is.0.is))))
-misses_what_follows mode p v i k (follow.Folded b) is inside other =
-    misses_byte v k (literal_token mode p i is.0.inside (subst StandsForItself (sym is.0.is) is.1)) refl (omega arith)
+pub misses_what_follows : (way : Way) (p v : List ℕ) (i k : ℕ) (f : Follow) → Follows way p i f → k < length v → ¬ Suits f (get_or v k 0)
+    → ¬ SplitsFrom v k p i way
+misses_what_follows way p v i k (follow.Byte b) is inside other =
+    misses_byte v k (literal_token way p i is.0.inside (subst StandsForItself (sym is.0.is) is.1)) refl (omega arith)
+    (λ fits. other (sym (fold-exact way (get_or v k 0) is.2) ∙ (fits.1 ∙ (fold-exact way (get_or p i 0) is.2 ∙ is.0.is))))
+misses_what_follows way p v i k (follow.Folded b) is inside other =
+    misses_byte v k (literal_token way p i is.0.inside (subst StandsForItself (sym is.0.is) is.1)) refl (omega arith)
     (λ fits.
     other
-    (sym (fold-lowercase mode (get_or v k 0) is.2)
-    ∙ (fits.1 ∙ (fold-lowercase mode (get_or p i 0) is.2 ∙ ap to_ascii_lowercase is.0.is))))
-misses_what_follows mode p v i k follow.End is inside other = end_missed mode p v i k is (λ past. omega arith)
+    (sym (fold-lowercase way (get_or v k 0) is.2)
+    ∙ (fits.1 ∙ (fold-lowercase way (get_or p i 0) is.2 ∙ ap to_ascii_lowercase is.0.is))))
+misses_what_follows way p v i k follow.End is inside other = end_missed way p v i k is (λ past. omega arith)
 
 -- A scan for what follows is a scan for the rest of the pattern, after the look at what follows.
-scan_for_mark : (mode : Mode) (p : List ℕ) {v : List ℕ} (f : Follow) {B : ℕ → Type 0} {from : Mark} {s : Scan} {before between after : Counts}
-    → Follows mode p from.place f → Takes before between 0 1 → IsScan v (Suits f) B from s between after
-    → IsScanFor mode p v B from s before after
-scan_for_mark mode p {v} f {from} {s = scan.Found m} is looked found =
+scan_for_mark : (way : Way) (p : List ℕ) {v : List ℕ} (f : Follow) {B : ℕ → Type 0} {from : Mark} {s : Scan} {before between after : Counts}
+    → Follows way p from.place f → Takes before between 0 1 → IsScan v (Suits f) B from s between after
+    → IsScanFor way p v B from s before after
+scan_for_mark way p {v} f {from} {s = scan.Found m} is looked found =
     let so = found.meaning in
-    let here : Follows mode p m.place f = subst (λ (i : ℕ). Follows mode p i f) (sym so.0.same) is in
-    let fits = fits_what_follows mode p m.place f (get_or v m.at 0) here so.2 in
+    let here : Follows way p m.place f = subst (λ (i : ℕ). Follows way p i f) (sym so.0.same) is in
+    let fits = fits_what_follows way p m.place f (get_or v m.at 0) here so.2 in
     record {
       same = so.0.same;
       low = so.0.low;
       inside = so.0.inside;
-      missed = λ k low below. misses_what_follows mode p v from.place k f is (omega (arith, so.0.inside)) (so.0.unsuited k low below);
+      missed = λ k low below. misses_what_follows way p v from.place k f is (omega (arith, so.0.inside)) (so.0.unsuited k low below);
       free = so.0.free;
       met = record { place = fits.0; literal = fits.1; at = so.1; fits = fits.2 };
       takes = Takes-on looked found.takes (omega arith) (omega arith);
     }
-scan_for_mark mode p {v} f {from} {s = scan.Blocked m} is looked found =
+scan_for_mark way p {v} f {from} {s = scan.Blocked m} is looked found =
     let so = found.meaning in
-    let here : Follows mode p m.place f = subst (λ (i : ℕ). Follows mode p i f) (sym so.0.same) is in
+    let here : Follows way p m.place f = subst (λ (i : ℕ). Follows way p i f) (sym so.0.same) is in
     record {
       same = so.0.same;
       low = so.0.low;
       inside = so.0.inside;
-      missed = λ k low below. misses_what_follows mode p v from.place k f is (omega (arith, so.0.inside)) (so.0.unsuited k low below);
+      missed = λ k low below. misses_what_follows way p v from.place k f is (omega (arith, so.0.inside)) (so.0.unsuited k low below);
       free = so.0.free;
-      met = (so.1, so.3, misses_what_follows mode p v m.place m.at f here so.1 so.2);
+      met = (so.1, so.3, misses_what_follows way p v m.place m.at f here so.1 so.2);
       takes = Takes-on looked found.takes (omega arith) (omega arith);
     }
-scan_for_mark mode p {v} f {from} {s = scan.Undecided m} is looked found =
+scan_for_mark way p {v} f {from} {s = scan.Undecided m} is looked found =
     let so = found.meaning in
     record {
       same = so.same;
       low = so.low;
       inside = so.inside;
-      missed = λ k low below. misses_what_follows mode p v from.place k f is (omega (arith, so.inside)) (so.unsuited k low below);
+      missed = λ k low below. misses_what_follows way p v from.place k f is (omega (arith, so.inside)) (so.unsuited k low below);
       free = so.free;
       met = tt;
       takes = Takes-on looked found.takes (omega arith) (omega arith);
     }
 
-pub scan_for : {mode : Mode} {p v : List ℕ} {f g : Follow} {B : ℕ → Type 0} {i : ℕ} {from : Mark} {s : Scan} {before between after : Counts} → f ≡ g
-    → Takes before between 0 1 → IsScan v (Suits g) B from s between after → i ≡ from.place → Follows mode p i f
-    → IsScanFor mode p v B from s before after
-scan_for {mode} {p} {f = f} {g} {from = from} same looked found same_place follows =
-    scan_for_mark mode p g (subst (λ (x : Follow). Follows mode p from.place x) same
-    (subst (λ (i : ℕ). Follows mode p i f) same_place follows)) looked found
+pub scan_for : {way : Way} {p v : List ℕ} {f g : Follow} {B : ℕ → Type 0} {i : ℕ} {from : Mark} {s : Scan} {before between after : Counts} → f ≡ g
+    → Takes before between 0 1 → IsScan v (Suits g) B from s between after → i ≡ from.place → Follows way p i f
+    → IsScanFor way p v B from s before after
+scan_for {way} {p} {f = f} {g} {from = from} same looked found same_place follows =
+    scan_for_mark way p g (subst (λ (x : Follow). Follows way p from.place x) same
+    (subst (λ (i : ℕ). Follows way p i f) same_place follows)) looked found
 
 -- what holds at a place and goes on by one place holds at each place after it
 holds_after : (Q : ℕ → Type 0) (a d : ℕ) → Q a → ((k : ℕ) → a ≤ k → k < a + d → Q k → Q (k + 1)) → Q (a + d)
@@ -140,48 +140,48 @@ holds_moved : (Q : Mark → Type 0) {m : Mark} (x : Mark) → Q m → x.place �
 holds_moved Q {m} x here same low on =
     subst Q (mark_eq x m.place x.at same refl) (holds_later (λ k. Q (mark_of m.place k)) m.at x.at low here on)
 
-module _ {mode : Mode} {p v : List ℕ} where
+module _ {way : Way} {p v : List ℕ} where
   -- The crossing mark of a run of stars moves on over places from which the rest of the pattern splits nothing.
-  pub stands_free_skipped : {m : Mark} (x : Mark) → StandsAt mode p v (state_of m.place m.at (crossing.Free m) None)
-      → x.place ≡ m.place → m.at ≤ x.at → x.at ≤ length v → ((k : ℕ) → m.at ≤ k → k < x.at → ¬ SplitsFrom v k p m.place mode)
-      → StandsAt mode p v (state_of x.place x.at (crossing.Free x) None)
+  pub stands_free_skipped : {m : Mark} (x : Mark) → StandsAt way p v (state_of m.place m.at (crossing.Free m) None)
+      → x.place ≡ m.place → m.at ≤ x.at → x.at ≤ length v → ((k : ℕ) → m.at ≤ k → k < x.at → ¬ SplitsFrom v k p m.place way)
+      → StandsAt way p v (state_of x.place x.at (crossing.Free x) None)
   stands_free_skipped {m} x st same low inside missed =
-      holds_moved (λ y. StandsAt mode p v (state_of y.place y.at (crossing.Free y) None)) x st same low
+      holds_moved (λ y. StandsAt way p v (state_of y.place y.at (crossing.Free y) None)) x st same low
       (λ k from below at.
       stands_free_moved (mark_of m.place (k + 1)) (left_without (miss_of at (missed k from below)) refl) (omega arith) refl refl)
 
   -- The local mark moves on within its component, over places from which the rest of the pattern splits nothing.
-  pub stands_local_skipped : {c : Crossing} {m : Mark} (x : Mark) → StandsAt mode p v (state_of m.place m.at c (Some m))
+  pub stands_local_skipped : {c : Crossing} {m : Mark} (x : Mark) → StandsAt way p v (state_of m.place m.at c (Some m))
       → x.place ≡ m.place → m.at ≤ x.at → x.at ≤ length v → NoSlash v m.at x.at
-      → ((k : ℕ) → m.at ≤ k → k < x.at → ¬ SplitsFrom v k p m.place mode) → StandsAt mode p v (state_of x.place x.at c (Some x))
+      → ((k : ℕ) → m.at ≤ k → k < x.at → ¬ SplitsFrom v k p m.place way) → StandsAt way p v (state_of x.place x.at c (Some x))
   stands_local_skipped {c} {m} x st same low inside bare missed =
-      holds_moved (λ y. StandsAt mode p v (state_of y.place y.at c (Some y))) x st same low
+      holds_moved (λ y. StandsAt way p v (state_of y.place y.at c (Some y))) x st same low
       (λ k from below at.
       stands_local_moved (mark_of m.place (k + 1)) (miss_of at (missed k from below)) refl (omega arith)
       (bare.at k from below) refl refl)
 
-module _ {measure : Measure} {mode : Mode} {p v : List ℕ} where
+module _ {measure : Measure} {way : Way} {p v : List ℕ} where
   pub allows_free_skipped : {m : Mark} (x : Mark) {spent limit : ℕ}
-      → AllowsAt measure mode p v (state_of m.place m.at (crossing.Free m) None) spent limit → x.place ≡ m.place → m.at ≤ x.at
-      → x.at ≤ length v → AllowsAt measure mode p v (state_of x.place x.at (crossing.Free x) None) (spent + 2 * (x.at - m.at)) limit
+      → AllowsAt measure way p v (state_of m.place m.at (crossing.Free m) None) spent limit → x.place ≡ m.place → m.at ≤ x.at
+      → x.at ≤ length v → AllowsAt measure way p v (state_of x.place x.at (crossing.Free x) None) (spent + 2 * (x.at - m.at)) limit
   allows_free_skipped {m} x {spent} {limit} a same low inside =
-      holds_moved (λ y. AllowsAt measure mode p v (state_of y.place y.at (crossing.Free y) None) (spent + 2 * (y.at - m.at)) limit)
+      holds_moved (λ y. AllowsAt measure way p v (state_of y.place y.at (crossing.Free y) None) (spent + 2 * (y.at - m.at)) limit)
       x (allows_less (omega arith) a) same low
       (λ k from below a.
       allows_less (omega (arith, move-some measure))
       (allows_free_moved (mark_of m.place (k + 1)) (omega arith) refl refl (left_missed (omega arith) (allows_missed a))))
 
-  pub allows_local_skipped : {c : Crossing} {m : Mark} (x : Mark) {spent limit : ℕ} → IsTrue (is_path mode)
-      → AllowsAt measure mode p v (state_of m.place m.at c (Some m)) spent limit → x.place ≡ m.place → m.at ≤ x.at
+  pub allows_local_skipped : {c : Crossing} {m : Mark} (x : Mark) {spent limit : ℕ} → IsTrue (is_path way)
+      → AllowsAt measure way p v (state_of m.place m.at c (Some m)) spent limit → x.place ≡ m.place → m.at ≤ x.at
       → x.at ≤ length v → NoSlash v m.at x.at
-      → AllowsAt measure mode p v (state_of x.place x.at c (Some x)) (spent + 2 * (x.at - m.at)) limit
+      → AllowsAt measure way p v (state_of x.place x.at c (Some x)) (spent + 2 * (x.at - m.at)) limit
   allows_local_skipped {c} {m} x {spent} {limit} path a same low inside bare =
-      holds_moved (λ y. AllowsAt measure mode p v (state_of y.place y.at c (Some y)) (spent + 2 * (y.at - m.at)) limit)
+      holds_moved (λ y. AllowsAt measure way p v (state_of y.place y.at c (Some y)) (spent + 2 * (y.at - m.at)) limit)
       x (allows_less (omega arith) a) same low
       (λ k from below a.
       allows_less (omega (arith, move-some measure))
       (allows_local_moved (mark_of m.place (k + 1)) (allows_missed a) refl (omega arith)
-      (ends-inner mode (get_or v k 0) path (bare.at k from below)) refl refl))
+      (ends-inner way (get_or v k 0) path (bare.at k from below)) refl refl))
 
 -- a byte is known by its token
 pub byte_of : {b d : ℕ} → Byte b ≡ Byte d → b ≡ d
@@ -201,57 +201,57 @@ pub unset_past : {p : List ℕ} {i : ℕ} → IsLocalPast p i None None
 unset_past = record { at_slash = λ is. refl; at_other = λ other. refl }
 
 -- a scan that slashes block has passed none
-no_slash_passed : {mode : Mode} {p v : List ℕ} {from : Mark} {s : Scan} {before after : Counts}
-    → IsScanFor mode p v (λ b. b ≡ slash) from s before after → NoSlash v from.at (reached_by s).at
+no_slash_passed : {way : Way} {p v : List ℕ} {from : Mark} {s : Scan} {before after : Counts}
+    → IsScanFor way p v (λ b. b ≡ slash) from s before after → NoSlash v from.at (reached_by s).at
 no_slash_passed so = record { at = so.free }
 
-module _ {mode : Mode} {p v : List ℕ} where
+module _ {way : Way} {p v : List ℕ} where
   -- The byte after a run of stars is found where its mark is.
-  pub stands_found : {i k : ℕ} {c : Crossing} {l next : Option Mark} → StandsAt mode p v (state_of i k c l)
-      → IsLiteralMet mode p v i k → IsLocalPast p i l next → StandsAt mode p v (state_of (i + 1) (k + 1) c next)
+  pub stands_found : {i k : ℕ} {c : Crossing} {l next : Option Mark} → StandsAt way p v (state_of i k c l)
+      → IsLiteralMet way p v i k → IsLocalPast p i l next → StandsAt way p v (state_of (i + 1) (k + 1) c next)
   stands_found {i} {k} {c} st met past =
-      let token = literal_token mode p i met.place met.literal in
+      let token = literal_token way p i met.place met.literal in
       elim (cases_eq (get_or p i 0) slash) [
         | inl is ↦
-            subst (λ (x : Option Mark). StandsAt mode p v (state_of (i + 1) (k + 1) c x)) (sym (past.at_slash is))
+            subst (λ (x : Option Mark). StandsAt way p v (state_of (i + 1) (k + 1) c x)) (sym (past.at_slash is))
             (stands_past_slash st token refl met.at met.fits (ap Byte is))
         | inr other ↦
-            subst (λ (x : Option Mark). StandsAt mode p v (state_of (i + 1) (k + 1) c x)) (sym (past.at_other other))
+            subst (λ (x : Option Mark). StandsAt way p v (state_of (i + 1) (k + 1) c x)) (sym (past.at_other other))
             (stands_on st token refl met.at met.fits (λ is. other (byte_of is)))
       ]
 
   -- A scan from the local mark, once it has moved: the engine stands where the scan has come to.
-  pub local_scanned : {state : State} {m x : Mark} {s : Scan} {before after : Counts} → IsMiss mode p v state → state.local ≡ Some m
+  pub local_scanned : {state : State} {m x : Mark} {s : Scan} {before after : Counts} → IsMiss way p v state → state.local ≡ Some m
       → m.at < length v → get_or v m.at 0 ≢ slash → x.place ≡ m.place → x.at ≡ m.at + 1
-      → IsScanFor mode p v (λ b. b ≡ slash) x s before after
-      → StandsAt mode p v (state_of (reached_by s).place (reached_by s).at state.crossing (Some (reached_by s)))
+      → IsScanFor way p v (λ b. b ≡ slash) x s before after
+      → StandsAt way p v (state_of (reached_by s).place (reached_by s).at state.crossing (Some (reached_by s)))
   local_scanned {x = x} {s} miss is inside other same at so =
       stands_local_skipped (reached_by s) (stands_local_moved x miss is inside other same at) so.same so.low so.inside (no_slash_passed so) so.missed
 
-module _ {measure : Measure} {mode : Mode} {p v : List ℕ} where
-  pub allows_found : {i k : ℕ} {c : Crossing} {l next : Option Mark} {spent limit : ℕ} → StandsAt mode p v (state_of i k c l)
-      → AllowsAt measure mode p v (state_of i k c l) spent limit → IsLiteralMet mode p v i k → IsLocalPast p i l next
-      → AllowsAt measure mode p v (state_of (i + 1) (k + 1) c next) (spent + amount measure 1 8) limit
+module _ {measure : Measure} {way : Way} {p v : List ℕ} where
+  pub allows_found : {i k : ℕ} {c : Crossing} {l next : Option Mark} {spent limit : ℕ} → StandsAt way p v (state_of i k c l)
+      → AllowsAt measure way p v (state_of i k c l) spent limit → IsLiteralMet way p v i k → IsLocalPast p i l next
+      → AllowsAt measure way p v (state_of (i + 1) (k + 1) c next) (spent + amount measure 1 8) limit
   allows_found {i} {k} {c} {spent = spent} {limit} st a met past =
-      let token = literal_token mode p i met.place met.literal in
+      let token = literal_token way p i met.place met.literal in
       elim (cases_eq (get_or p i 0) slash) [
         | inl is ↦
-            subst (λ (x : Option Mark). AllowsAt measure mode p v (state_of (i + 1) (k + 1) c x) (spent + amount measure 1 8) limit) (sym (past.at_slash is))
+            subst (λ (x : Option Mark). AllowsAt measure way p v (state_of (i + 1) (k + 1) c x) (spent + amount measure 1 8) limit) (sym (past.at_slash is))
             (allows_past_slash token refl (byte_price measure i spent) met.at met.fits a)
         | inr other ↦
-            subst (λ (x : Option Mark). AllowsAt measure mode p v (state_of (i + 1) (k + 1) c x) (spent + amount measure 1 8) limit) (sym (past.at_other other))
+            subst (λ (x : Option Mark). AllowsAt measure way p v (state_of (i + 1) (k + 1) c x) (spent + amount measure 1 8) limit) (sym (past.at_other other))
             (allows_on token refl (byte_price measure i spent) met.at met.fits
             (inner_of token.token st met.fits (λ is. other (byte_of is))) a)
       ]
 
-  pub local_scanned_counts : {state : State} {m x : Mark} {s : Scan} {before after : Counts} {spent limit : ℕ} → IsMiss mode p v state
+  pub local_scanned_counts : {state : State} {m x : Mark} {s : Scan} {before after : Counts} {spent limit : ℕ} → IsMiss way p v state
       → state.local ≡ Some m → m.at < length v → get_or v m.at 0 ≢ slash → x.place ≡ m.place → x.at ≡ m.at + 1
-      → IsScanFor mode p v (λ b. b ≡ slash) x s before after → AllowsMiss measure mode p v state spent limit
-      → AllowsAt measure mode p v (state_of (reached_by s).place (reached_by s).at state.crossing (Some (reached_by s)))
+      → IsScanFor way p v (λ b. b ≡ slash) x s before after → AllowsMiss measure way p v state spent limit
+      → AllowsAt measure way p v (state_of (reached_by s).place (reached_by s).at state.crossing (Some (reached_by s)))
       (spent + move measure + 2 * ((reached_by s).at - x.at)) limit
   local_scanned_counts {state} {m} {x} {s} miss is inside other same at so a =
-      let st : StandsAt mode p v (state_of x.place x.at state.crossing (Some x)) = stands_local_moved x miss is inside other same at in
-      let within = ends-inner mode (get_or v m.at 0) st.local.path other in
+      let st : StandsAt way p v (state_of x.place x.at state.crossing (Some x)) = stands_local_moved x miss is inside other same at in
+      let within = ends-inner way (get_or v m.at 0) st.local.path other in
       allows_local_skipped (reached_by s) st.local.path (allows_local_moved x a is inside within same at) so.same so.low so.inside (no_slash_passed so)
 
 -- scans, one after the other

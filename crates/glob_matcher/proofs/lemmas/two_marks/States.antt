@@ -1,13 +1,13 @@
 -- The engine with two marks: what its state means. A match is found here, or at a later place of a mark.
 use Rattle.std.proofs.Common.{◌≡◌, inl, inr, ℕ, ◌+◌, ◌-◌, ◌<◌, ◌≤◌, true, List, length, get_or, Option, Some, None, sym, ◌∙◌, ap, subst, arith}
-use Rattle.glob_matcher.specs.declared.wildmatch.mode.Mode.{Mode}
+use Rattle.glob_matcher.specs.declared.wildmatch.way.Way.{Way}
 use Rattle.glob_matcher.specs.declared.wildmatch.marks.Mark.{Mark}
 use Rattle.glob_matcher.specs.declared.wildmatch.state.Crossing.{Crossing}
 use Rattle.glob_matcher.specs.declared.wildmatch.state.Crossing.TheVariants as crossing
 use Rattle.glob_matcher.specs.declared.wildmatch.state.State.{State}
 use Rattle.glob_matcher.specs.Tokens.{Nothing, TokenAt}
 use Rattle.glob_matcher.specs.Private.Spelling.{IsAfterSlash}
-use Rattle.glob_matcher.specs.Matching.{Splits, SplitsFrom}
+use Rattle.glob_matcher.specs.Matching.{SplitsBy, SplitsFrom}
 use Rattle.glob_matcher.specs.Private.Components.{ends, next_component}
 use Rattle.glob_matcher.specs.Private.States.{LaterDirs, LaterLocalIfSet, SuccessAhead, SuccessFar, SuccessNear, LocalKnownIfSet, StandsAt, IsLeft, IsMiss}
 use Rattle.glob_matcher.proofs.lemmas.cutting.CutLemmas.{nothing_out, end_in, end_out}
@@ -23,8 +23,8 @@ abbrev pub state_of : ℕ → ℕ → Crossing → Option Mark → State
 state_of place at c l = record { place = place; at = at; crossing = c; local = l }
 
 -- the engine at its start
-pub stands_start : (mode : Mode) (p v : List ℕ) → StandsAt mode p v (state_of 0 0 crossing.Unmet None)
-stands_start mode p v = record {
+pub stands_start : (way : Way) (p v : List ℕ) → StandsAt way p v (state_of 0 0 crossing.Unmet None)
+stands_start way p v = record {
   low = omega arith;
   inside = omega arith;
   sound = λ all. all;
@@ -37,27 +37,27 @@ stands_start mode p v = record {
 }
 
 -- the pattern's end, where the value goes on
-pub end_missed : (mode : Mode) (p v : List ℕ) (i k : ℕ) → i ≡ length p → (length v ≤ k → ⊥) → ¬ SplitsFrom v k p i mode
-end_missed mode p v i k at_end short all = short (end_out mode p v i k at_end all)
+pub end_missed : (way : Way) (p v : List ℕ) (i k : ℕ) → i ≡ length p → (length v ≤ k → ⊥) → ¬ SplitsFrom v k p i way
+end_missed way p v i k at_end short all = short (end_out way p v i k at_end all)
 
-module _ {mode : Mode} {p v : List ℕ} where
+module _ {way : Way} {p v : List ℕ} where
   -- a later success of the local mark, seen from here
-  near_of : {i k : ℕ} (c : Crossing) (l : Option Mark) → LocalKnownIfSet mode p v i k c l → LaterLocalIfSet mode p v l
-      → SuccessNear mode p v i k
+  near_of : {i k : ℕ} (c : Crossing) (l : Option Mark) → LocalKnownIfSet way p v i k c l → LaterLocalIfSet way p v l
+      → SuccessNear way p v i k
   near_of c None known later = absurd later
   near_of c (Some m) known later = known.near later
 
-  pub local_near : {state : State} → StandsAt mode p v state → LaterLocalIfSet mode p v state.local
-      → SuccessNear mode p v state.place state.at
+  pub local_near : {state : State} → StandsAt way p v state → LaterLocalIfSet way p v state.local
+      → SuccessNear way p v state.place state.at
   local_near {state} st later = near_of state.crossing state.local st.local later
 
   -- a later success of a mark, seen from the mark itself
-  pub dirs_ahead : {i k : ℕ} → LaterDirs mode p v i k → SuccessAhead mode p v i k
+  pub dirs_ahead : {i k : ℕ} → LaterDirs way p v i k → SuccessAhead way p v i k
   dirs_ahead {k = k} later =
       let past : k < later.e = later.after.past in
       let inside : later.e ≤ length v = later.after.inside in
-      let end : ends mode (get_or v (later.e - 1) 0) ≡ true = ends-at_slash mode (get_or v (later.e - 1) 0) later.after.slash in
-      let far : next_component mode v k ≤ later.e - 1 + 1 = next-before_end mode v k (later.e - 1) (omega arith) (omega arith) end in
+      let end : ends way (get_or v (later.e - 1) 0) ≡ true = ends-at_slash way (get_or v (later.e - 1) 0) later.after.slash in
+      let far : next_component way v k ≤ later.e - 1 + 1 = next-before_end way v k (later.e - 1) (omega arith) (omega arith) end in
       record {
         e = later.e;
         past = past;
@@ -67,9 +67,9 @@ module _ {mode : Mode} {p v : List ℕ} where
         splits = later.splits;
       }
 
-  pub far_ahead : {i k : ℕ} → ¬ IsAfterSlash p i → SuccessFar mode p v i k → SuccessAhead mode p v i k
+  pub far_ahead : {i k : ℕ} → ¬ IsAfterSlash p i → SuccessFar way p v i k → SuccessAhead way p v i k
   far_ahead {k = k} start f =
-      let past : k < next_component mode v k = next-above mode v k in
+      let past : k < next_component way v k = next-above way v k in
       record {
         e = f.e;
         past = omega (arith, f.far);
@@ -80,10 +80,10 @@ module _ {mode : Mode} {p v : List ℕ} where
       }
 
   -- A match comes through here, where each later success of a mark does.
-  pub comes_here : {state : State} → StandsAt mode p v state
-      → (SuccessNear mode p v state.place state.at → SplitsFrom v state.at p state.place mode)
-      → (SuccessAhead mode p v state.place state.at → SplitsFrom v state.at p state.place mode)
-      → Splits v p mode → SplitsFrom v state.at p state.place mode
+  pub comes_here : {state : State} → StandsAt way p v state
+      → (SuccessNear way p v state.place state.at → SplitsFrom v state.at p state.place way)
+      → (SuccessAhead way p v state.place state.at → SplitsFrom v state.at p state.place way)
+      → SplitsBy v p way → SplitsFrom v state.at p state.place way
   comes_here st near ahead whole = elim (st.complete whole) [
     | inl all ↦ all
     | inr (inl later) ↦ near (local_near st later)
@@ -91,31 +91,31 @@ module _ {mode : Mode} {p v : List ℕ} where
   ]
 
   -- What matches nothing ends the search.
-  pub nothing_met : {state : State} (j : ℕ) → StandsAt mode p v state → TokenAt mode p state.place Nothing j → ¬ Splits v p mode
+  pub nothing_met : {state : State} (j : ℕ) → StandsAt way p v state → TokenAt way p state.place Nothing j → ¬ SplitsBy v p way
   nothing_met {state} j st here whole = elim (st.complete whole) [
-    | inl all ↦ nothing_out mode p v state.place j state.at here st.inside all
-    | inr (inl later) ↦ let n = local_near st later in nothing_out mode p v state.place j n.e here n.inside n.splits
-    | inr (inr later) ↦ let a = st.ahead later in nothing_out mode p v state.place j a.e here a.inside a.splits
+    | inl all ↦ nothing_out way p v state.place j state.at here st.inside all
+    | inr (inl later) ↦ let n = local_near st later in nothing_out way p v state.place j n.e here n.inside n.splits
+    | inr (inr later) ↦ let a = st.ahead later in nothing_out way p v state.place j a.e here a.inside a.splits
   ]
 
   -- the pattern's end, and the value's
-  pub end_met : {state : State} → StandsAt mode p v state → state.place ≡ length p → length v ≤ state.at → Splits v p mode
-  end_met {state} st at_end past = st.sound (end_in mode p v state.place state.at at_end past)
+  pub end_met : {state : State} → StandsAt way p v state → state.place ≡ length p → length v ≤ state.at → SplitsBy v p way
+  end_met {state} st at_end past = st.sound (end_in way p v state.place state.at at_end past)
 
   -- the token does not fit where the engine stands
-  pub miss_of : {state : State} → StandsAt mode p v state → ¬ SplitsFrom v state.at p state.place mode → IsMiss mode p v state
+  pub miss_of : {state : State} → StandsAt way p v state → ¬ SplitsFrom v state.at p state.place way → IsMiss way p v state
   miss_of st missed = record { stands = st; missed = missed }
 
   -- the same state, where parts of it are known by equations
-  pub Stands-local : {state : State} {l : Option Mark} → StandsAt mode p v state → state.local ≡ l
-      → StandsAt mode p v (record state { local = l })
-  Stands-local {state} st same = subst (λ (l : Option Mark). StandsAt mode p v (record state { local = l })) same st
+  pub Stands-local : {state : State} {l : Option Mark} → StandsAt way p v state → state.local ≡ l
+      → StandsAt way p v (record state { local = l })
+  Stands-local {state} st same = subst (λ (l : Option Mark). StandsAt way p v (record state { local = l })) same st
 
-  pub Stands-places : {state : State} {i k : ℕ} → StandsAt mode p v state → i ≡ state.place → k ≡ state.at
-      → StandsAt mode p v (record state { place = i; at = k })
+  pub Stands-places : {state : State} {i k : ℕ} → StandsAt way p v state → i ≡ state.place → k ≡ state.at
+      → StandsAt way p v (record state { place = i; at = k })
   Stands-places {state} {i} st same_place same_at =
-      subst (λ (k : ℕ). StandsAt mode p v (record state { place = i; at = k })) (sym same_at)
-      (subst (λ (i : ℕ). StandsAt mode p v (record state { place = i })) (sym same_place) st)
+      subst (λ (k : ℕ). StandsAt way p v (record state { place = i; at = k })) (sym same_at)
+      (subst (λ (i : ℕ). StandsAt way p v (record state { place = i })) (sym same_place) st)
 
-  pub IsLeft-crossing : {c d : Crossing} → c ≡ d → IsLeft mode p v c → IsLeft mode p v d
-  IsLeft-crossing same left = subst (λ (x : Crossing). IsLeft mode p v x) same left
+  pub IsLeft-crossing : {c d : Crossing} → c ≡ d → IsLeft way p v c → IsLeft way p v d
+  IsLeft-crossing same left = subst (λ (x : Crossing). IsLeft way p v x) same left

@@ -1,6 +1,6 @@
 -- A turn of the engine with two marks, after looks at its token; and the front that is passed before the first turn.
 use Rattle.std.proofs.Common.{◌≡◌, ℕ, ◌+◌, ◌-◌, ◌*◌, ◌<◌, ◌≤◌, Bool, true, false, List, refl, arith}
-use Rattle.glob_matcher.specs.declared.wildmatch.mode.Mode.{Mode}
+use Rattle.glob_matcher.specs.declared.wildmatch.way.Way.{Way}
 use Rattle.glob_matcher.specs.declared.wildmatch.state.State.{State}
 use Rattle.glob_matcher.specs.declared.wildmatch.state.Turn.{Turn}
 use Rattle.glob_matcher.specs.declared.wildmatch.state.Turn.TheVariants as turn
@@ -22,9 +22,9 @@ counts_on turn.NoMatch a b c same more = omega arith
 counts_on (turn.Miss s) a b c same more = omega arith
 counts_on (turn.On s) a b c same more = omega arith
 
-pub turn_on : {mode : Mode} {p v : List ℕ} {state : State} {t : Turn} {before between after : Counts} {looks looked all : ℕ}
-    → Takes before between 0 looks → looked + looks ≤ all → IsTurn mode p v state all t between after
-    → IsTurn mode p v state looked t before after
+pub turn_on : {way : Way} {p v : List ℕ} {state : State} {t : Turn} {before between after : Counts} {looks looked all : ℕ}
+    → Takes before between 0 looks → looked + looks ≤ all → IsTurn way p v state all t between after
+    → IsTurn way p v state looked t before after
 turn_on {t = t} {before} {between} {after} {looked = looked} taken enough so = record {
   meaning = so.meaning;
   allows = λ measure s n low a. so.allows measure s n (Takes-within measure s 0 looked low taken (omega arith) enough) a;
@@ -48,10 +48,10 @@ pub set_looks : {before after : Counts} {i j : ℕ} → i ≤ j → IsSetPaid be
 set_looks {i = i} {j} inside paid = record { steps = paid.steps; looks = omega (arith, paid.looks); low = omega (arith, paid.low) }
 
 -- The front of both texts is passed, each byte by a step and two looks, and the next one was looked at.
-pub front_passed : {mode : Mode} {p v : List ℕ} {k : ℕ} {before after : Counts} → StandsAt mode p v (at_front k)
-    → ((measure : Measure) (spent limit : ℕ) → AllowsAt measure mode p v (at_front 0) spent limit
-    → AllowsAt measure mode p v (at_front k) (spent + amount measure k (8 * k)) limit)
-    → Takes before after k (2 * k + 2) → IsFront mode p v k before after
+pub front_passed : {way : Way} {p v : List ℕ} {k : ℕ} {before after : Counts} → StandsAt way p v (at_front k)
+    → ((measure : Measure) (spent limit : ℕ) → AllowsAt measure way p v (at_front 0) spent limit
+    → AllowsAt measure way p v (at_front k) (spent + amount measure k (8 * k)) limit)
+    → Takes before after k (2 * k + 2) → IsFront way p v k before after
 front_passed {k = k} {before} stands allows takes = record {
   meaning = stands;
   allows = λ measure limit a.

@@ -3,5 +3,5 @@ use Rattle.glob_trees.proofs.lemmas.OneWay.{one_way}
 use Rattle.glob_trees.proofs.laws.no_answer_depends_on_what_is_kept.Goals as goal
 
 pub returns : goal.returns
-returns g c = λ source front_count lists other case path one fronts first second.
-    one_way (g.S.FolderLists.shows g.T.Pattern.Seen source) one front_count case path lists other fronts first second
+returns g c = λ source front_count lists other rules path one fronts first second.
+    one_way (g.S.FolderLists.shows g.T.Pattern.Seen source) one front_count rules path lists other fronts first second

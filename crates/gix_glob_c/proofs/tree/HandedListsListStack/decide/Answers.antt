@@ -16,7 +16,7 @@ returns-in-Some-clause-exact c = λ lawful.
     let within : at < length lists = omega arith in
     let next : c.loop-i.i ≡ at + 1 = omega arith in
     let found = c.in-Some.ensures.exact (All-get_or IsLawfulList lists at blank_list within lawful) in
-    Decides-found (map entry_list lists) c.args.path.now.bytes c.args.path.now.is_dir c.args.case c.loop-i.i at c.in-Some.m (entry_list (slice_index_or lists at blank_list)) next (entry_list_at lists at within)
+    Decides-found (map entry_list lists) c.args.path.now.bytes c.args.path.now.is_dir c.args.rules c.loop-i.i at c.in-Some.m (entry_list (slice_index_or lists at blank_list)) next (entry_list_at lists at within)
     (c.loop-i.invariant lawful) found
 
 pub loop-i-preserved : goal.loop-i-preserved
@@ -26,9 +26,9 @@ loop-i-preserved c = λ lawful.
     let within : at < length lists = omega arith in
     let next : c.loop-i.i ≡ at + 1 = omega arith in
     let none = rw c.in_default.is at (c.last_match_under.ensures.exact (All-get_or IsLawfulList lists at blank_list within lawful)) in
-    NoListFrom-less (map entry_list lists) c.args.path.now.bytes c.args.path.now.is_dir c.args.case c.loop-i.i at (entry_list (slice_index_or lists at blank_list)) next (entry_list_at lists at within)
+    NoListFrom-less (map entry_list lists) c.args.path.now.bytes c.args.path.now.is_dir c.args.rules c.loop-i.i at (entry_list (slice_index_or lists at blank_list)) next (entry_list_at lists at within)
     (c.loop-i.invariant lawful) none
 
 pub returns-clause-exact : goal.returns-clause-exact
 returns-clause-exact c = λ lawful.
-    Decides-none (map entry_list c.args.self.now.lists.now) c.args.path.now.bytes c.args.path.now.is_dir c.args.case c.loop-i.i (omega arith) (c.loop-i.invariant lawful)
+    Decides-none (map entry_list c.args.self.now.lists.now) c.args.path.now.bytes c.args.path.now.is_dir c.args.rules c.loop-i.i (omega arith) (c.loop-i.invariant lawful)

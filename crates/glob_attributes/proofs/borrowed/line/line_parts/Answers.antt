@@ -28,14 +28,14 @@ returns-clause-read c =
     let says = sym c.says_nothing.ensures ∙ c.if-says_nothing.false in
     elim c.if-is_macro.branch [
       | then-is_macro w ↦
-          subst (GivesParts _) (sym w.result-is)
-          (subst (λ (g : Gives). GivesParts g w.macro_parts.result)
+          subst (GivesParts c.args.reading _) (sym w.result-is)
+          (subst (λ (g : Gives). GivesParts c.args.reading g w.macro_parts.result)
           (gives-macro is_top line c.before_zero-text.result.now c.after_blanks-inner.result.now inner head rest says c.if-text-ge-LINE_LIMIT.false
           c.in_ok-head.ensures.read (sym c.is_macro.ensures ∙ w.if-is_macro.true))
-          w.macro_parts.ensures)
+          (w.macro_parts.ensures c.args.reading))
       | else-is_macro w ↦
-          subst (GivesParts _) (sym w.result-is)
-          (subst (λ (g : Gives). GivesParts g w.pattern_parts.result)
+          subst (GivesParts c.args.reading _) (sym w.result-is)
+          (subst (λ (g : Gives). GivesParts c.args.reading g w.pattern_parts.result)
           (gives-pattern is_top line c.before_zero-text.result.now c.after_blanks-inner.result.now inner head rest says c.if-text-ge-LINE_LIMIT.false
           c.in_ok-head.ensures.read (sym c.is_macro.ensures ∙ w.if-is_macro.false))
           w.pattern_parts.ensures)

@@ -6,4 +6,4 @@ use Rattle.glob_attributes.proofs.laws.assigned.paths_are_assigned_something.Giv
 
 -- the pairs of the lists so far that match are there
 abbrev pub invariant-lists : goal.invariant-lists
-invariant-lists l = HasMatches (map (entry_list_of seen_assignments) l.lists) l.path.bytes l.path.is_dir l.case l.place 0
+invariant-lists l = HasMatches (map (entry_list_of seen_assignments) l.lists) l.path.bytes l.path.is_dir l.rules l.place 0

@@ -10,7 +10,7 @@ use Rattle.glob_attributes.proofs.parser.AttributeLinesPattern.bytes_to_patterns
 abbrev pub invariant-lines : goal.invariant-lines
 invariant-lines l = record {
   counted : l.number + length (lines_of (without_returns l.rest)) ≡ length (file_lines l.bytes);
-  meant : map (entry_of seen_assignments) l.mappings.items ++ entries_from (l.number + 1) (lines_of (without_returns l.rest)) ≡ attributes_of l.bytes;
+  meant : map (entry_of seen_assignments) l.mappings.items ++ entries_from l.fn.self.reading (l.number + 1) (lines_of (without_returns l.rest)) ≡ attributes_of l.fn.self.reading l.bytes;
 }
 
 abbrev pub decreases-lines : goal.decreases-lines

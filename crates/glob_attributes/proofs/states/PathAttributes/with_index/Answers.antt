@@ -14,10 +14,10 @@ returns c =
     let xs = map (entry_list_of seen_assignments) c.args.index.now.lists in
     let ys = map (entry_list_of seen_assignments) c.args.stronger.now in
     let path = c.args.path.now in
-    let case = c.args.index.now.case in
+    let rules = c.args.index.now.rules in
     let found = c.matches_into.new.pairs.items in
     let more = c.matches_into-2.new.pairs.items in
-    let back : AreMatches ys path.bytes path.is_dir case more = subst (λ k. AreMatches ys path.bytes path.is_dir k more) c.case.ensures c.in_ok-matches_into-2.ensures in
+    let back : AreMatches ys path.bytes path.is_dir rules more = subst (λ k. AreMatches ys path.bytes path.is_dir k more) c.rules.ensures c.in_ok-matches_into-2.ensures in
     let first : map seen_entry c.push_row.new.row.items ≡ flat_map (assigned_at xs) found =
     c.in_ok-push_row.ensures
     ∙ ap (λ r. map seen_entry r ++ flat_map (assigned_at (map (entry_list_of seen_assignments) c.lists.result.now)) c.deref.result.now) c.new-row.ensures.items
@@ -28,6 +28,6 @@ returns c =
     ∙ ap (λ l. l ++ flat_map (assigned_at ys) c.deref-2.result.now) first
     ∙ ap (λ p. flat_map (assigned_at xs) found ++ flat_map (assigned_at ys) p) c.deref-2.ensures.value in (
       reverse (map seen_entry c.push_row-2.new.row.items),
-      subst (λ l. IsRow (xs ++ ys) path case (reverse l)) (sym joined) (row-both xs ys path case found more c.in_ok-matches_into.ensures back),
+      subst (λ l. IsRow (xs ++ ys) path rules (reverse l)) (sym joined) (row-both xs ys path rules found more c.in_ok-matches_into.ensures back),
       c.in_ok-filled.ensures,
     )

@@ -48,7 +48,7 @@ returns-in-Some-clause-written g c =
     let inside = slice_get-map_within (entry_of g.T.Pattern.seen) c.index-lists-i.result.patterns.items c.in-Some.m _ answers.there in
     let here = rw (← c.index-lists-i.is) at c.index-mapping.ensures in
     on_ok_weaker c.append_verdict.result
-    (writes_verdict _ c.args.self.now.stack.case c.args.path.now.bytes c.args.path.now.is_dir _ _ c.in-Some.i c.in-Some.m list (entry_of g.T.Pattern.seen c.index-mapping.result.now)
+    (writes_verdict _ c.args.self.now.stack.rules c.args.path.now.bytes c.args.path.now.is_dir _ _ c.in-Some.i c.in-Some.m list (entry_of g.T.Pattern.seen c.index-mapping.result.now)
     c.in-Some.ensures there_in
     (slice_get-map_at (entry_of g.T.Pattern.seen) c.index-lists-i.result.patterns.items c.in-Some.m c.index-mapping.result.now inside here))
     c.append_verdict.ensures
@@ -56,6 +56,6 @@ returns-in-Some-clause-written g c =
 pub returns-in-None-clause-written : goal.returns-in-None-clause-written
 returns-in-None-clause-written g c =
     on_ok_weaker c.extend_from_slice.result
-    (writes_none _ c.args.self.now.stack.case c.args.path.now.bytes c.args.path.now.is_dir _ _
+    (writes_none _ c.args.self.now.stack.rules c.args.path.now.bytes c.args.path.now.is_dir _ _
     c.in-None.ensures)
     (grown_on_ok c.extend_from_slice.result _ _ _ c.extend_from_slice.ensures.items)

@@ -14,10 +14,10 @@ use Rattle.glob_lines.proofs.list.MatchesPathReport.append.Goals as goal
 use Rattle.glob_lines.proofs.list.MatchesPathReport.append.Goals.{After-as_slice}
 
 -- the pairs are the places of the entries that answer
-places : (c : After-as_slice) → ArePlacesOf (λ entry. AnswersUnder (option_map vec_items c.args.self.now.list.now.base) entry c.args.path.now.bytes c.args.path.now.is_dir c.args.self.now.stack.case)
+places : (c : After-as_slice) → ArePlacesOf (λ entry. AnswersUnder (option_map vec_items c.args.self.now.list.now.base) entry c.args.path.now.bytes c.args.path.now.is_dir c.args.self.now.stack.rules)
     (map (entry_of (λ _. tt)) c.args.self.now.list.now.patterns.items) c.as_slice.result.now
 places c =
-    places_in (entry_list_of {V = Unit {0}} (λ _. tt) c.args.self.now.list.now) c.args.path.now.bytes c.args.path.now.is_dir c.args.self.now.stack.case (map (entry_list_of {V = Unit {0}} (λ _. tt)) c.args.self.now.stack.lists)
+    places_in (entry_list_of {V = Unit {0}} (λ _. tt) c.args.self.now.list.now) c.args.path.now.bytes c.args.path.now.is_dir c.args.self.now.stack.rules (map (entry_list_of {V = Unit {0}} (λ _. tt)) c.args.self.now.stack.lists)
     c.as_slice.result.now c.matches_into.new.pairs.items (ap (map (entry_list_of {V = Unit {0}} (λ _. tt))) c.args.self.now.one) c.as_slice.ensures.value c.in_ok-matches_into.ensures
 
 pub returns-in_default-clause-written : goal.returns-in_default-clause-written

@@ -20,7 +20,7 @@ last_match-requires-clause-inside g c = omega (arith, c.lists.auto.i, c.lists-te
 
 pub returns-in-Some-clause-exact : goal.returns-in-Some-clause-exact
 returns-in-Some-clause-exact g c =
-    Decides-last (g.A.AskedLists.lists c.args.asked.now) (g.A.AskedLists.path c.args.asked.now) (g.A.AskedLists.case c.args.asked.now) c.lists.i (c.lists.i - 1) c.in-Some.m (omega (arith, c.lists-test.true)) c.lists.invariant.none
+    Decides-last (g.A.AskedLists.lists c.args.asked.now) (g.A.AskedLists.path c.args.asked.now) (g.A.AskedLists.rules c.args.asked.now) c.lists.i (c.lists.i - 1) c.in-Some.m (omega (arith, c.lists-test.true)) c.lists.invariant.none
     c.in-Some.ensures.last
 
 pub returns-in-Some-clause-spends : goal.returns-in-Some-clause-spends
@@ -30,7 +30,7 @@ returns-in-Some-clause-spends g c =
 
 pub lists-preserved : goal.lists-preserved
 lists-preserved g c = record {
-  none = NoListFrom-last (g.A.AskedLists.lists c.args.asked.now) (g.A.AskedLists.path c.args.asked.now) (g.A.AskedLists.case c.args.asked.now) c.lists.i (c.lists.i - 1) (omega (arith, c.lists-test.true)) c.lists.invariant.none
+  none = NoListFrom-last (g.A.AskedLists.lists c.args.asked.now) (g.A.AskedLists.path c.args.asked.now) (g.A.AskedLists.rules c.args.asked.now) c.lists.i (c.lists.i - 1) (omega (arith, c.lists-test.true)) c.lists.invariant.none
       c.in_default.ensures.last;
   spent = spent g (goal.at.lists-preserved g c).After-last_match;
 }

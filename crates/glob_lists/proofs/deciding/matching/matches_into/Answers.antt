@@ -7,5 +7,5 @@ use Rattle.glob_lists.proofs.deciding.matching.matches_into.Goals as goal
 
 pub returns : goal.returns
 returns g c =
-    matches_all (map (entry_list_of g.T.Pattern.seen) c.args.lists.now) c.args.path.now.bytes c.args.path.now.is_dir c.args.case c.lists.i c.lists.pairs.items
+    matches_all (map (entry_list_of g.T.Pattern.seen) c.args.lists.now) c.args.path.now.bytes c.args.path.now.is_dir c.args.rules c.lists.i c.lists.pairs.items
     (omega (arith, length-map c.args.lists.now (entry_list_of g.T.Pattern.seen), c.lists-test.false)) c.lists.invariant

@@ -1,8 +1,8 @@
 -- A pattern that is told by its end matches; a literal between two stars is looked for, and takes no more looks than a test.
-use Rattle.std.proofs.Common.{◌≡◌, ◌↔◌, ◌∙◌, ℕ, IsTrue, List, ap, length, refl, subst, sym, arith}
-use Rattle.gix_glob.specs.declared.pattern.Case.{Case}
+use Rattle.std.proofs.Common.{◌≡◌, ◌↔◌, ◌∙◌, ℕ, IsTrue, List, ap, length, refl, subst, arith}
 use Rattle.glob_patterns.specs.Private.Insides.{HasInside}
-use Rattle.glob_lists.specs.Deciding.{AnswersFor, path_mode}
+use Rattle.gix_glob.specs.Ways.{way_of}
+use Rattle.glob_lists.specs.Rules.{path_mode}
 use Rattle.glob_lists.specs.Private.Asks.Showing.{last_part}
 use Rattle.glob_lists.proofs.lemmas.Asks.InsideLemmas.{inside_answers, inside_looks, last_part_is_short}
 use Rattle.glob_lists.proofs.lemmas.Asks.ToldLemmas.{told_answers}
@@ -12,7 +12,7 @@ use Rattle.glob_lists.proofs.list.answering.is_answer.Goals.{After-has_inside}
 
 pub returns-then-is_told_by-clause-exact : goal.returns-then-is_told_by-clause-exact
 returns-then-is_told_by-clause-exact g c passes asks base path folder shows left lawful = (
-  λ yes. told_answers c.args.pattern.text.now c.args.pattern.mode base path c.args.rest.now.bytes c.args.rest.now.is_dir c.args.case c.args.row.now c.args.probe.now
+  λ yes. told_answers c.args.pattern.text.now c.args.pattern.mode base path c.args.rest.now.bytes c.args.rest.now.is_dir c.args.rules c.args.row.now c.args.probe.now
       folder shows asks passes (c.is_told_by.ensures.0 c.if-is_told_by.true) left,
   λ answers. refl,
 )
@@ -25,10 +25,9 @@ pub returns-then-is_looked_for-clause-exact : goal.returns-then-is_looked_for-cl
 returns-then-is_looked_for-clause-exact g c passes asks base path folder shows left lawful =
     let after = (goal.at.returns-then-is_looked_for-clause-exact g c).After-has_inside in
     let looked_for = c.is_looked_for.ensures.part c.if-is_looked_for.true in
-    let exact = subst (λ (v : List ℕ). IsTrue c.has_inside.result ↔ HasInside path_mode v c.args.pattern.text.now) (name_is g after) c.has_inside.ensures.exact in
-    subst (λ (case : Case). IsTrue c.has_inside.result ↔ AnswersFor c.args.pattern.text.now c.args.pattern.mode c.args.rest.now.bytes c.args.rest.now.is_dir case) (sym looked_for.1)
-    (inside_answers c.has_inside.result c.args.pattern.text.now c.args.rest.now.bytes c.args.pattern.mode c.args.rest.now.is_dir c.basename_start.result
-    (asks.inside looked_for.0) c.basename_start.ensures exact)
+    let exact = subst (λ (v : List ℕ). IsTrue c.has_inside.result ↔ HasInside (way_of path_mode) v c.args.pattern.text.now) (name_is g after) c.has_inside.ensures.exact in
+    inside_answers c.has_inside.result c.args.pattern.text.now c.args.rest.now.bytes c.args.pattern.mode c.args.rest.now.is_dir c.args.rules c.basename_start.result
+    looked_for.1 (asks.inside looked_for.0) c.basename_start.ensures exact
 
 pub returns-then-is_looked_for-clause-looks : goal.returns-then-is_looked_for-clause-looks
 returns-then-is_looked_for-clause-looks g c =

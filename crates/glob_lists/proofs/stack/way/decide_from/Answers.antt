@@ -14,7 +14,7 @@ none = record { key = 0; list = 0; above = record { 0 = 0 } }
 
 pub folders-init : goal.folders-init
 folders-init g c =
-    IsPassedTo-start (map (entry_list_of g.T.Pattern.seen) c.args.lists.now) c.args.folders.now c.args.question.now.path.now c.args.question.now.case c.requires.folders c.args.last c.args.counts.now c.requires.last
+    IsPassedTo-start (map (entry_list_of g.T.Pattern.seen) c.args.lists.now) c.args.folders.now c.args.question.now.path.now c.args.question.now.rules c.requires.folders c.args.last c.args.counts.now c.requires.last
 
 pub last_match-requires-clause-inside : goal.last_match-requires-clause-inside
 last_match-requires-clause-inside g c =
@@ -26,16 +26,16 @@ pub returns-in-Some-last_match-clause-exact : goal.returns-in-Some-last_match-cl
 returns-in-Some-last_match-clause-exact g c =
     let lists = map (entry_list_of g.T.Pattern.seen) c.args.lists.now in
     let path = c.args.question.now.path.now in
-    let case = c.args.question.now.case in
+    let rules = c.args.question.now.rules in
     let there = slice_get-get_or c.args.folders.now c.in-Some.place none (omega (arith, c.in-Some.ensures, c.folders.invariant.way.within)) in
-    Decides-here lists c.args.folders.now path case c.requires.folders c.in-Some.place _ c.folders.link c.args.counts.now c.folders.counts c.last_match.new.counts c.folders.invariant c.in-Some.ensures there
+    Decides-here lists c.args.folders.now path rules c.requires.folders c.in-Some.place _ c.folders.link c.args.counts.now c.folders.counts c.last_match.new.counts c.folders.invariant c.in-Some.ensures there
     c.in-Some-last_match.ensures.spends c.in-Some-last_match.mapping c.in-Some-last_match.ensures.last
 
 pub returns-in-Some-last_match-clause-spends : goal.returns-in-Some-last_match-clause-spends
 returns-in-Some-last_match-clause-spends g c =
     let lists = map (entry_list_of g.T.Pattern.seen) c.args.lists.now in
     let there = slice_get-get_or c.args.folders.now c.in-Some.place none (omega (arith, c.in-Some.ensures, c.folders.invariant.way.within)) in
-    SpendsOnAll-here lists c.args.folders.now c.args.question.now.path.now c.args.question.now.case c.requires.folders c.in-Some.place _ c.folders.link c.args.counts.now c.folders.counts c.last_match.new.counts c.folders.invariant
+    SpendsOnAll-here lists c.args.folders.now c.args.question.now.path.now c.args.question.now.rules c.requires.folders c.in-Some.place _ c.folders.link c.args.counts.now c.folders.counts c.last_match.new.counts c.folders.invariant
     c.in-Some.ensures there c.in-Some-last_match.ensures.spends
 
 pub folders-smaller : goal.folders-smaller
@@ -47,14 +47,14 @@ pub folders-preserved : goal.folders-preserved
 folders-preserved g c =
     let lists = map (entry_list_of g.T.Pattern.seen) c.args.lists.now in
     let path = c.args.question.now.path.now in
-    let case = c.args.question.now.case in
+    let rules = c.args.question.now.rules in
     let there = slice_get-get_or c.args.folders.now c.in-Some.place none (omega (arith, c.in-Some.ensures, c.folders.invariant.way.within)) in
-    IsPassedTo-next lists c.args.folders.now path case c.requires.folders c.in-Some.place _ c.folders.link c.args.counts.now c.folders.counts c.last_match.new.counts c.folders.invariant c.in-Some.ensures there
+    IsPassedTo-next lists c.args.folders.now path rules c.requires.folders c.in-Some.place _ c.folders.link c.args.counts.now c.folders.counts c.last_match.new.counts c.folders.invariant c.in-Some.ensures there
     c.in_default-last_match.ensures.spends c.in_default-last_match.ensures.last
 
 pub returns-clause-exact : goal.returns-clause-exact
 returns-clause-exact g c =
-    Decides-nowhere (map (entry_list_of g.T.Pattern.seen) c.args.lists.now) c.args.folders.now c.args.question.now.path.now c.args.question.now.case c.requires.folders c.folders.link c.args.counts.now c.folders.counts
+    Decides-nowhere (map (entry_list_of g.T.Pattern.seen) c.args.lists.now) c.args.folders.now c.args.question.now.path.now c.args.question.now.rules c.requires.folders c.folders.link c.args.counts.now c.folders.counts
     c.folders.invariant c.in_default.ensures
 
 pub returns-clause-spends : goal.returns-clause-spends

@@ -15,7 +15,7 @@ none = record { key = 0; list = 0; above = record { 0 = 0 } }
 
 pub folders-init : goal.folders-init
 folders-init g c =
-    IsFoundTo-start (map (entry_list_of g.T.Pattern.seen) c.args.lists.now) c.args.folders.now c.args.question.now.path.now c.args.question.now.case c.requires.folders c.args.last c.clear.new.self.items c.clear.ensures.items
+    IsFoundTo-start (map (entry_list_of g.T.Pattern.seen) c.args.lists.now) c.args.folders.now c.args.question.now.path.now c.args.question.now.rules c.requires.folders c.args.last c.clear.new.self.items c.clear.ensures.items
     c.requires.last
 
 pub push_matches-requires-clause-inside : goal.push_matches-requires-clause-inside
@@ -28,8 +28,8 @@ pub push_matches-requires-clause-found : goal.push_matches-requires-clause-found
 push_matches-requires-clause-found g c =
     let lists = map (entry_list_of g.T.Pattern.seen) c.args.lists.now in
     let path = c.args.question.now.path.now in
-    let case = c.args.question.now.case in
-    AreFoundFrom-way lists c.args.folders.now path case c.requires.folders c.in-Some.place _ c.folders.link c.folders.pairs.items c.folders.invariant c.in-Some.ensures
+    let rules = c.args.question.now.rules in
+    AreFoundFrom-way lists c.args.folders.now path rules c.requires.folders c.in-Some.place _ c.folders.link c.folders.pairs.items c.folders.invariant c.in-Some.ensures
     (slice_get-get_or c.args.folders.now c.in-Some.place none (omega (arith, c.in-Some.ensures, c.folders.invariant.way.within)))
 
 pub folders-smaller : goal.folders-smaller
@@ -41,16 +41,16 @@ pub folders-preserved : goal.folders-preserved
 folders-preserved g c =
     let lists = map (entry_list_of g.T.Pattern.seen) c.args.lists.now in
     let path = c.args.question.now.path.now in
-    let case = c.args.question.now.case in
+    let rules = c.args.question.now.rules in
     let there = slice_get-get_or c.args.folders.now c.in-Some.place none (omega (arith, c.in-Some.ensures, c.folders.invariant.way.within)) in
-    IsFoundTo-next lists c.args.folders.now path case c.requires.folders c.in-Some.place _ c.folders.link c.folders.pairs.items c.push_matches.new.pairs.items c.folders.invariant c.in-Some.ensures there
+    IsFoundTo-next lists c.args.folders.now path rules c.requires.folders c.in-Some.place _ c.folders.link c.folders.pairs.items c.push_matches.new.pairs.items c.folders.invariant c.in-Some.ensures there
     c.in_ok-push_matches.ensures
 
 pub returns : goal.returns
 returns g c =
     let lists = map (entry_list_of g.T.Pattern.seen) c.args.lists.now in
     let path = c.args.question.now.path.now in
-    let case = c.args.question.now.case in
-    subst (AreMatches lists path.bytes path.is_dir case) (sym c.reverse.ensures.items)
-    (AreFoundFrom-all lists path case c.folders.pairs.items
-    (AreFoundFrom-first lists c.args.folders.now path case c.requires.folders c.folders.link c.folders.pairs.items c.folders.invariant c.in_default.ensures))
+    let rules = c.args.question.now.rules in
+    subst (AreMatches lists path.bytes path.is_dir rules) (sym c.reverse.ensures.items)
+    (AreFoundFrom-all lists path rules c.folders.pairs.items
+    (AreFoundFrom-first lists c.args.folders.now path rules c.requires.folders c.folders.link c.folders.pairs.items c.folders.invariant c.in_default.ensures))

@@ -5,7 +5,7 @@ use Rattle.glob_matcher.proofs.laws.readings.each_pattern_has_a_reading.Given as
 
 abbrev pub invariant-tokens : goal.invariant-tokens
 invariant-tokens l =
-    ((ts : List Token) → From l.mode l.pattern l.place ts → (us : List Token) × From l.mode l.pattern l.from us)
+    ((ts : List Token) → From l.way l.pattern l.place ts → (us : List Token) × From l.way l.pattern l.from us)
     × (l.place ≤ length l.pattern)
 
 abbrev pub decreases-tokens : goal.decreases-tokens

@@ -2,4 +2,4 @@ use Rattle.glob_matcher.proofs.lemmas.cutting.SplitLemmas.{local_before}
 use Rattle.glob_matcher.proofs.laws.stars.a_local_run_splits_from_before.Goals as goal
 
 pub returns : goal.returns
-returns c = λ mode p v i j k e here low inside none all. local_before here low inside none all
+returns c = λ way p v i j k e here low inside none all. local_before here low inside none all

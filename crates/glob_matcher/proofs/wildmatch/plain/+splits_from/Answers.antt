@@ -7,9 +7,9 @@ pub returns-then-place-pattern : goal.returns-then-place-pattern
 returns-then-place-pattern t c = (
   λ yes.
       let same : c.args.at ≡ length c.args.value.now = eqb-true c.args.at (length c.args.value.now) yes in
-      end_in c.args.mode c.args.pattern.now c.args.value.now c.args.place c.args.at c.if-place-pattern.true (omega arith),
+      end_in c.args.way c.args.pattern.now c.args.value.now c.args.place c.args.at c.if-place-pattern.true (omega arith),
   λ all.
-      let past = end_out c.args.mode c.args.pattern.now c.args.value.now c.args.place c.args.at c.if-place-pattern.true all in
+      let past = end_out c.args.way c.args.pattern.now c.args.value.now c.args.place c.args.at c.if-place-pattern.true all in
       eq-eqb c.args.at (length c.args.value.now) (omega arith),
 )
 
@@ -33,7 +33,7 @@ pub returns-then-at-value : goal.returns-then-at-value
 returns-then-at-value t c = (
   λ yes. cc,
   λ all.
-      let out = byte_out c.args.mode c.args.pattern.now c.args.value.now c.args.place c.token_at-token.result.kind
+      let out = byte_out c.args.way c.args.pattern.now c.args.value.now c.args.place c.token_at-token.result.kind
       c.token_at-token.result.end c.args.at c.token_at-token.ensures (sym c.if-is_star.ensures) c.requires.at all in
       absurd (omega (arith, out.0)),
 )
@@ -43,7 +43,7 @@ returns-then-not-fits_at t c = (
   λ yes. cc,
   λ all.
       let x = c.token_at-token.ensures in
-      let out = byte_out c.args.mode c.args.pattern.now c.args.value.now c.args.place c.token_at-token.result.kind
+      let out = byte_out c.args.way c.args.pattern.now c.args.value.now c.args.place c.token_at-token.result.kind
       c.token_at-token.result.end c.args.at x (sym c.if-is_star.ensures) c.requires.at all in
       (c.if-not-fits_at.ensures x.token c.token_at-token.result.end x.here x.same_kind).1 out.1,
 )
@@ -54,10 +54,10 @@ returns t c =
     let inside : c.args.at < length c.args.value.now = omega arith in
     let fits = (c.if-not-fits_at.ensures x.token c.token_at-token.result.end x.here x.same_kind).0 refl in (
       λ yes.
-          byte_in c.args.mode c.args.pattern.now c.args.value.now c.args.place c.token_at-token.result.kind
+          byte_in c.args.way c.args.pattern.now c.args.value.now c.args.place c.token_at-token.result.kind
           c.token_at-token.result.end c.args.at x inside fits (c.splits_from-2.ensures.0 yes),
       λ all.
-          let out = byte_out c.args.mode c.args.pattern.now c.args.value.now c.args.place c.token_at-token.result.kind
+          let out = byte_out c.args.way c.args.pattern.now c.args.value.now c.args.place c.token_at-token.result.kind
           c.token_at-token.result.end c.args.at x (sym c.if-is_star.ensures) c.requires.at all in
           c.splits_from-2.ensures.1 out.2,
     )

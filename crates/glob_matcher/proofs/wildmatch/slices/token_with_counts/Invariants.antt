@@ -7,7 +7,7 @@ abbrev pub ghosts-token_over : goal.ghosts-token_over
 ghosts-token_over g a = record {
   pattern = take (2 ^ 64 - 1) a.pattern.now;
   value = [];
-  mode = a.mode;
+  way = a.way;
   counts = a.counts.ghost_name;
   short_pattern = short a.pattern.now;
   short_value = omega arith;

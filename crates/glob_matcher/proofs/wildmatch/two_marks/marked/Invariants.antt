@@ -7,7 +7,7 @@ abbrev pub ghosts-ends_then_search : goal.ghosts-ends_then_search
 ghosts-ends_then_search g a = record {
   pattern = take (2 ^ 64 - 1) a.pattern;
   value = take (2 ^ 64 - 1) a.value;
-  mode = a.mode;
+  way = a.way;
   counts = a.counts.ghost_name;
   short_pattern = short a.pattern;
   short_value = short a.value;

@@ -54,7 +54,7 @@ put_new-requires-clause-none g c = c.requires.none c.if-place-eq0.false
 pub returns-in-Ok-clause-keeps : goal.returns-in-Ok-clause-keeps
 returns-in-Ok-clause-keeps g c =
     let put = c.put_new.ensures.keeps in
-    record { front_count = put.front_count; case = put.case; fronts = put.fronts; goes_on = λ folder list shown. put.goes_on folder list (c.list_of.ensures.goes_on folder list shown) }
+    record { front_count = put.front_count; rules = put.rules; fronts = put.fronts; goes_on = λ folder list shown. put.goes_on folder list (c.list_of.ensures.goes_on folder list shown) }
 
 pub returns-in-Ok-clause-asks : goal.returns-in-Ok-clause-asks
 returns-in-Ok-clause-asks g c =
@@ -71,4 +71,4 @@ returns-in-Ok-clause-asks g c =
 pub returns-in-Err-clause-keeps : goal.returns-in-Err-clause-keeps
 returns-in-Err-clause-keeps g c =
     let further = keeps_on_further (g.S.FolderLists.shows g.T.Pattern.Seen) _ _ _ c.put_new.ensures.keeps c.forget.ensures.keeps in
-    record { front_count = further.front_count; case = further.case; fronts = further.fronts; goes_on = λ folder list shown. further.goes_on folder list (c.list_of.ensures.goes_on folder list shown) }
+    record { front_count = further.front_count; rules = further.rules; fronts = further.fronts; goes_on = λ folder list shown. further.goes_on folder list (c.list_of.ensures.goes_on folder list shown) }

@@ -13,5 +13,5 @@ returns-then-is_in_folder_of-clause-decides g c =
 pub returns-then-is_in_folder_of-clause-way : goal.returns-then-is_in_folder_of-clause-way
 returns-then-is_in_folder_of-clause-way g c =
     let under = c.is_in_folder_of.ensures c.if-is_in_folder_of.true in
-    arrived (g.S.FolderLists.shows g.T.Pattern.Seen c.args.self.now.source) c.args.self.now.front_count (map (entry_list_of g.T.Pattern.seen) c.args.self.now.lists.items) c.args.self.now.case
+    arrived (g.S.FolderLists.shows g.T.Pattern.Seen c.args.self.now.source) c.args.self.now.front_count (map (entry_list_of g.T.Pattern.seen) c.args.self.now.lists.items) c.args.self.now.rules
     c.args.path.now.bytes (own_lists under.facts c.args.self.now.way.items) under.stands

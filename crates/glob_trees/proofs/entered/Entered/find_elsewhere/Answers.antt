@@ -48,20 +48,20 @@ under g c =
     subst (λ b. IsUnderWay (g.S.FolderLists.shows g.T.Pattern.Seen) g.S.FolderLists.gave g.T.Pattern.seen c.enter_known.new.self (take c.bytes.place b)) c.bytes-bytes.ensures (c.in_ok-is_known.ensures.under c.if-is_known.false)
 
 -- the folder is ignored
-ignored : (g : Over) (c : In-Some g) → Ignores (map (entry_list_of g.T.Pattern.seen) c.enter_known.new.self.lists.items) c.enter_known.new.self.case (take c.bytes.place c.args.path.now.bytes) c.in-Some.pair
+ignored : (g : Over) (c : In-Some g) → Ignores (map (entry_list_of g.T.Pattern.seen) c.enter_known.new.self.lists.items) c.enter_known.new.self.rules (take c.bytes.place c.args.path.now.bytes) c.in-Some.pair
 ignored g c = rw c.as_slice.ensures.value at (rw c.folder_before-folder.ensures at (c.in-Some.ensures.exact tt))
 
 -- a folder was asked for on the way to a folder whose slash stands at the place
 asked : (g : Over) (c : After-enter_known g) (self : Entered g.row.T.Denot g.row.S.Denot g.row.T-Value.Denot g.row.S-Fault.Denot) → GivesOnly (Contains (folders_to (take c.bytes.place c.args.path.now.bytes))) (g.S.FolderLists.gave c.args.self.now.source) (g.S.FolderLists.gave self.source)
     → IsUnderWay (g.S.FolderLists.shows g.T.Pattern.Seen) g.S.FolderLists.gave g.T.Pattern.seen self (take c.bytes.place c.args.path.now.bytes)
-    → GivesOnly (IsAskedFor (map (entry_list_of g.T.Pattern.seen) self.lists.items) self.case c.args.path.now.bytes) (g.S.FolderLists.gave c.args.self.now.source) (g.S.FolderLists.gave self.source)
+    → GivesOnly (IsAskedFor (map (entry_list_of g.T.Pattern.seen) self.lists.items) self.rules c.args.path.now.bytes) (g.S.FolderLists.gave c.args.self.now.source) (g.S.FolderLists.gave self.source)
 asked g c self given under =
     let gave = g.S.FolderLists.gave in
     let path = c.args.path.now.bytes in
     let front = take c.bytes.place path in
     let lists = map (entry_list_of g.T.Pattern.seen) self.lists.items in
-    gives_allowed (gave c.args.self.now.source) (gave self.source) (Contains (folders_to front)) (IsAskedFor lists self.case path)
-    (λ folder h. asked_above (g.S.FolderLists.shows g.T.Pattern.Seen self.source) self.front_count lists self.case path (own_lists under.facts self.way.items) front folder under.stands (above_slash path c.bytes.place (slash_here g c)) h)
+    gives_allowed (gave c.args.self.now.source) (gave self.source) (Contains (folders_to front)) (IsAskedFor lists self.rules path)
+    (λ folder h. asked_above (g.S.FolderLists.shows g.T.Pattern.Seen self.source) self.front_count lists self.rules path (own_lists under.facts self.way.items) front folder under.stands (above_slash path c.bytes.place (slash_here g c)) h)
     given
 
 pub returns-in-Some-clause-decides : goal.returns-in-Some-clause-decides
@@ -83,7 +83,7 @@ returns-in-Some-clause-way g c =
     let at = goal.at.returns-in-Some-clause-way g c in
     let u = under g at.After-folder_before-folder in
     let self = c.enter_known.new.self in
-    stopped (g.S.FolderLists.shows g.T.Pattern.Seen self.source) self.front_count (map (entry_list_of g.T.Pattern.seen) self.lists.items) self.case
+    stopped (g.S.FolderLists.shows g.T.Pattern.Seen self.source) self.front_count (map (entry_list_of g.T.Pattern.seen) self.lists.items) self.rules
     c.args.path.now.bytes (own_lists u.facts self.way.items) (take c.bytes.place c.args.path.now.bytes) c.in-Some.pair u.stands (above_slash c.args.path.now.bytes c.bytes.place (slash_here g at.After-enter_known)) (ignored g at.In-Some)
 
 pub returns-in-Some-clause-ready : goal.returns-in-Some-clause-ready
@@ -101,7 +101,7 @@ pub enter-requires-clause-kept : goal.enter-requires-clause-kept
 enter-requires-clause-kept g c =
     let self = c.enter_known.new.self in
     let kept = rw c.as_slice.ensures.value at (rw c.in_default.is at (rw c.folder_before-folder.ensures at (c.ignoring.ensures.exact tt))) in
-    subst (λ l. (pair : ℕ × ℕ) → ¬ Ignores (map (entry_list_of g.T.Pattern.seen) self.lists.items) self.case (take c.bytes.place l) pair) (sym c.bytes-bytes.ensures) kept
+    subst (λ l. (pair : ℕ × ℕ) → ¬ Ignores (map (entry_list_of g.T.Pattern.seen) self.lists.items) self.rules (take c.bytes.place l) pair) (sym c.bytes-bytes.ensures) kept
 
 pub enter-requires-clause-under : goal.enter-requires-clause-under
 enter-requires-clause-under g c = c.in_ok-is_known.ensures.under c.if-is_known.false
@@ -124,7 +124,7 @@ returns-clause-decides g c =
 pub returns-clause-way : goal.returns-clause-way
 returns-clause-way g c =
     let all = there g c in
-    arrived (g.S.FolderLists.shows g.T.Pattern.Seen c.bytes.self.source) c.bytes.self.front_count (map (entry_list_of g.T.Pattern.seen) c.bytes.self.lists.items) c.bytes.self.case
+    arrived (g.S.FolderLists.shows g.T.Pattern.Seen c.bytes.self.source) c.bytes.self.front_count (map (entry_list_of g.T.Pattern.seen) c.bytes.self.lists.items) c.bytes.self.rules
     c.args.path.now.bytes (own_lists all.facts c.bytes.self.way.items) all.stands
 
 pub returns-clause-ready : goal.returns-clause-ready
@@ -136,8 +136,8 @@ returns-clause-asks g c =
     let path = c.args.path.now.bytes in
     let lists = map (entry_list_of g.T.Pattern.seen) c.bytes.self.lists.items in
     let all = there g c in
-    gives_allowed (gave c.args.self.now.source) (gave c.bytes.self.source) (Contains (folders_to path)) (IsAskedFor lists c.bytes.self.case path)
-    (λ folder h. asked_to_path (g.S.FolderLists.shows g.T.Pattern.Seen c.bytes.self.source) c.bytes.self.front_count lists c.bytes.self.case path (own_lists all.facts c.bytes.self.way.items) folder all.stands h)
+    gives_allowed (gave c.args.self.now.source) (gave c.bytes.self.source) (Contains (folders_to path)) (IsAskedFor lists c.bytes.self.rules path)
+    (λ folder h. asked_to_path (g.S.FolderLists.shows g.T.Pattern.Seen c.bytes.self.source) c.bytes.self.front_count lists c.bytes.self.rules path (own_lists all.facts c.bytes.self.way.items) folder all.stands h)
     (subst (λ front. GivesOnly (Contains (folders_to front)) (gave c.args.self.now.source) (gave c.bytes.self.source)) (whole g c) c.bytes.invariant.2)
 
 pub bytes-init : goal.bytes-init

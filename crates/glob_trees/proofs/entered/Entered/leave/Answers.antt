@@ -89,7 +89,7 @@ returns-then-left-clause-keeps g c =
     let many = few _ _ _ _ _ _ _ _ _ _ c.requires.under.0 under c.requires.deep (map (entry_list_of seen) items) listed in
     record {
       front_count = refl;
-      case = refl;
+      rules = refl;
       fronts = sym (ap (take c.args.self.now.front_count) kept.last ∙ take-append-le c.args.self.now.front_count items (kept.list ∷ []) (omega (arith, many, length-map items (entry_list_of seen))));
       goes_on = λ folder list shown. shown;
     }

@@ -61,17 +61,17 @@ returns-clause-entered g c =
     ∙ ap (λ t. start ++ t) (tail (length c.as_slice-start.result.now) (take (c.args.place + 1) path))
     ∙ ap (λ k. start ++ drop k (take (c.args.place + 1) path)) same
     ∙ ap (λ t. start ++ drop (length start) t) next
-    ∙ start_next shows gave seen old.front_count old.case _ _ _ _ _ front (deep g at) under in
+    ∙ start_next shows gave seen old.front_count old.rules _ _ _ _ _ front (deep g at) under in
     ok_gives c.put_known_on_way.result _ _
     (λ (puts : PutsKept c.args.known (length c.as_slice-bytes.result.now) old.way.items c.put_known_on_way.new.way.items old.lists.items c.put_known_on_way.new.lists.items old.kept.items c.put_known_on_way.new.kept.items).
     let kept = puts.takes.list in
-    subst (AreUnderWay shows gave seen old.front_count old.case _ _ _ (names_of old.known) _) (sym next)
-    (moved shows gave seen old.front_count old.case _ _ _ _ _ _ (names_of old.known) _ _ _
+    subst (AreUnderWay shows gave seen old.front_count old.rules _ _ _ (names_of old.known) _) (sym next)
+    (moved shows gave seen old.front_count old.rules _ _ _ _ _ _ (names_of old.known) _ _ _
     (ap (map (entry_list_of seen)) puts.takes.put ∙ map-append (entry_list_of seen) old.lists.items (option_to_list kept))
     folder
     (puts.way ∙ ap (λ k. old.way.items ++ (record { place = c.args.known; length = k; has_list = is_some kept }) ∷ []) (ap length (c.as_slice-bytes.ensures.value ∙ folder)))
     puts.takes.taken
-    (entered_again shows gave seen old.front_count old.case _ _ _ _ _ front (deep g at) under c.args.known (named g at) kept puts.takes.there)))
+    (entered_again shows gave seen old.front_count old.rules _ _ _ _ _ front (deep g at) under c.args.known (named g at) kept puts.takes.there)))
     c.put_known_on_way.ensures.puts
 
 pub returns-clause-fails : goal.returns-clause-fails
@@ -91,7 +91,7 @@ returns-clause-keeps g c =
     let many = many_fronts _ _ _ _ _ _ _ c.requires.under.stands in
     record {
       front_count = refl;
-      case = refl;
+      rules = refl;
       fronts = fronts_kept c.put_known_on_way.result old.front_count old.lists.items _
           (ok_gives c.put_known_on_way.result _ _
           (λ (puts : PutsKept c.args.known (length c.as_slice-bytes.result.now) old.way.items c.put_known_on_way.new.way.items old.lists.items c.put_known_on_way.new.lists.items old.kept.items c.put_known_on_way.new.kept.items). ap (take old.front_count) puts.takes.put ∙ take-append-le old.front_count old.lists.items (option_to_list puts.takes.list) many)

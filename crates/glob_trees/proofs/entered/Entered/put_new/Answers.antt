@@ -82,21 +82,21 @@ returns-clause-entered g c =
     let more = names_of c.add.new.self in
     let start = old.folder.items in
     let last = under.ends.last in
-    let long : c.last_on_way-outer.result.length ≡ length start = long_as_start _ _ seen old.front_count old.case _ _ _ _ _ front under c.last_on_way-outer.result c.last_on_way-outer.ensures in
+    let long : c.last_on_way-outer.result.length ≡ length start = long_as_start _ _ seen old.front_count old.rules _ _ _ _ _ front under c.last_on_way-outer.result c.last_on_way-outer.ensures in
     let folder = c.in_ok-extend_from_slice.ensures.items
     ∙ ap (λ t. start ++ t) (tail c.last_on_way-outer.result.length (take (c.args.place + 1) path))
     ∙ ap (λ k. start ++ drop k (take (c.args.place + 1) path)) long
     ∙ ap (λ t. start ++ drop (length start) t) next
-    ∙ start_next _ _ seen old.front_count old.case _ _ _ _ _ front (deep g at) under in
+    ∙ start_next _ _ seen old.front_count old.rules _ _ _ _ _ front (deep g at) under in
     let adds : AddsFolder (names_of old.known) more last.place (drop last.length front) c.in_ok-known.known =
     subst (λ (there : FolderOnWay). AddsFolder (names_of old.known) more there.place (drop there.length front) c.in_ok-known.known) (outer g at)
     (subst (λ t. AddsFolder (names_of old.known) more c.last_on_way-outer.result.place t c.in_ok-known.known) (tail c.last_on_way-outer.result.length front) c.in_ok-known.ensures) in
     let none = sym (c.requires.none under.ends.above last under.ends.joined) in
-    let all = entered_anew _ _ seen old.front_count old.case _ _ _ _ _ front (deep g at) under list c.requires.of c.requires.kept more c.in_ok-known.known adds none gave (λ other given apart. (given, apart)) (is_some kept) (if_any_listed seen c.args.list kept c.prepared_if_any-list.ensures) in
+    let all = entered_anew _ _ seen old.front_count old.rules _ _ _ _ _ front (deep g at) under list c.requires.of c.requires.kept more c.in_ok-known.known adds none gave (λ other given apart. (given, apart)) (is_some kept) (if_any_listed seen c.args.list kept c.prepared_if_any-list.ensures) in
     ok_both c.put_on_way.result _ _ _
     (λ way lists.
-    subst (AreUnderWay shows gave seen old.front_count old.case _ _ _ more _) (sym next)
-    (moved shows gave seen old.front_count old.case _ _ _ _ _ _ more _ _ _
+    subst (AreUnderWay shows gave seen old.front_count old.rules _ _ _ more _) (sym next)
+    (moved shows gave seen old.front_count old.rules _ _ _ _ _ _ more _ _ _
     (ap (map (entry_list_of seen)) lists ∙ map-append (entry_list_of seen) old.lists.items (option_to_list kept) ∙ ap (λ ls. map (entry_list_of seen) old.lists.items ++ ls) (if_any_view seen c.args.list kept c.prepared_if_any-list.ensures))
     folder
     (way ∙ ap (λ k. old.way.items ++ (record { place = c.in_ok-known.known; length = k; has_list = c.is_some.result }) ∷ []) (ap length (c.as_slice.ensures.value ∙ folder)) ∙ ap (λ b. old.way.items ++ (record { place = c.in_ok-known.known; length = length (start_of front); has_list = b }) ∷ []) c.is_some.ensures)
@@ -120,7 +120,7 @@ returns-clause-keeps g c =
     let under = c.requires.under in
     record {
       front_count = refl;
-      case = refl;
+      rules = refl;
       fronts = fronts_put c.put_on_way.result c.args.self.now.front_count c.args.self.now.lists.items _ _ (many_fronts _ _ _ _ _ _ _ under.stands) c.put_on_way.ensures.lists c.put_on_way.ensures.fails;
       goes_on = λ folder list shown. shown;
     }

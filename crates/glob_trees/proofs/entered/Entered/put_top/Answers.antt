@@ -21,10 +21,10 @@ returns-clause-under g c =
     let kept = c.prepared_if_any-list.result in
     ok_both c.put_on_way.result _ _ _
     (λ way lists.
-    moved (shows old.source) (gave old.source) seen old.front_count old.case (map (entry_list_of seen) old.lists.items ++ unless_empty list) _ [] _ _ _ (names_of c.add_top.new.self) (None ∷ []) _ []
+    moved (shows old.source) (gave old.source) seen old.front_count old.rules (map (entry_list_of seen) old.lists.items ++ unless_empty list) _ [] _ _ _ (names_of c.add_top.new.self) (None ∷ []) _ []
     (ap (map (entry_list_of seen)) lists ∙ map-append (entry_list_of seen) old.lists.items (option_to_list kept) ∙ ap (λ ls. map (entry_list_of seen) old.lists.items ++ ls) (if_any_view seen c.args.list kept c.prepared_if_any-list.ensures))
     fresh.folder
     (way ∙ ap (λ w. w ++ (record { place = 0; length = 0; has_list = c.is_some.result }) ∷ []) fresh.way ∙ ap (λ b. (record { place = 0; length = 0; has_list = b }) ∷ []) c.is_some.ensures)
     (c.in_ok-push.ensures.items ∙ ap (λ held. held ++ None ∷ []) fresh.kept)
-    (at_top (shows old.source) (gave old.source) seen old.front_count old.case (map (entry_list_of seen) old.lists.items) list (names_of c.add_top.new.self) _ (length-map old.lists.items (entry_list_of seen) ∙ fresh.count) fresh.bases c.requires.of (λ folder was. but_one gave old.source [] folder (fresh.none_given folder) was) c.in_ok-add_top.ensures.count c.in_ok-add_top.ensures.none (if_any_listed seen c.args.list kept c.prepared_if_any-list.ensures)))
+    (at_top (shows old.source) (gave old.source) seen old.front_count old.rules (map (entry_list_of seen) old.lists.items) list (names_of c.add_top.new.self) _ (length-map old.lists.items (entry_list_of seen) ∙ fresh.count) fresh.bases c.requires.of (λ folder was. but_one gave old.source [] folder (fresh.none_given folder) was) c.in_ok-add_top.ensures.count c.in_ok-add_top.ensures.none (if_any_listed seen c.args.list kept c.prepared_if_any-list.ensures)))
     c.put_on_way.ensures.way c.put_on_way.ensures.lists

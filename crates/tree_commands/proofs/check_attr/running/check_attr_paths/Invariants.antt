@@ -6,6 +6,7 @@ abbrev pub ghosts-check_paths : goal.ghosts-check_paths
 ghosts-check_paths g a = record {
   files = a.question.now.files;
   asked = a.question.now.asked;
+  case = a.question.now.case;
   shows = g.S.AttributeFolders.shows a.source;
   allows = IsStatesText a.question.now (g.S.AttributeFolders.shows a.source);
 }

@@ -6,6 +6,7 @@ abbrev pub ghosts-run_question : goal.ghosts-run_question
 ghosts-run_question g a = record {
   files = a.question.now.files;
   asked = a.question.now.asked;
+  case = a.question.now.case;
   shows = g.S.AttributeFolders.shows a.source;
   allows = IsStatesText a.question.now (g.S.AttributeFolders.shows a.source);
 }

@@ -7,7 +7,7 @@ use Rattle.glob_lists.proofs.list.rows.ListRows.last_match.Goals as goal
 pub returns-clause-last : goal.returns-clause-last
 returns-clause-last g c =
     let list = entry_list_of g.T.Pattern.seen c.args.list.now in
-    IsLastMatch-found list c.args.question.now.path.now c.args.question.now.case c.next_match.new.walk.passed_from c.walk-walk.result.passed_from c.next_match.result
+    IsLastMatch-found list c.args.question.now.path.now c.args.question.now.rules c.next_match.new.walk.passed_from c.walk-walk.result.passed_from c.next_match.result
     (omega (arith, c.walk-walk.ensures.all, c.requires.of.asked.many)) c.next_match.ensures.next
 
 pub returns-clause-spends : goal.returns-clause-spends

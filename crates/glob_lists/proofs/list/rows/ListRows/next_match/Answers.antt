@@ -85,26 +85,26 @@ next_row g c =
 
 -- the test says whether it answers
 told : (g : Over) (c : After-is_answer g) → IsTrue c.is_answer.result
-    ↔ AnswersUnder (option_map vec_items c.args.list.now.base) (entry_of g.T.Pattern.seen c.index-mappings-m.result) c.args.question.now.path.now.bytes c.args.question.now.path.now.is_dir c.args.question.now.case
+    ↔ AnswersUnder (option_map vec_items c.args.list.now.base) (entry_of g.T.Pattern.seen c.index-mappings-m.result) c.args.question.now.path.now.bytes c.args.question.now.path.now.is_dir c.args.question.now.rules
 told g c =
     let path = c.args.question.now.path.now in
     let base = option_map vec_items c.args.list.now.base in
     let rest = c.requires.rest in
     let before = (goal.at.After-is_answer g c).After-view-pattern in
-    AnswersUnder-tested base path.bytes path.is_dir c.args.question.now.case (entry_of g.T.Pattern.seen c.index-mappings-m.result) c.args.rest.now.bytes rest.left
+    AnswersUnder-tested base path.bytes path.is_dir c.args.question.now.rules (entry_of g.T.Pattern.seen c.index-mappings-m.result) c.args.rest.now.bytes rest.left
     c.view-pattern.result.text.now c.view-pattern.result.mode c.args.rest.now.is_dir c.is_answer.result (tested_text g before) (tested_mode g before) rest.is_dir
     (c.is_answer.ensures.exact ((next_row g c).0 (row_of g before) (row_there g before)) (tested_row g before) base path.bytes c.requires.folder c.requires.shows rest.left c.view-pattern.ensures.lawful)
 
 -- no mapping answers between the one that is tested and those that were passed
-none_between : (g : Over) (c : After-is_answer g) → NoneAnswers (entry_list_of g.T.Pattern.seen c.args.list.now) c.args.question.now.path.now c.args.question.now.case (c.next.new.self.passed_from + 1) c.args.walk.now.passed_from
+none_between : (g : Over) (c : After-is_answer g) → NoneAnswers (entry_list_of g.T.Pattern.seen c.args.list.now) c.args.question.now.path.now c.args.question.now.rules (c.next.new.self.passed_from + 1) c.args.walk.now.passed_from
 none_between g c =
     let list = entry_list_of g.T.Pattern.seen c.args.list.now in
     let path = c.args.question.now.path.now in
-    let case = c.args.question.now.case in
+    let rules = c.args.question.now.rules in
     let from = c.next.new.self.passed_from + 1 in
     let to = c.candidates.walk.passed_from in
-    NoneAnswers-joined list path case from to c.args.walk.now.passed_from
-    (NoneAnswers-passed list c.args.self.now.rows.items c.requires.of.asked path case c.args.question.now.probe c.answering_patterns_pass.ensures c.requires.shows from to (subst (λ (n : ℕ). NonePasses c.args.self.now.rows.items c.args.question.now.probe (n + 1) to) (sym c.in-Some.ensures.met.1) (next_row g c).1))
+    NoneAnswers-joined list path rules from to c.args.walk.now.passed_from
+    (NoneAnswers-passed list c.args.self.now.rows.items c.requires.of.asked path rules c.args.question.now.probe c.answering_patterns_pass.ensures c.requires.shows from to (subst (λ (n : ℕ). NonePasses c.args.self.now.rows.items c.args.question.now.probe (n + 1) to) (sym c.in-Some.ensures.met.1) (next_row g c).1))
     c.candidates.invariant.none
 
 -- what the mappings down to the one that is tested may take
@@ -121,8 +121,8 @@ spent g c =
     let text = length (text_of c.index-mappings-m.result.pattern) in
     SpendsDown-asked list (length path.bytes) c.args.walk.now.passed_from c.candidates.walk.passed_from c.next.new.self.passed_from (entry_of g.T.Pattern.seen c.index-mappings-m.result)
     c.args.counts.now c.candidates.counts c.next.new.counts c.is_answer.new.counts (omega (arith, c.in-Some.ensures.met.0, here)) entry c.candidates.invariant.spent c.in-Some.ensures.looks c.is_answer.ensures.grows
-    (steps-under c.args.question.now.case base path.bytes c.args.rest.now.bytes left text _ _ (rw (tested_text g before) at c.is_answer.ensures.steps))
-    (looks-under c.args.question.now.case base path.bytes c.args.rest.now.bytes left text _ _ (rw (tested_text g before) at c.is_answer.ensures.looks))
+    (steps-under c.args.question.now.rules.case base path.bytes c.args.rest.now.bytes left text _ _ (rw (tested_text g before) at c.is_answer.ensures.steps))
+    (looks-under c.args.question.now.rules.case base path.bytes c.args.rest.now.bytes left text _ _ (rw (tested_text g before) at c.is_answer.ensures.looks))
 
 pub returns-then-is_answer-clause-next : goal.returns-then-is_answer-clause-next
 returns-then-is_answer-clause-next g c =
@@ -132,7 +132,7 @@ returns-then-is_answer-clause-next g c =
     let before = (goal.at.returns-then-is_answer-clause-next g c).After-view-pattern in record {
       here = sym c.in-Some.ensures.met.1;
       below = omega (arith, c.in-Some.ensures.met.0, c.in-Some.ensures.met.1, c.candidates.invariant.low);
-      answers = AnswersAt-yes list path.bytes path.is_dir c.args.question.now.case c.in-Some.m (entry_of g.T.Pattern.seen c.index-mappings-m.result) (tested_entry g before) ((told g after).0 c.if-is_answer.true);
+      answers = AnswersAt-yes list path.bytes path.is_dir c.args.question.now.rules c.in-Some.m (entry_of g.T.Pattern.seen c.index-mappings-m.result) (tested_entry g before) ((told g after).0 c.if-is_answer.true);
       between = none_between g after;
     }
 
@@ -143,16 +143,16 @@ pub candidates-preserved : goal.candidates-preserved
 candidates-preserved g c =
     let list = entry_list_of g.T.Pattern.seen c.args.list.now in
     let path = c.args.question.now.path.now in
-    let case = c.args.question.now.case in
+    let rules = c.args.question.now.rules in
     let after = (goal.at.candidates-preserved g c).After-is_answer in
     let before = (goal.at.candidates-preserved g c).After-view-pattern in
     let here : c.in-Some.m ≡ c.next.new.self.passed_from = sym c.in-Some.ensures.met.1 in
-    let refused : ¬ AnswersAt list path.bytes path.is_dir case c.in-Some.m = λ h.
-    iff_false (told g after) c.if-is_answer.false (AnswersAt-only list path.bytes path.is_dir case c.in-Some.m (entry_of g.T.Pattern.seen c.index-mappings-m.result) (tested_entry g before) h) in
+    let refused : ¬ AnswersAt list path.bytes path.is_dir rules c.in-Some.m = λ h.
+    iff_false (told g after) c.if-is_answer.false (AnswersAt-only list path.bytes path.is_dir rules c.in-Some.m (entry_of g.T.Pattern.seen c.index-mappings-m.result) (tested_entry g before) h) in
     record {
       walk = walk_after g (goal.at.candidates-preserved g c).After-next;
-      none = NoneAnswers-less list path case c.next.new.self.passed_from (c.next.new.self.passed_from + 1) c.args.walk.now.passed_from refl
-          (subst (λ (n : ℕ). ¬ AnswersAt list path.bytes path.is_dir case n) here refused) (none_between g after);
+      none = NoneAnswers-less list path rules c.next.new.self.passed_from (c.next.new.self.passed_from + 1) c.args.walk.now.passed_from refl
+          (subst (λ (n : ℕ). ¬ AnswersAt list path.bytes path.is_dir rules n) here refused) (none_between g after);
       low = omega (arith, c.in-Some.ensures.falls, c.candidates.invariant.low);
       spent = spent g after;
     }
@@ -161,10 +161,10 @@ pub returns-clause-next : goal.returns-clause-next
 returns-clause-next g c =
     let list = entry_list_of g.T.Pattern.seen c.args.list.now in
     let path = c.args.question.now.path.now in
-    let case = c.args.question.now.case in
+    let rules = c.args.question.now.rules in
     let to = c.candidates.walk.passed_from in
-    NoneAnswers-joined list path case 0 to c.args.walk.now.passed_from
-    (NoneAnswers-passed list c.args.self.now.rows.items c.requires.of.asked path case c.args.question.now.probe c.answering_patterns_pass.ensures c.requires.shows 0 to
+    NoneAnswers-joined list path rules 0 to c.args.walk.now.passed_from
+    (NoneAnswers-passed list c.args.self.now.rows.items c.requires.of.asked path rules c.args.question.now.probe c.answering_patterns_pass.ensures c.requires.shows 0 to
     (rw c.as_slice-rows.ensures.value at (c.in_default.ensures.next (rw (c.as_slice-rows.ensures.value, c.as_slice-heads.ensures.value) c.requires.of.chained)
     (rw (c.as_slice-rows.ensures.value, c.as_slice-heads.ensures.value) c.candidates.invariant.walk.over))))
     c.candidates.invariant.none

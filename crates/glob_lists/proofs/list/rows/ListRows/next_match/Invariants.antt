@@ -7,7 +7,7 @@ use Rattle.glob_lists.proofs.list.rows.ListRows.next_match.Given as goal
 abbrev pub invariant-candidates : goal.invariant-candidates
 invariant-candidates g l = record {
   walk : IsWalkOf l.self l.question.probe l.walk;
-  none : NoneAnswers (entry_list_of g.T.Pattern.seen l.list) l.question.path.now l.question.case l.walk.passed_from l.fn.walk.passed_from;
+  none : NoneAnswers (entry_list_of g.T.Pattern.seen l.list) l.question.path.now l.question.rules l.walk.passed_from l.fn.walk.passed_from;
   low : l.walk.passed_from ≤ l.fn.walk.passed_from;
   spent : SpendsDown (entry_list_of g.T.Pattern.seen l.list) (length l.question.path.now.bytes) l.fn.walk.passed_from l.walk.passed_from l.fn.counts l.counts;
 }

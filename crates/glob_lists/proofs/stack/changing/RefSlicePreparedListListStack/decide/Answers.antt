@@ -5,4 +5,4 @@ use Rattle.glob_lists.proofs.lemmas.Deciding.DecidingLemmas.{Decides-inside}
 use Rattle.glob_lists.proofs.stack.changing.RefSlicePreparedListListStack.decide.Goals as goal
 
 pub returns-clause-inside : goal.returns-clause-inside
-returns-clause-inside g c = Decides-inside (map (entry_list_of g.T.Pattern.seen) c.args.self.now.now) c.args.path.now.bytes c.args.path.now.is_dir c.args.case c.decide_prepared.result c.decide_prepared.ensures
+returns-clause-inside g c = Decides-inside (map (entry_list_of g.T.Pattern.seen) c.args.self.now.now) c.args.path.now.bytes c.args.path.now.is_dir c.args.rules c.decide_prepared.result c.decide_prepared.ensures

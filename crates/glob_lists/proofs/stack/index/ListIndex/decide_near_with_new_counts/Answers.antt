@@ -4,8 +4,8 @@ use Rattle.glob_lists.proofs.stack.index.ListIndex.decide_near_with_new_counts.G
 
 pub returns-in-Some : goal.returns-in-Some
 returns-in-Some g c =
-    Decides-asked g.T.Pattern.seen _ _ c.self.view_is c.question-question.result.path.now c.args.path.now c.question-question.result.case c.decide_from.result c.question-question.ensures.path.0 c.question-question.ensures.path.1 c.decide_from.ensures.exact
+    Decides-asked g.T.Pattern.seen _ _ c.self.view_is c.question-question.result.path.now c.args.path.now c.question-question.result.rules c.decide_from.result c.question-question.ensures.path.0 c.question-question.ensures.path.1 c.decide_from.ensures.exact
 
 pub returns : goal.returns
 returns g c =
-    Decides-asked g.T.Pattern.seen _ _ c.self.view_is c.question-question.result.path.now c.args.path.now c.question-question.result.case c.decide.result c.question-question.ensures.path.0 c.question-question.ensures.path.1 c.decide.ensures.exact
+    Decides-asked g.T.Pattern.seen _ _ c.self.view_is c.question-question.result.path.now c.args.path.now c.question-question.result.rules c.decide.result c.question-question.ensures.path.0 c.question-question.ensures.path.1 c.decide.ensures.exact

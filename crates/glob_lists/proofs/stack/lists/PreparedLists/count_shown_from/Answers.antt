@@ -17,7 +17,7 @@ pub lists-preserved : goal.lists-preserved
 lists-preserved g c =
     let lists = map (entry_list_of g.T.Pattern.seen) c.args.self.now in
     let path = c.args.question.now.path.now in
-    let case = c.args.question.now.case in
+    let rules = c.args.question.now.rules in
     let k = c.lists.k in
     let its = c.index.result.now in
     let many = c.self.invariant.many in
@@ -33,8 +33,8 @@ lists-preserved g c =
       few = omega (arith, are.asked.many, c.lists.invariant.few);
       some = λ below answers. ⊎_elim
           (λ (here : c.args.i ≡ k).
-          let at_list = PairAnswers-only lists path.bytes path.is_dir case k c.args.m list there (subst (λ (i : ℕ). PairAnswers lists path.bytes path.is_dir case i c.args.m) here answers) in
-          let row = row_passes list its.rows.items are.asked path case c.args.question.now.probe c.answering_patterns_pass.ensures c.requires.shows c.args.m at_list in
+          let at_list = PairAnswers-only lists path.bytes path.is_dir rules k c.args.m list there (subst (λ (i : ℕ). PairAnswers lists path.bytes path.is_dir rules i c.args.m) here answers) in
+          let row = row_passes list its.rows.items are.asked path rules c.args.question.now.probe c.answering_patterns_pass.ensures c.requires.shows c.args.m at_list in
           elim c.if-k-i.branch [
             | then-k-i w ↦
                 (let counted = c.count_shown.ensures.some row.0 (subst (λ (n : ℕ). slice_get its.rows.items n ≡ Some row.0) (sym w.from-is) row.1) row.2 in

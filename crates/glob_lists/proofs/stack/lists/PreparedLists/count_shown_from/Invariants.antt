@@ -8,5 +8,5 @@ use Rattle.glob_lists.proofs.stack.lists.PreparedLists.count_shown_from.Given as
 abbrev pub invariant-lists : goal.invariant-lists
 invariant-lists g l = record {
   few : l.count ≤ entry_count (take l.k (map (entry_list_of g.T.Pattern.seen) l.self));
-  some : l.i < l.k → PairAnswers (map (entry_list_of g.T.Pattern.seen) l.self) l.question.path.now.bytes l.question.path.now.is_dir l.question.case l.i l.m → 0 < l.count;
+  some : l.i < l.k → PairAnswers (map (entry_list_of g.T.Pattern.seen) l.self) l.question.path.now.bytes l.question.path.now.is_dir l.question.rules l.i l.m → 0 < l.count;
 }

@@ -27,7 +27,7 @@ pub returns-clause-last : goal.returns-clause-last
 returns-clause-last g c =
     let there = held_there g.T.Pattern.seen c.self.inside.lists.now c.args.i c.index-self-i.result (within g (goal.at.returns-clause-last g c).After-index-self-i) in
     rw c.self.view_is at
-    (IsLastOfList-at (map (entry_list_of g.T.Pattern.seen) c.self.inside.lists.now) c.args.question.now.path.now c.args.question.now.case c.args.i
+    (IsLastOfList-at (map (entry_list_of g.T.Pattern.seen) c.self.inside.lists.now) c.args.question.now.path.now c.args.question.now.rules c.args.i
     (entry_list_of g.T.Pattern.seen (get_or c.self.inside.lists.now c.args.i c.index-self-i.result)) there c.last_match.result c.last_match.ensures.last)
 
 pub returns-clause-spends : goal.returns-clause-spends

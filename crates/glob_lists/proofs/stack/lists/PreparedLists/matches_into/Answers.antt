@@ -11,6 +11,6 @@ returns g c =
     let lists = map (entry_list_of g.T.Pattern.seen) c.args.self.now in
     let path = c.args.question.now.path.now in
     let first : c.lists.i ≡ 0 = omega (arith, c.lists-test.false) in
-    subst (AreMatches lists path.bytes path.is_dir c.args.question.now.case) (sym c.reverse.ensures.items)
-    (AreFoundFrom-all lists path c.args.question.now.case c.lists.pairs.items
-    (subst (λ (i : ℕ). AreFoundFrom lists path c.args.question.now.case i 0 c.lists.pairs.items) first c.lists.invariant))
+    subst (AreMatches lists path.bytes path.is_dir c.args.question.now.rules) (sym c.reverse.ensures.items)
+    (AreFoundFrom-all lists path c.args.question.now.rules c.lists.pairs.items
+    (subst (λ (i : ℕ). AreFoundFrom lists path c.args.question.now.rules i 0 c.lists.pairs.items) first c.lists.invariant))

@@ -37,11 +37,11 @@ pub returns-in_default : goal.returns-in_default
 returns-in_default g c =
     let lists = map (entry_list_of g.T.Pattern.seen) c.args.self.now in
     let path = c.args.question.now.path.now in
-    let case = c.args.question.now.case in
+    let rules = c.args.question.now.rules in
     let list = entry_list_of g.T.Pattern.seen (get_or c.self.inside.lists.now c.args.i c.index-self-i.result) in
     let there = list_at g (goal.at.returns-in_default g c).After-index-self-i in
-    AreFoundFrom-end lists path case c.args.i list there (length list.entries) c.args.pairs.now.items (λ m low below. c.in_default.ensures.rest m)
-    (AreFoundFrom-list lists path case c.args.i list there (c.args.i + 1) (length list.entries) c.args.pairs.now.items refl (omega arith) c.requires.found)
+    AreFoundFrom-end lists path rules c.args.i list there (length list.entries) c.args.pairs.now.items (λ m low below. c.in_default.ensures.rest m)
+    (AreFoundFrom-list lists path rules c.args.i list there (c.args.i + 1) (length list.entries) c.args.pairs.now.items refl (omega arith) c.requires.found)
 
 pub matches-init : goal.matches-init
 matches-init g c =
@@ -51,7 +51,7 @@ matches-init g c =
     let are = held_rows g.T.Pattern.seen c.self.inside.lists.now c.args.i c.index-self-i.result (within g after) c.self.inside.rows.items c.self.invariant c.index-rows.result.now c.index-rows.ensures in
     record {
       walk = c.walk-walk.ensures.walk;
-      found = AreFoundFrom-list lists c.args.question.now.path.now c.args.question.now.case c.args.i list (list_at g after) (c.args.i + 1) c.walk-walk.result.passed_from c.args.pairs.now.items refl
+      found = AreFoundFrom-list lists c.args.question.now.path.now c.args.question.now.rules c.args.i list (list_at g after) (c.args.i + 1) c.walk-walk.result.passed_from c.args.pairs.now.items refl
           (omega (arith, c.walk-walk.ensures.all, are.asked.many)) c.requires.found;
     }
 
@@ -68,12 +68,12 @@ pub matches-preserved : goal.matches-preserved
 matches-preserved g c =
     let lists = map (entry_list_of g.T.Pattern.seen) c.args.self.now in
     let path = c.args.question.now.path.now in
-    let case = c.args.question.now.case in
+    let rules = c.args.question.now.rules in
     let list = entry_list_of g.T.Pattern.seen (get_or c.self.inside.lists.now c.args.i c.index-self-i.result) in
     record {
       walk = c.in-Some-next_match.ensures.walk;
-      found = subst (λ (found : List (ℕ × ℕ)). AreFoundFrom lists path case c.args.i c.next_match.new.walk.passed_from found) (sym c.in_ok-push.ensures.items)
-          (AreFoundFrom-match lists path case c.args.i list (list_at g (goal.at.matches-preserved g c).After-index-self-i) c.next_match.new.walk.passed_from c.matches.walk.passed_from c.in-Some-next_match.m c.matches.pairs.items
+      found = subst (λ (found : List (ℕ × ℕ)). AreFoundFrom lists path rules c.args.i c.next_match.new.walk.passed_from found) (sym c.in_ok-push.ensures.items)
+          (AreFoundFrom-match lists path rules c.args.i list (list_at g (goal.at.matches-preserved g c).After-index-self-i) c.next_match.new.walk.passed_from c.matches.walk.passed_from c.in-Some-next_match.m c.matches.pairs.items
           c.in-Some-next_match.ensures.next c.matches.invariant.found);
     }
 
@@ -81,5 +81,5 @@ pub returns : goal.returns
 returns g c =
     let lists = map (entry_list_of g.T.Pattern.seen) c.args.self.now in
     let list = entry_list_of g.T.Pattern.seen (get_or c.self.inside.lists.now c.args.i c.index-self-i.result) in
-    AreFoundFrom-end lists c.args.question.now.path.now c.args.question.now.case c.args.i list (list_at g (goal.at.returns g c).After-index-self-i) c.matches.walk.passed_from c.matches.pairs.items
+    AreFoundFrom-end lists c.args.question.now.path.now c.args.question.now.rules c.args.i list (list_at g (goal.at.returns g c).After-index-self-i) c.matches.walk.passed_from c.matches.pairs.items
     c.in_default-next_match.ensures.next c.matches.invariant.found

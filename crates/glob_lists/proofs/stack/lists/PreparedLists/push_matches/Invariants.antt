@@ -8,7 +8,7 @@ use Rattle.glob_lists.proofs.stack.lists.PreparedLists.push_matches.Given as goa
 abbrev pub invariant-matches : goal.invariant-matches
 invariant-matches g l = record {
   walk : IsWalkOf l.rows l.question.probe l.walk;
-  found : AreFoundFrom (map (entry_list_of g.T.Pattern.seen) l.self) l.question.path.now l.question.case l.i l.walk.passed_from l.pairs.items;
+  found : AreFoundFrom (map (entry_list_of g.T.Pattern.seen) l.self) l.question.path.now l.question.rules l.i l.walk.passed_from l.pairs.items;
 }
 
 abbrev pub decreases-matches : goal.decreases-matches

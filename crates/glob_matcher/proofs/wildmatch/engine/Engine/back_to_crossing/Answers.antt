@@ -23,7 +23,7 @@ returns-in-Unmet g c =
 pub returns-in-Free : goal.returns-in-Free
 returns-in-Free g c =
     let m = g.M.Texts in
-    subst (λ (x : Crossing). IsBacktrack m.mode m.pattern m.value (λ measure. AllowsLeft measure m.mode m.pattern m.value x (amount_of measure c.args.self.now))
+    subst (λ (x : Crossing). IsBacktrack m.way m.pattern m.value (λ measure. AllowsLeft measure m.way m.pattern m.value x (amount_of measure c.args.self.now))
     c.back_to_free.result c.args.self.now c.back_to_free.new.self) (sym c.in-Free.is) c.back_to_free.ensures
 
 pub returns-in-None : goal.returns-in-None

@@ -5,7 +5,7 @@ abbrev pub ghosts-compare_fronts : goal.ghosts-compare_fronts
 ghosts-compare_fronts g a = record {
   pattern = g.M.Texts.pattern;
   value = g.M.Texts.value;
-  mode = g.M.Texts.mode;
+  way = g.M.Texts.way;
   counts = a.counts.ghost_name;
   short_pattern = g.M.Texts.short_pattern;
   short_value = g.M.Texts.short_value;

@@ -22,10 +22,10 @@ returns-then-not-fits_byte g c =
       meaning = record {
         stands = c.bytes.invariant.stands;
         missed =
-            misses_byte m.value c.bytes.at (literal_token m.mode m.pattern c.bytes.place inside own) refl c.bytes.invariant.stands.inside
+            misses_byte m.value c.bytes.at (literal_token m.way m.pattern c.bytes.place inside own) refl c.bytes.invariant.stands.inside
             (λ fits.
             let wrong : false ≡ true = c.if-not-fits_byte.ensures.answer.1
-            (subst (λ (b : ℕ). (c.bytes.at < length m.value) × Fits m.mode (Byte b) (get_or m.value c.bytes.at 0)) (sym same) fits) in
+            (subst (λ (b : ℕ). (c.bytes.at < length m.value) × Fits m.way (Byte b) (get_or m.value c.bytes.at 0)) (sym same) fits) in
             cc);
       };
       allows = λ measure s n low a.
@@ -37,7 +37,7 @@ returns-then-not-fits_byte g c =
           ≤ amount measure passed (8 * passed) + amount measure 1 (8 * (c.bytes.place + 1 - c.bytes.place)) = amount-sum measure passed (8 * passed) 1 (8 * (c.bytes.place + 1 - c.bytes.place)) (omega arith) (omega arith) in
           record {
             before = s + amount measure passed (8 * passed);
-            tested = test_of_token (literal_token m.mode m.pattern c.bytes.place inside own) refl (omega arith);
+            tested = test_of_token (literal_token m.way m.pattern c.bytes.place inside own) refl (omega arith);
             allows = c.bytes.invariant.allows measure s n a;
           };
       progress = omega (arith, c.fits_byte.ensures.count.steps, c.pattern_byte-byte.ensures.count.steps, c.bytes.invariant.count.steps);
@@ -52,8 +52,8 @@ bytes-preserved g c =
     let same : c.pattern_byte-byte.result ≡ get_or m.pattern c.bytes.place 0 = c.pattern_byte-byte.ensures.here in
     let inside : c.bytes.place < length m.pattern = omega (arith, c.bytes-test.true, c.pattern_len.ensures) in
     let own = subst StandsForItself same ((c.if-not-stands_within_component.ensures.0 refl).0) in
-    let token = literal_token m.mode m.pattern c.bytes.place inside own in
-    let fits = subst (λ (b : ℕ). (c.bytes.at < length m.value) × Fits m.mode (Byte b) (get_or m.value c.bytes.at 0)) same
+    let token = literal_token m.way m.pattern c.bytes.place inside own in
+    let fits = subst (λ (b : ℕ). (c.bytes.at < length m.value) × Fits m.way (Byte b) (get_or m.value c.bytes.at 0)) same
     (c.if-not-fits_byte.ensures.answer.0 refl) in
     record {
       stands = stands_on c.bytes.invariant.stands token refl fits.0 fits.1 (λ is. (c.if-not-stands_within_component.ensures.0 refl).1 (same ∙ byte_of is));

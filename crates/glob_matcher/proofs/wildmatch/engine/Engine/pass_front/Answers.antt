@@ -17,7 +17,7 @@ pub bytes-init : goal.bytes-init
 bytes-init g c =
     let m = g.M.Texts in
     record {
-      stands = stands_start m.mode m.pattern m.value;
+      stands = stands_start m.way m.pattern m.value;
       allows = λ measure s n a.
           let none : amount measure 0 0 ≤ 0 = omega (arith, amount-same measure 0) in
           allows_less (omega (arith, none)) a;
@@ -34,9 +34,9 @@ bytes-preserved g c =
     let inside : k < length m.pattern = omega (arith, c.bytes-test.true, c.bytes.invariant.inside) in
     let within : k < length m.value = omega (arith, c.bytes-test.true, c.bytes.invariant.within) in
     let plain = c.if-not-stands_within_component.ensures.0 refl in
-    let token = literal_token m.mode m.pattern k inside (subst StandsForItself same plain.0) in
-    let fits : Fits m.mode (Byte (get_or m.pattern k 0)) (get_or m.value k 0) =
-    subst (λ (b : ℕ). Fits m.mode (Byte b) (get_or m.value k 0)) same (c.if-not-value_has.ensures.answer.0 refl) in
+    let token = literal_token m.way m.pattern k inside (subst StandsForItself same plain.0) in
+    let fits : Fits m.way (Byte (get_or m.pattern k 0)) (get_or m.value k 0) =
+    subst (λ (b : ℕ). Fits m.way (Byte b) (get_or m.value k 0)) same (c.if-not-value_has.ensures.answer.0 refl) in
     record {
       stands = stands_on c.bytes.invariant.stands token refl within fits (λ is. plain.1 (same ∙ byte_of is));
       allows = λ measure s n a.

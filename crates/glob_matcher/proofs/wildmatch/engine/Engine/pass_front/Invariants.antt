@@ -9,9 +9,9 @@ use Rattle.glob_matcher.proofs.wildmatch.engine.Engine.pass_front.Given as goal
 
 abbrev pub invariant-bytes : goal.invariant-bytes
 invariant-bytes g l = record {
-  stands : StandsAt g.M.Texts.mode g.M.Texts.pattern g.M.Texts.value (at_front l.passed);
-  allows : (measure : Measure) (spent limit : ℕ) → AllowsAt measure g.M.Texts.mode g.M.Texts.pattern g.M.Texts.value (at_front 0) spent limit
-      → AllowsAt measure g.M.Texts.mode g.M.Texts.pattern g.M.Texts.value (at_front l.passed) (spent + amount measure l.passed (8 * l.passed)) limit;
+  stands : StandsAt g.M.Texts.way g.M.Texts.pattern g.M.Texts.value (at_front l.passed);
+  allows : (measure : Measure) (spent limit : ℕ) → AllowsAt measure g.M.Texts.way g.M.Texts.pattern g.M.Texts.value (at_front 0) spent limit
+      → AllowsAt measure g.M.Texts.way g.M.Texts.pattern g.M.Texts.value (at_front l.passed) (spent + amount measure l.passed (8 * l.passed)) limit;
   inside : l.most ≤ length g.M.Texts.pattern;
   within : l.most ≤ length g.M.Texts.value;
   count : Takes l.fn.self l.self l.passed (2 * l.passed);

@@ -8,7 +8,7 @@ turns-init g c =
     let m = g.M.Texts in
     record {
       stands = c.front-front.ensures.meaning;
-      allows = λ measure. c.front-front.ensures.allows measure _ (allows_start measure m.mode m.pattern m.value c.args.self.now);
+      allows = λ measure. c.front-front.ensures.allows measure _ (allows_start measure m.way m.pattern m.value c.args.self.now);
       grows = c.front-front.ensures.grows;
     }
 

@@ -8,8 +8,8 @@ use Rattle.glob_matcher.proofs.wildmatch.engine.Engine.search.Given as goal
 
 abbrev pub invariant-turns : goal.invariant-turns
 invariant-turns g l = record {
-  stands : StandsAt g.M.Texts.mode g.M.Texts.pattern g.M.Texts.value l.state;
-  allows : (measure : Measure) → AllowsAt measure g.M.Texts.mode g.M.Texts.pattern g.M.Texts.value l.state (amount_of measure l.self)
+  stands : StandsAt g.M.Texts.way g.M.Texts.pattern g.M.Texts.value l.state;
+  allows : (measure : Measure) → AllowsAt measure g.M.Texts.way g.M.Texts.pattern g.M.Texts.value l.state (amount_of measure l.self)
       (amount_of measure l.fn.self + amount measure (step_limit (length g.M.Texts.pattern) (length g.M.Texts.value) - 1) (look_limit (length g.M.Texts.pattern) (length g.M.Texts.value) - 2));
   grows : NeverFall l.fn.self l.self;
 }

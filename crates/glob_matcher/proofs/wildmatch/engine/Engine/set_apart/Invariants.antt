@@ -6,7 +6,7 @@ abbrev pub ghosts-read_set : goal.ghosts-read_set
 ghosts-read_set g a = record {
   pattern = g.M.Texts.pattern;
   value = [];
-  mode = g.M.Texts.mode;
+  way = g.M.Texts.way;
   counts = a.counts.ghost_name;
   short_pattern = g.M.Texts.short_pattern;
   short_value = omega arith;

@@ -1,5 +1,5 @@
 use Rattle.std.proofs.Common.{◌≡◌, ◌∙◌, ◌||◌, ap, subst, arith, rules}
-use Rattle.glob_matcher.specs.declared.wildmatch.mode.Mode.{Mode}
+use Rattle.glob_matcher.specs.declared.wildmatch.way.Way.{Way}
 use Rattle.glob_matcher.specs.Sets.{item_holds, set_holds}
 use Rattle.glob_matcher.proofs.lemmas.reading.Walks.{set_closed, set_broken}
 use Rattle.glob_matcher.proofs.lemmas.reading.LookLemmas.{reading_first, reading_next, search_front_here, search_front_inside}
@@ -9,11 +9,11 @@ use Rattle.glob_matcher.proofs.wildmatch.engine.Engine.set_at.Goals.{then-is_hel
 pub items-init : goal.items-init
 items-init g c =
     let begin = c.set_opening-is_negated.ensures in
-    reading_first {test = item_holds c.mode-mode.result c.args.byte} begin.begin begin.inside.0 begin.inside.1 begin.count
+    reading_first {test = item_holds c.way-way.result c.args.byte} begin.begin begin.inside.0 begin.inside.1 begin.count
 
 pub items-preserved : goal.items-preserved
 items-preserved g c =
-    let held : c.if-is_held.is_held ≡ c.items.is_held || item_holds c.mode-mode.result c.args.byte c.in-Item.spelled.item =
+    let held : c.if-is_held.is_held ≡ c.items.is_held || item_holds c.way-way.result c.args.byte c.in-Item.spelled.item =
     elim c.if-is_held.branch [ then-is_held w ↦ search rules | else-is_held w ↦ search rules ] in
     reading_next c.in-Item.spelled held c.onward-cursor.ensures c.items.invariant c.in-Item.ensures.item
     c.in-Item.ensures.count
@@ -30,14 +30,14 @@ returns-in-Close-clause-read g c =
     let so_far = c.items.invariant in
     let closed = c.in-Close.ensures.item in
     let all =
-    set_closed c.mode-mode.result c.args.byte c.args.place begin.result.0 c.requires begin.ensures.sign so_far.underway closed.0 in
+    set_closed c.way-way.result c.args.byte c.args.place begin.result.0 c.requires begin.ensures.sign so_far.underway closed.0 in
     record {
       set = all.0;
       here = all.1;
       past = omega (arith, so_far.past);
       inside = omega (arith, closed.1);
       answer =
-          subst (λ (m : Mode). c.decides_set-holds.result ≡ set_holds m all.0 c.args.byte) c.mode-mode.ensures (c.decides_set-holds.ensures ∙ all.2);
+          subst (λ (m : Way). c.decides_set-holds.result ≡ set_holds m all.0 c.args.byte) c.way-way.ensures (c.decides_set-holds.ensures ∙ all.2);
     }
 
 pub returns-in-Close-clause-count : goal.returns-in-Close-clause-count

@@ -7,7 +7,7 @@ use Rattle.glob_matcher.proofs.wildmatch.engine.Engine.set_at.Given as goal
 
 abbrev pub invariant-items : goal.invariant-items
 invariant-items g l =
-    IsReading g.M.Texts.pattern l.fn.place (first_item l.is_negated l.fn.place) (item_holds l.mode l.byte) l.is_held l.cursor
+    IsReading g.M.Texts.pattern l.fn.place (first_item l.is_negated l.fn.place) (item_holds l.way l.byte) l.is_held l.cursor
     l.fn.self l.self
 
 abbrev pub decreases-items : goal.decreases-items

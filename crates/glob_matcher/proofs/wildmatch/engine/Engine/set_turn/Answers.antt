@@ -15,7 +15,7 @@ pub returns-in_default : goal.returns-in_default
 returns-in_default g c =
     let m = g.M.Texts in
     let inside = c.requires.bracket.inside in
-    let x : IsToken m.mode m.pattern c.args.state.place kind.Nothing (length m.pattern) = record {
+    let x : IsToken m.way m.pattern c.args.state.place kind.Nothing (length m.pattern) = record {
       token = Nothing;
       here = (inr (c.requires.bracket, c.in_default.ensures.none), refl);
       same_kind = refl;
@@ -37,7 +37,7 @@ returns-then-not-set g c =
     let m = g.M.Texts in
     let found = c.in-Some.ensures.found in
     let paid = c.in-Some.ensures.count in
-    let x : IsToken m.mode m.pattern c.args.state.place kind.Set c.in-Some.set.end =
+    let x : IsToken m.way m.pattern c.args.state.place kind.Set c.in-Some.set.end =
     record { token = OneOf found.set; here = found.here; same_kind = refl; past = found.past; inside = found.inside } in
     record {
       meaning = record {
@@ -62,7 +62,7 @@ returns g c =
     let m = g.M.Texts in
     let found = c.in-Some.ensures.found in
     let paid = c.in-Some.ensures.count in
-    let x : IsToken m.mode m.pattern c.args.state.place kind.Set c.in-Some.set.end =
+    let x : IsToken m.way m.pattern c.args.state.place kind.Set c.in-Some.set.end =
     record { token = OneOf found.set; here = found.here; same_kind = refl; past = found.past; inside = found.inside } in
     let fits = found.answer.0 (not-false c.in-Some.set.holds c.if-not-set.false) in
     record {

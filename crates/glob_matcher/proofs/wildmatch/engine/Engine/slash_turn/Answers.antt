@@ -17,14 +17,14 @@ returns-then-not-fits_byte g c =
         stands = c.requires.stands;
         missed =
             misses_byte m.value c.args.state.at
-            (literal_token m.mode m.pattern c.args.state.place c.requires.place (slash_is_itself _ c.requires.is)) refl
+            (literal_token m.way m.pattern c.args.state.place c.requires.place (slash_is_itself _ c.requires.is)) refl
             c.requires.stands.inside (λ fits.
             let wrong : false ≡ true = c.if-not-fits_byte.ensures.answer.1
-            (subst (λ (b : ℕ). (c.args.state.at < length m.value) × Fits m.mode (Byte b) (get_or m.value c.args.state.at 0)) c.requires.is fits) in
+            (subst (λ (b : ℕ). (c.args.state.at < length m.value) × Fits m.way (Byte b) (get_or m.value c.args.state.at 0)) c.requires.is fits) in
             cc);
       };
       allows = λ measure s n low a.
-          let token = literal_token m.mode m.pattern c.args.state.place c.requires.place (slash_is_itself _ c.requires.is) in
+          let token = literal_token m.way m.pattern c.args.state.place c.requires.place (slash_is_itself _ c.requires.is) in
           record {
             before = s;
             tested = test_of_token token refl (Takes-within measure s 0 1 low (TakesExactly-at_most c.fits_byte.ensures.count) (omega arith) (omega arith));
@@ -37,9 +37,9 @@ returns-then-not-fits_byte g c =
 pub returns : goal.returns
 returns g c =
     let m = g.M.Texts in
-    let token = literal_token m.mode m.pattern c.args.state.place c.requires.place (slash_is_itself _ c.requires.is) in
+    let token = literal_token m.way m.pattern c.args.state.place c.requires.place (slash_is_itself _ c.requires.is) in
     let fits =
-    subst (λ (b : ℕ). (c.args.state.at < length m.value) × Fits m.mode (Byte b) (get_or m.value c.args.state.at 0)) (sym c.requires.is)
+    subst (λ (b : ℕ). (c.args.state.at < length m.value) × Fits m.way (Byte b) (get_or m.value c.args.state.at 0)) (sym c.requires.is)
     (c.if-not-fits_byte.ensures.answer.0 refl) in
     record {
       meaning = stands_past_slash c.requires.stands token refl fits.0 fits.1 (ap Byte c.requires.is);

@@ -30,7 +30,7 @@ returns-then-state-pattern_len g c =
       meaning = record {
         stands = c.requires;
         missed =
-            end_missed m.mode m.pattern m.value c.args.state.place c.args.state.at (omega arith)
+            end_missed m.way m.pattern m.value c.args.state.place c.args.state.at (omega arith)
             (λ end. let wrong : false ≡ true = c.if-ends_at.ensures.answer.1 end in cc);
       };
       allows = λ measure s n low a.

@@ -131,7 +131,7 @@ pub attempt-try_directories-requires : goal.attempt-try_directories-requires
 attempt-try_directories-requires t c =
     let p = c.args.self.now.pattern.now in
     let s = c.token_at-token in
-    let here : TokenAt c.args.self.now.mode p c.tokens.place Dirs s.result.end = is_dirs s.ensures c.in-Dirs.is in (
+    let here : TokenAt c.args.self.now.way p c.tokens.place Dirs s.result.end = is_dirs s.ensures c.in-Dirs.is in (
       search rules,
       (
         (c.tokens.place, dirs_boundary c.tokens.invariant.start here, here),

@@ -7,7 +7,7 @@ abbrev pub ghosts-read_over : goal.ghosts-read_over
 ghosts-read_over g a = record {
   pattern = take (2 ^ 64 - 1) a.self.pattern.now;
   value = [];
-  mode = a.self.mode;
+  way = a.self.way;
   counts = a.counts.ghost_name;
   short_pattern = short a.self.pattern.now;
   short_value = omega arith;

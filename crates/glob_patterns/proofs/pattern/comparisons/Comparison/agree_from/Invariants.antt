@@ -6,6 +6,6 @@ use Rattle.glob_patterns.proofs.pattern.comparisons.Comparison.agree_from.Given 
 
 abbrev pub invariant-bytes : goal.invariant-bytes
 invariant-bytes g l = record {
-  agree : AgreeFrom g.M.Texts.mode g.M.Texts.pattern g.M.Texts.value l.fn.place l.fn.at l.i;
+  agree : AgreeFrom g.M.Texts.way g.M.Texts.pattern g.M.Texts.value l.fn.place l.fn.at l.i;
   count : Takes l.fn.self l.self 0 (2 * l.i);
 }

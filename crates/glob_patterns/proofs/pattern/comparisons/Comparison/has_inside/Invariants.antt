@@ -6,6 +6,6 @@ use Rattle.glob_patterns.proofs.pattern.comparisons.Comparison.has_inside.Given 
 
 abbrev pub invariant-places : goal.invariant-places
 invariant-places g l = record {
-  none : (k : ℕ) → k < l.at → ¬ AgreeFrom g.M.Texts.mode g.M.Texts.pattern g.M.Texts.value 1 k (length g.M.Texts.pattern - 2);
+  none : (k : ℕ) → k < l.at → ¬ AgreeFrom g.M.Texts.way g.M.Texts.pattern g.M.Texts.value 1 k (length g.M.Texts.pattern - 2);
   count : Takes l.fn.self l.self 0 (2 * length g.M.Texts.pattern * l.at);
 }

@@ -5,4 +5,4 @@ use Rattle.glob_patterns.proofs.lemmas.Agreement.{is_one}
 use Rattle.glob_patterns.proofs.pattern.comparisons.Comparison.is_one_component.Goals as goal
 
 pub returns-clause-exact : goal.returns-clause-exact
-returns-clause-exact g c = is_one (is_path g.M.Texts.mode) c.bytes.at (search rules) c.bytes.invariant.free
+returns-clause-exact g c = is_one (is_path g.M.Texts.way) c.bytes.at (search rules) c.bytes.invariant.free

@@ -7,7 +7,7 @@ abbrev pub ghosts-front_compared : goal.ghosts-front_compared
 ghosts-front_compared g a = record {
   pattern = take (2 ^ 64 - 1) a.self.text.now;
   value = take (2 ^ 64 - 1) a.value.now;
-  mode = a.mode;
+  way = a.way;
   counts = a.counts.ghost_name;
   short_pattern = short a.self.text.now;
   short_value = short a.value.now;

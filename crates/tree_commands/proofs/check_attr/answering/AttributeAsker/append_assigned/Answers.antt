@@ -23,9 +23,9 @@ returns-clause-written g c =
     let path : c.from_plain-path.result ≡ record { bytes = asker.path.items; is_dir = c.args.is_folder } =
     c.from_plain-path.ensures ∙ ap (λ bytes. record { bytes = bytes; is_dir = c.args.is_folder }) c.deref.ensures.value in
     let its =
-    subst (λ p. IsAssigned (fronts ++ map (entry_list_of seen_assignments) asker.walk.lists.items) asker.walk.macros.now p asker.index.now.case c.in_ok-assigned.assigned) path
-    (subst (λ ls. IsAssigned (fronts ++ map (entry_list_of seen_assignments) ls) asker.walk.macros.now c.from_plain-path.result asker.index.now.case c.in_ok-assigned.assigned) c.deref-2.ensures.value c.in_ok-assigned.ensures) in
+    subst (λ p. IsAssigned (fronts ++ map (entry_list_of seen_assignments) asker.walk.lists.items) asker.walk.macros.now p asker.index.now.rules c.in_ok-assigned.assigned) path
+    (subst (λ ls. IsAssigned (fronts ++ map (entry_list_of seen_assignments) ls) asker.walk.macros.now c.from_plain-path.result asker.index.now.rules c.in_ok-assigned.assigned) c.deref-2.ensures.value c.in_ok-assigned.ensures) in
     ok_gives c.append_states.result _ _
-    (λ written. assigned_allowed g.Q.Question.files g.Q.Question.asked g.Q.Question.shows g.Q.Question.allows g.S.AttributeFolders.shows asker c.requires.ready c.args.told.now c.requires.leads c.requires.plain c.args.is_folder c.requires.folder c.requires.gone
+    (λ written. assigned_allowed g.Q.Question.files g.Q.Question.asked g.Q.Question.case g.Q.Question.shows g.Q.Question.allows g.S.AttributeFolders.shows asker c.requires.ready c.args.told.now c.requires.leads c.requires.plain c.args.is_folder c.requires.folder c.requires.gone
     c.in_ok-assigned.assigned its c.args.text.now.items c.append_states.new.text.items written)
     c.append_states.ensures.written

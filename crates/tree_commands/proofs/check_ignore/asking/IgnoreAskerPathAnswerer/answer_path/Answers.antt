@@ -13,7 +13,7 @@ returns-in_err-pair-clause-answered g c =
     status_failed _ _ c.find.ensures.goes_on g.Q.AskedQuestion.question c.from_residual.result c.args.self.now.is_any c.find.new.self.is_any c.args.told.now c.from_residual.ensures.0 c.find.ensures.same
 
 pub append-requires-clause-there : goal.append-requires-clause-there
-append-requires-clause-there g c = told_there (g.S.FolderLists.shows (Unit {0})) c.find.new.self.finder.tree _ _ c.in_ok-pair.pair c.in_ok-pair.ensures.found
+append-requires-clause-there g c = told_there (g.S.FolderLists.shows (Unit {0})) c.find.new.self.finder.tree _ _ _ c.in_ok-pair.pair c.in_ok-pair.ensures.found
 
 pub returns-in_err-is_counted-clause-stays : goal.returns-in_err-is_counted-clause-stays
 returns-in_err-is_counted-clause-stays g c = answers_stay _ _ c.find.ensures.goes_on g.Q.AskedQuestion.question
