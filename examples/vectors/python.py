@@ -1,10 +1,14 @@
 #!/usr/bin/env python3
 """Answers by the binding for Python: tools/vectors examples/vectors/python.py, with bindings/python on PYTHONPATH.
 
-Of several calls that answer a question all are asked: where they don't agree, the answer is `differs`."""
-import rows
-from gix_glob import IgnoreFile, IgnoreList, Mode, Pattern, wildmatch
+Of several calls that answer a question all are asked: where they don't agree, the answer is `differs`. With the word `as-git`, and
+tools/vectors --git, the rows of work trees are asked, of files that are read as Git reads them."""
+import sys
 
+import rows
+from gix_glob import IgnoreFile, IgnoreList, Mode, Pattern, Reading, wildmatch
+
+READING = Reading.GIT if sys.argv[1:] == ["as-git"] else Reading.CRATE
 MODES = {
     b"plain": Mode(0),
     b"path": Mode.NO_MATCH_SLASH_LITERAL,
@@ -32,21 +36,37 @@ def reading(how, line):
     if how != b"line":
         return ()
     try:
-        pattern = Pattern(line)
+        return parts(Pattern(line))
     except ValueError:
         return [None, None, None]
+
+
+def git_reading(line):
+    return parts(Pattern(line, Reading.GIT))
+
+
+def parts(pattern):
     place = pattern.first_wildcard_pos
     return [pattern.text, str(int(pattern.mode)), None if place is None else str(place)]
 
 
 def repository_paths(case, mode, line, path, place, kind):
+    # (patterns always match as `path` does)
+    return matches(Reading.CRATE, b"fold" in (case, mode[-4:]), line, path, place, kind) if mode in (b"path", b"path+fold") else ()
+
+
+def git_paths(case, line, path, place, kind):
+    return matches(Reading.GIT, case == b"fold", line, path, place, kind)
+
+
+def matches(read_by, fold, line, path, place, kind):
     last = b"%d" % (path.rfind(b"/") + 1) if b"/" in path else None
-    if mode not in (b"path", b"path+fold") or kind == b"unknown" or place != last or path.endswith(b"/") or not rows.is_plain(path):
-        # (patterns always match as `path` does, find the last part themselves, and take no other paths)
+    if kind == b"unknown" or place != last or path.endswith(b"/") or not rows.is_plain(path):
+        # (patterns find the last part themselves, and take no other paths)
         return ()
-    asked, options = (path, kind == b"folder"), {"ignore_case": b"fold" in (case, mode[-4:])}
-    is_decided = IgnoreFile.from_lines([line]).decide(*asked, **options) is not None
-    return agreed(rows.told(Pattern(line).matches_path(*asked, **options)), rows.told(is_decided))
+    asked, options = (path, kind == b"folder"), {"ignore_case": fold}
+    is_decided = IgnoreFile.from_lines([line], reading=read_by).decide(*asked, **options) is not None
+    return agreed(rows.told(Pattern(line, read_by).matches_path(*asked, **options)), rows.told(is_decided))
 
 
 def shown(file):
@@ -59,16 +79,24 @@ def shown(file):
 
 
 def ignore_files(text):
-    found = shown(IgnoreFile(text))
+    return patterns_of(text, Reading.CRATE)
+
+
+def git_files(text):
+    return patterns_of(text, Reading.GIT)
+
+
+def patterns_of(text, read_by):
+    found = shown(IgnoreFile(text, reading=read_by))
     # (each of the lines of from_lines ends in a line feed)
-    return agreed(found, shown(IgnoreFile.from_lines(text[:-1].split(b"\n")))) if text.endswith(b"\n") else found
+    return agreed(found, shown(IgnoreFile.from_lines(text[:-1].split(b"\n"), reading=read_by))) if text.endswith(b"\n") else found
 
 
 def list_of(fields):
     """The files of a row, or None: the binding takes no base that isn't a folder's below the top."""
     files = [(base or b"", text) for base, text in rows.pairs(fields)]
     are_folders = all(not base or base.endswith(b"/") and rows.is_plain(base) for base, _ in files)
-    return IgnoreList([IgnoreFile(text, base) for base, text in files]) if are_folders else None
+    return IgnoreList([IgnoreFile(text, base, reading=READING) for base, text in files]) if are_folders else None
 
 
 def place_of(rules, found):
@@ -105,4 +133,6 @@ def trees_told(case, _there, path, *fields):
     return trees(case, path, *fields)
 
 
-rows.answer({it.__name__: it for it in (matching, values, reading, repository_paths, ignore_files, decided, trees, trees_told)})
+OF_GIT = (git_reading, git_paths, git_files)
+OTHERS = (matching, values, reading, repository_paths, ignore_files, decided, trees, trees_told, *OF_GIT)
+rows.answer({it.__name__: it for it in ((trees,) if READING is Reading.GIT else OTHERS)})

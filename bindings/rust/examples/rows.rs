@@ -1,5 +1,7 @@
 //! Answers rows by the binding for Rust: `tools/vectors PROGRAM`. Of several calls that answer a question all are asked: where they
-//! don't agree, the answer is `differs`. What no call answers is `?`.
+//! don't agree, the answer is `differs`. What no call answers is `?`. `tools/vectors --git PROGRAM as-git` asks the rows of work trees,
+//! of files that are read as Git reads them.
+use std::env;
 use std::io::{self, BufRead, Write};
 use std::panic;
 use std::path::Path;
@@ -12,17 +14,30 @@ use gix_glob::{Pattern, search, wildmatch};
 
 type Field = Option<Vec<u8>>;
 
-/// A parser of one pattern a line.
+/// A parser of one pattern a line, which may read as Git does.
 #[derive(Clone, PartialEq, Eq, Debug, Hash, PartialOrd, Ord, Default)]
-struct Lines;
+struct Lines {
+    as_git: bool,
+}
+
+const LINES: Lines = Lines { as_git: false };
+
+impl Lines {
+    fn read(&self, line: &[u8]) -> Option<Pattern> {
+        if !self.as_git {
+            return Pattern::from_bytes(line);
+        }
+        // (a line without bytes has no pattern in a file)
+        (!line.is_empty()).then(|| Pattern::from_git_line(line))
+    }
+}
 
 impl search::Pattern for Lines {
     type Value = ();
 
     fn bytes_to_patterns(&self, bytes: &[u8], _source: &Path) -> Vec<Mapping<()>> {
         let lines = bytes.split(|&byte| byte == b'\n').zip(1..);
-        let read =
-            |(line, sequence_number)| Some(Mapping { pattern: Pattern::from_bytes(line)?, value: (), sequence_number });
+        let read = |(line, sequence_number)| Some(Mapping { pattern: self.read(line)?, value: (), sequence_number });
         lines.filter_map(read).collect()
     }
 }
@@ -133,9 +148,11 @@ fn pattern_read(how: &Field, line: &[u8]) -> String {
     if is_line && gix_glob::parse(line) != read {
         return "differs".to_string();
     }
-    read.map_or("\\N\t\\N\t\\N".to_string(), |it| {
-        format!("{}\t{}\t{}", spelt(&it.text), it.mode.bits(), place(it.first_wildcard_pos))
-    })
+    read.map_or("\\N\t\\N\t\\N".to_string(), |it| parts(&it))
+}
+
+fn parts(pattern: &Pattern) -> String {
+    format!("{}\t{}\t{}", spelt(&pattern.text), pattern.mode.bits(), place(pattern.first_wildcard_pos))
 }
 
 fn path_matched(fields: &[Field]) -> Option<String> {
@@ -151,23 +168,37 @@ fn path_matched(fields: &[Field]) -> Option<String> {
     // (an index always matches as `path` does, and finds the last part itself)
     let last = path.iter().rposition(|&byte| byte == b'/').map(|slash| slash + 1);
     let is_known = mode == Mode::NO_MATCH_SLASH_LITERAL && start == last && below_top(path) == Some((path, false));
-    let list = List::from_bytes(line, "file".into(), None, Lines);
+    let list = List::from_bytes(line, "file".into(), None, LINES);
     let found = is_dir.filter(|_| is_known).map(|is_dir| Index::new(&list)?.last_match(path.into(), is_dir, case));
     Some(agreed(is_matched, found.map(|found| found.is_some()).as_slice()))
+}
+
+fn path_matched_as_git(fields: &[Field]) -> Option<String> {
+    let [case, line, path, start, kind] = fields else { return None };
+    let (line, path, is_dir) = (line.as_deref()?, path.as_deref()?, kind.as_deref()? == b"folder");
+    let last = path.iter().rposition(|&byte| byte == b'/').map(|slash| slash + 1);
+    // (the calls know the kind, and find the last part themselves)
+    if kind.as_deref() == Some(b"unknown") || number_of(start) != last || below_top(path) != Some((path, false)) {
+        return None;
+    }
+    let case = case_of(case);
+    let is_matched = Pattern::from_git_line(line).matches_path_as_git(path.into(), is_dir, case);
+    let list = List::from_bytes(line, "file".into(), None, Lines { as_git: true });
+    Some(agreed(is_matched, &[Index::as_git(&list)?.last_match(path.into(), is_dir, case).is_some()]))
 }
 
 // ---- lists
 
 fn base_of(source: &[u8], root: &Field) -> Option<String> {
     let root = root.as_deref().map(path_of);
-    let list = List::from_bytes(b"", path_of(source)?.into(), root.flatten(), Lines);
+    let list = List::from_bytes(b"", path_of(source)?.into(), root.flatten(), LINES);
     Some(list.base.map_or("\\N".to_string(), |base| spelt(&base)))
 }
 
 /// Whether a source has a file part: where it has none, the call panics.
 fn has_file_part(source: &[u8]) -> Option<String> {
     let source = path_of(source)?.to_path_buf();
-    let made = panic::catch_unwind(|| List::from_bytes(b"", source, Some(Path::new("")), Lines));
+    let made = panic::catch_unwind(|| List::from_bytes(b"", source, Some(Path::new("")), LINES));
     Some(told(made.is_ok()))
 }
 
@@ -186,7 +217,7 @@ fn stripped(fields: &[Field]) -> Option<String> {
 fn listed(fields: &[Field]) -> Option<String> {
     let [case, source, root, patterns, paths] = fields else { return None };
     let root = root.as_deref().map(path_of);
-    let list = List::from_bytes(patterns.as_deref()?, path_of(source.as_deref()?)?.into(), root.flatten(), Lines);
+    let list = List::from_bytes(patterns.as_deref()?, path_of(source.as_deref()?)?.into(), root.flatten(), LINES);
     let mut text = String::new();
     for line in lines_of(paths.as_deref()?) {
         text += &below_top(line).map_or("!".to_string(), |(path, is_dir)| numbers(&list, path, is_dir, case_of(case)));
@@ -212,14 +243,15 @@ fn numbers(list: &List<Lines>, path: &[u8], is_dir: bool, case: Case) -> String 
 
 /// The lists of ignore files, two fields for each; `None` where a line has to be read as one of an ignore file, which is the
 /// business of the crate's caller.
-fn lists_of(files: &[Field]) -> Option<Vec<List<Lines>>> {
+fn lists_of(files: &[Field], lines: &Lines) -> Option<Vec<List<Lines>>> {
     let list = |file: &[Field]| {
         let bytes = file[1].as_deref()?;
-        let is_more = |line: &[u8]| line.starts_with(b"#") || line.ends_with(b" ") || line.ends_with(b"\r");
+        let is_ended = |line: &[u8]| line.ends_with(b" ") || line.ends_with(b"\r") || lines.as_git && line.contains(&0);
+        let is_more = |line: &[u8]| line.starts_with(b"#") || is_ended(line);
         if bytes.starts_with(b"\xef\xbb\xbf") || lines_of(bytes).any(is_more) {
             return None;
         }
-        let mut list = List::from_bytes(bytes, "file".into(), None, Lines);
+        let mut list = List::from_bytes(bytes, "file".into(), None, lines.clone());
         list.base = file[0].as_deref().map(Into::into);
         Some(list)
     };
@@ -233,7 +265,7 @@ fn numbered(lists: &[List<Lines>], list: &List<Lines>, mapping: &Mapping<()>) ->
 }
 
 fn decided(fields: &[Field]) -> Option<String> {
-    let (case, lists) = (case_of(fields.first()?), lists_of(fields.get(2..)?)?);
+    let (case, lists) = (case_of(fields.first()?), lists_of(fields.get(2..)?, &LINES)?);
     let indices: Vec<_> = lists.iter().map(Index::new).collect::<Option<_>>()?;
     let mut text = String::new();
     for line in lines_of(fields.get(1)?.as_deref()?) {
@@ -251,19 +283,22 @@ fn decided(fields: &[Field]) -> Option<String> {
 }
 
 /// Which line decides about a path in a work tree, of the files in the fields from `first` on.
-fn decided_in_tree(fields: &[Field], first: usize) -> Option<String> {
-    let lists = lists_of(fields.get(first..)?)?;
+fn decided_in_tree(fields: &[Field], first: usize, lines: &Lines) -> Option<String> {
+    let lists = lists_of(fields.get(first..)?, lines)?;
     let (path, is_dir) = below_top(fields.get(first - 1)?.as_deref()?)?;
-    let found = Lists::new(&lists).decide_in_tree(path.into(), is_dir, case_of(&fields[0]));
+    let laid_out = if lines.as_git { Lists::as_git(&lists) } else { Lists::new(&lists) };
+    let found = laid_out.decide_in_tree(path.into(), is_dir, case_of(&fields[0]));
     Some(found.map_or("\\N".to_string(), |(list, mapping)| numbered(&lists, list, mapping)))
 }
 
 // ---- questions
 
-/// The answer to a question; `None` where the crate has no such call.
-fn answer(subject: &[u8], fields: &[Field]) -> Option<String> {
+/// The answer to a question; `None` where the crate has no such call. Files that are read as Git does are those of work trees.
+fn answer(subject: &[u8], fields: &[Field], lines: &Lines) -> Option<String> {
     let bytes = |at: usize| fields.get(at)?.as_deref();
     match subject {
+        b"trees" => decided_in_tree(fields, 2, lines),
+        _ if lines.as_git => None,
         b"matching" => Some(text_matched(bytes(1)?, bytes(2)?, mode_of(&fields[0])?)),
         b"values" => line_matched(bytes(1)?, bytes(2)?, mode_of(&fields[0])?),
         b"reading" => Some(pattern_read(&fields[0], bytes(1)?)),
@@ -273,13 +308,14 @@ fn answer(subject: &[u8], fields: &[Field]) -> Option<String> {
         }
         b"shown" => Some(spelt(Pattern::from_bytes(bytes(0)?)?.to_string().as_bytes())),
         b"repository_paths" => path_matched(fields),
+        b"git_reading" => Some(parts(&Pattern::from_git_line(bytes(0)?))),
+        b"git_paths" => path_matched_as_git(fields),
         b"bases" => base_of(bytes(0)?, &fields[1]),
         b"file_parts" => has_file_part(bytes(0)?),
         b"stripping" => stripped(fields),
         b"listed" => listed(fields),
         b"decided" => decided(fields),
-        b"trees" => decided_in_tree(fields, 2),
-        b"trees_told" => decided_in_tree(fields, 3),
+        b"trees_told" => decided_in_tree(fields, 3, lines),
         _ => None,
     }
 }
@@ -290,6 +326,7 @@ const MOST_SIGNS: usize = 1 << 18;
 fn main() -> io::Result<()> {
     // (one call is meant to panic)
     panic::set_hook(Box::new(|_| ()));
+    let lines = Lines { as_git: env::args().nth(1).as_deref() == Some("as-git") };
     let mut output = io::stdout().lock();
     for line in io::stdin().lock().split(b'\n') {
         let line = line?;
@@ -300,7 +337,7 @@ fn main() -> io::Result<()> {
         let mut parts = line.split(|byte| *byte == b'\t');
         let subject = parts.next().unwrap_or_default();
         let fields: Vec<Field> = parts.map(read).collect();
-        writeln!(output, "{}", answer(subject, &fields).unwrap_or("?".to_string()))?;
+        writeln!(output, "{}", answer(subject, &fields, &lines).unwrap_or("?".to_string()))?;
     }
     Ok(())
 }

@@ -34,8 +34,9 @@ static bool read_line(struct reader *reader, struct text *heads)
     lacks_room |= left > sizeof heads->bytes - heads->len;
     if (lacks_room)
         return false;
-    if (!gix_glob_parse_attribute_line(&reader->left, reader->is_top, heads->bytes + heads->len, left, &reader->line, &reader->macro,
-                                       &reader->kind))
+    const bool is_read = (reads_as_git ? gix_glob_parse_attribute_line_as_git : gix_glob_parse_attribute_line)(
+        &reader->left, reader->is_top, heads->bytes + heads->len, left, &reader->line, &reader->macro, &reader->kind);
+    if (!is_read)
         return false;
     heads->len += left - reader->left.rest_len;
     return true;

@@ -14,14 +14,32 @@ struct file {
 
 static struct file files[MOST_FILES];
 
-/* Reads an ignore file, and prepares its patterns. */
-static void read_file(const struct field *base, const struct field *bytes, struct file *file)
+/* Prepares the patterns of a file. */
+static void prepare(struct file *file)
 {
+    if (!gix_glob_prepare(file->patterns, file->count, file->rows, MOST_RULES, &file->heads))
+        abort();
+}
+
+/* A file of one pattern. */
+static const struct file *file_of(const struct gix_glob_pattern *pattern)
+{
+    files[0].patterns[0] = *pattern;
+    files[0].count = 1;
+    prepare(&files[0]);
+    return &files[0];
+}
+
+/* Reads an ignore file, and prepares its patterns. */
+static void read_file(const struct field *base, const struct field *bytes, bool as_git, struct file *file)
+{
+    bool (*const take_line)(struct gix_glob_lines *, struct gix_glob_pattern *, bool *) =
+        as_git ? gix_glob_parse_ignore_line_as_git : gix_glob_parse_ignore_line;
     struct gix_glob_lines lines = gix_glob_lines_of(bytes->bytes, bytes->len);
     struct gix_glob_pattern pattern = GIX_GLOB_PATTERN_INIT;
     bool has_pattern = false;
     file->base = base;
-    for (file->count = 0; gix_glob_parse_ignore_line(&lines, &pattern, &has_pattern);)
+    for (file->count = 0; take_line(&lines, &pattern, &has_pattern);)
         if (has_pattern) {
             if (file->count == MOST_RULES) {
                 lacks_room = true;
@@ -30,15 +48,14 @@ static void read_file(const struct field *base, const struct field *bytes, struc
             file->numbers[file->count] = lines.number;
             file->patterns[file->count++] = pattern;
         }
-    if (!gix_glob_prepare(file->patterns, file->count, file->rows, MOST_RULES, &file->heads))
-        abort();
+    prepare(file);
 }
 
 /* Reads the files of a row, two fields for each. */
 static size_t read_files(const struct field *fields, size_t count)
 {
     for (size_t i = 0; i + 1 < count; i += 2)
-        read_file(&fields[i], &fields[i + 1], &files[i / 2]);
+        read_file(&fields[i], &fields[i + 1], reads_as_git, &files[i / 2]);
     return count / 2;
 }
 
@@ -66,32 +83,45 @@ static bool is_plain(const struct gix_glob_path *path)
     return path->len > 0;
 }
 
+/* Whether the last part of a path begins where a row tells it, if it has slashes. */
+static bool begins_at(const struct field *path, const struct field *place)
+{
+    return place->is_none == !memchr(path->bytes, '/', path->len);
+}
+
 static bool repository_paths(const struct field *fields, struct answer *answer)
 {
     const struct field *line = &fields[2], *path = &fields[3], *place = &fields[4];
     const bool fold = folds(&fields[0]) || is(&fields[1], "path+fold"), is_dir = is(&fields[5], "folder");
     const struct gix_glob_path asked = {path->bytes, path->len, is_dir};
-    size_t start = path->len;
-    while (start > 0 && path->bytes[start - 1] != '/')
-        start--;
     /* (the library always matches as `path` does, knows the kind, and finds the last part itself) */
-    if (!(mode_of(&fields[1]) & GIX_GLOB_NO_MATCH_SLASH_LITERAL) || is(&fields[5], "unknown") || place->is_none != (start == 0))
+    if (!(mode_of(&fields[1]) & GIX_GLOB_NO_MATCH_SLASH_LITERAL) || is(&fields[5], "unknown") || !begins_at(path, place))
         return false;
     const bool matches = gix_glob_matches_path(line->bytes, line->len, path->bytes, path->len, is_dir, fold);
     if (is_plain(&asked)) {
-        files[0].patterns[0] = parsed(line);
-        files[0].count = 1;
-        gix_glob_prepare(files[0].patterns, 1, files[0].rows, MOST_RULES, &files[0].heads);
-        agree(answer, "gix_glob_last_match", (last_match(&files[0], &asked, fold, answer) == 0) == matches);
+        const struct gix_glob_pattern pattern = parsed(line);
+        agree(answer, "gix_glob_last_match", (last_match(file_of(&pattern), &asked, fold, answer) == 0) == matches);
     }
     push_bool(answer, matches);
     return true;
 }
 
-static bool ignore_files(const struct field *fields, struct answer *answer)
+static bool git_paths(const struct field *fields, struct answer *answer)
+{
+    const struct field *path = &fields[2], *place = &fields[3];
+    const struct gix_glob_path asked = {path->bytes, path->len, is(&fields[4], "folder")};
+    const struct gix_glob_pattern pattern = parsed_as_git(&fields[1]);
+    if (is(&fields[4], "unknown") || !begins_at(path, place) || !is_plain(&asked))
+        return false;
+    push_bool(answer, last_match(file_of(&pattern), &asked, folds(&fields[0]), answer) == 0);
+    return true;
+}
+
+/* The patterns of an ignore file, each behind the number of its line. */
+static bool ignore_files(const struct field *fields, bool as_git, struct answer *answer)
 {
     struct text text = {.len = 0};
-    read_file(NULL, &fields[0], &files[0]);
+    read_file(NULL, &fields[0], as_git, &files[0]);
     for (size_t i = 0; i < files[0].count; i++) {
         add_number(&text, files[0].numbers[i]);
         add_word(&text, ":");
@@ -181,8 +211,12 @@ bool answer_ignore(const char *subject, const struct field *fields, size_t count
 {
     if (strcmp(subject, "repository_paths") == 0)
         return repository_paths(fields, answer);
+    if (strcmp(subject, "git_paths") == 0)
+        return git_paths(fields, answer);
     if (strcmp(subject, "ignore_files") == 0)
-        return ignore_files(fields, answer);
+        return ignore_files(fields, false, answer);
+    if (strcmp(subject, "git_files") == 0)
+        return ignore_files(fields, true, answer);
     if (strcmp(subject, "decided") == 0)
         return decided(fields, count, answer);
     if (strcmp(subject, "trees_told") == 0)

@@ -1,9 +1,11 @@
 /* Answers rows by the C library: tools/vectors PROGRAM, where PROGRAM is built of the files of this folder. Of several calls that
  * answer a question all are asked: where they don't agree, the answer is `differs: ` and the name of one. What no call answers is `?`,
- * and so is what is too large for the arrays of this program, or so long that calls which ask each pattern in turn would take minutes. */
+ * and so is what is too large for the arrays of this program, or so long that calls which ask each pattern in turn would take minutes.
+ *
+ * tools/vectors --git PROGRAM as-git asks the rows of files that Git answered: each file is then read as Git reads it. */
 #include "rows.h"
 
-bool lacks_room;
+bool lacks_room, reads_as_git;
 
 static bool matching(const struct field *fields, struct answer *answer)
 {
@@ -32,30 +34,46 @@ static bool values(const struct field *fields, struct answer *answer)
     return true;
 }
 
+static void push_pattern(struct answer *answer, const struct gix_glob_pattern *pattern)
+{
+    push(answer, pattern->text, pattern->text_len);
+    push_number(answer, pattern->mode);
+    push_number(answer, pattern->first_wildcard_pos);
+}
+
 static bool reading(const struct field *fields, struct answer *answer)
 {
     struct gix_glob_pattern pattern = GIX_GLOB_PATTERN_INIT;
     if (!is(&fields[0], "line"))
         return false;
-    if (!gix_glob_parse(fields[1].bytes, fields[1].len, &pattern)) {
+    if (gix_glob_parse(fields[1].bytes, fields[1].len, &pattern))
+        push_pattern(answer, &pattern);
+    else
         for (int i = 0; i < 3; i++)
             push_none(answer);
-        return true;
-    }
-    push(answer, pattern.text, pattern.text_len);
-    push_number(answer, pattern.mode);
-    push_number(answer, pattern.first_wildcard_pos);
+    return true;
+}
+
+static bool git_reading(const struct field *fields, struct answer *answer)
+{
+    const struct gix_glob_pattern pattern = parsed_as_git(&fields[0]);
+    push_pattern(answer, &pattern);
     return true;
 }
 
 static bool answer_row(const char *subject, const struct field *fields, size_t count, struct answer *answer)
 {
+    /* (other rows are of the crate's reading, or say that they are of Git's) */
+    if (reads_as_git && strcmp(subject, "trees") != 0 && strcmp(subject, "attribute_states") != 0)
+        return false;
     if (strcmp(subject, "matching") == 0)
         return matching(fields, answer);
     if (strcmp(subject, "values") == 0)
         return values(fields, answer);
     if (strcmp(subject, "reading") == 0)
         return reading(fields, answer);
+    if (strcmp(subject, "git_reading") == 0)
+        return git_reading(fields, answer);
     return answer_ignore(subject, fields, count, answer) || answer_attributes(subject, fields, count, answer);
 }
 
@@ -78,12 +96,13 @@ static struct field read_field(char *text)
     return field;
 }
 
-int main(void)
+int main(int count_of_words, char **words)
 {
     static struct field fields[MOST_FIELDS];
     static struct answer answer;
     char *line = NULL, *rest;
     size_t room = 0, count;
+    reads_as_git = count_of_words > 1 && strcmp(words[1], "as-git") == 0;
     for (ssize_t len; (len = getline(&line, &room, stdin)) > 0;) {
         if (len > MOST_SIGNS) {
             puts("?");

@@ -39,6 +39,14 @@ static inline struct gix_glob_pattern parsed(const struct field *line)
     return pattern;
 }
 
+/* The pattern of a line as Git reads it. */
+static inline struct gix_glob_pattern parsed_as_git(const struct field *line)
+{
+    struct gix_glob_pattern pattern = GIX_GLOB_PATTERN_INIT;
+    gix_glob_parse_as_git(line->bytes, line->len, &pattern);
+    return pattern;
+}
+
 /* Takes the bytes up to the next `end`, which is passed over, off a field. Answers whether there were some, or an end. */
 static inline bool take(struct field *rest, uint8_t end, struct field *taken)
 {
@@ -62,6 +70,9 @@ static inline struct gix_glob_path path_of(const struct field *field)
 
 /* Whether the question or its answer is larger than what the arrays of this program hold. */
 extern bool lacks_room;
+
+/* Whether the files of a row are read as Git reads them. */
+extern bool reads_as_git;
 
 /* Bytes that grow. */
 struct text {
