@@ -1,5 +1,5 @@
 //! Asks a list about paths, by the C library and by the binding for Rust, for rust.py to count: WHAT FOLDER ROUNDS, where FOLDER has
-//! the patterns and the paths that `lists.py --make` writes.
+//! the patterns and the paths that `lists.py --make` writes. Behind what is asked of the C library, `_as_git` has the patterns read so.
 use gix_glob::decide::{Index, Lists};
 use gix_glob::pattern::Case;
 use gix_glob::search::{self, pattern::{List, Mapping}};
@@ -15,6 +15,10 @@ struct Parts {
     mode: u32,
     reading: u32,
 }
+
+/// `GIX_GLOB_AS_CRATE` and `GIX_GLOB_AS_GIT`.
+const AS_CRATE: u32 = 0;
+const AS_GIT: u32 = 1;
 
 /// `struct gix_glob_row`.
 #[repr(C)]
@@ -73,10 +77,15 @@ fn main() {
     let [what, folder, rounds] = words.iter().map(String::as_str).collect::<Vec<_>>()[..] else {
         panic!("nothing | prepare | c_in_turn | c_index | rust_index | c_tree | rust_tree, FOLDER, ROUNDS")
     };
+    let (what, reading) = what.strip_suffix("_as_git").map_or((what, AS_CRATE), |what| (what, AS_GIT));
     let [patterns, paths] = ["patterns", "paths"].map(|name| std::fs::read(format!("{folder}/{name}")).expect("a file"));
     let paths: Vec<&[u8]> = lines(&paths).collect();
     let list = List::from_bytes(&patterns, "patterns".into(), None, Lines);
-    let parts: Vec<Parts> = list.patterns.iter().map(|it| parts_of(&it.pattern)).collect();
+    let as_git: Vec<_> = lines(&patterns).map(gix_glob::Pattern::from_git_line).collect();
+    let parts: Vec<Parts> = match reading {
+        AS_GIT => as_git.iter().map(|it| parts_of(it, reading)).collect(),
+        _ => list.patterns.iter().map(|it| parts_of(&it.pattern, reading)).collect(),
+    };
     let (mut rows, mut heads) = (vec![Row(0, 0, [0; 2]); parts.len()], Heads([0; 512]));
     let mut prepare = || unsafe { gix_glob_prepare(parts.as_ptr(), parts.len(), rows.as_mut_ptr(), rows.len(), &mut heads) };
     assert!(prepare());
@@ -107,12 +116,12 @@ fn main() {
 }
 
 /// The parts of a pattern, as C keeps them.
-fn parts_of(pattern: &gix_glob::Pattern) -> Parts {
+fn parts_of(pattern: &gix_glob::Pattern, reading: u32) -> Parts {
     Parts {
         text: pattern.text.as_ptr(),
         text_len: pattern.text.len(),
         first_wildcard_pos: pattern.first_wildcard_pos.unwrap_or(usize::MAX),
         mode: pattern.mode.bits(),
-        reading: 0,
+        reading,
     }
 }
