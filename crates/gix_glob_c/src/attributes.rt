@@ -51,8 +51,8 @@ pub struct GlobState<'a> {
 
 /// The state of an attribute for a path, as [`PathAttributes`](glob_attributes::PathAttributes) has it. `texts` and `marks` are
 /// memory that is written to: as many texts as there are lines in all lists, and one for each macro, suffice; and a mark for each
-/// macro; further marks stay as they were. The reading of the first line's pattern counts for all. `false` is answered, and `out` left as it was, where there are too few, or the path is
-/// empty, has a slash at its front or end, or two in a row.
+/// macro; further marks stay as they were. The reading of the first line's pattern counts for all. `false` is answered, and `out` left as
+/// it was, where there are too few, or the path is empty, has a slash at its front or end, or two in a row.
 #[unsafe(no_mangle)]
 pub extern "C" fn gix_glob_attribute_of<'a>(
     attributes: &GlobAttributes<'a>,

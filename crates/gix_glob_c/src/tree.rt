@@ -37,8 +37,8 @@ pub struct GlobDecision {
 
 /// Which pattern decides about a path in a work tree, as [`decide_in_tree`](glob_trees::decide_in_tree) answers it: the one that
 /// ignores the topmost ignored folder above the path, and where none is ignored, the last one that matches the path. The reading of the
-/// lists' first pattern counts for all. `false` is
-/// answered, and `out` left as it was, where none decides, or the path is empty, has a slash at its front or end, or two in a row.
+/// lists' first pattern counts for all. `false` is answered, and `out` left as it was, where none decides, or the path is empty, has a slash
+/// at its front or end, or two in a row.
 #[unsafe(no_mangle)]
 pub extern "C" fn gix_glob_decide_in_tree(
     lists: &[GlobList<'_>],

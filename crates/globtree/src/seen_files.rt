@@ -90,7 +90,8 @@ pub(crate) fn named_list<T: search::Pattern, R: Files>(
     seen_list(rt, alloc, file, &seen, bytes, parser)
 }
 
-/// The list of a file that was looked at, whose bytes are put into `bytes`; `None` where a folder stands there. A pipe or a socket isn't opened, and what took the file's place since isn't read.
+/// The list of a file that was looked at, whose bytes are put into `bytes`; `None` where a folder stands there. A pipe or a socket isn't
+/// opened, and what took the file's place since isn't read.
 ///
 /// # Errors
 /// Where memory was refused, the file can't be read, or isn't the one that was seen.

@@ -40,8 +40,9 @@ use std::io::{Read, Write};
 use std::marker::Brand;
 use tree_answers::{Form, append_label};
 
-/// Reads records that name paths, to the reader's end, and writes for each the states of its attributes, in order, as `git check-attr --stdin`
-/// does: in lines, or in records that a NUL ends. A line in double quotes is read as Git writes names.
+/// Reads records that name paths, to the reader's end, and writes for each the states of its attributes, in order, as
+/// `git check-attr --stdin` does: in lines, or in records that a NUL ends. A line in double quotes is read as Git writes names. Patterns are
+/// read and matched as Git does it.
 ///
 /// The files that count for a path are those of the question, and those that the source has of the folders on the way to it. The source is
 /// asked for a folder when a path first lies there, and again only where folders were so many that all were forgotten; for none below one

@@ -43,9 +43,9 @@ pub struct IgnoreSources<S: FolderLists<IgnoreLines>, K> {
 /// the line that decides about it, or only where one does, as the flags say. The answer is whether a line that counts decides about
 /// some path. Gives the sources back.
 ///
-/// A path is told from the standpoint. The line is that of the pattern that [`Tree::find`] answers; a path that leads to the top itself has
-/// none. What stands at a path is asked only where the answer depends on it, and it isn't told as a folder; links are looked for
-/// where the tree didn't enter the folders of a path.
+/// A path is told from the standpoint. The line is that of the pattern that [`Tree::find`] answers, by the rules of the tree; about the top
+/// only patterns for names decide. A slash at the end of a path belongs to it. What stands at a path is asked only where the answer depends
+/// on it; links are looked for where the tree didn't enter the folders of a path.
 ///
 /// How records are read and answers written, [`RecordStream::run`](record_streams::RecordStream::run) tells. No call on the reader or
 /// the writer may have failed before, and none that fails is tried again.
