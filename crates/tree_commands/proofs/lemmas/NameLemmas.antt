@@ -2,6 +2,7 @@
 use Rattle.std.proofs.Common.{◌≡◌, ◌⊎◌, ◌↔◌, ⊎_elim, inl, inr, ℕ, zero, suc, Bool, true, false, ◌||◌, List, [], ◌∷◌, IsTrue, refl, sym, subst, ◌∙◌, arith}
 use Rattle.std.specs.List.{Contains}
 use Rattle.std.specs.Str.{bytes_eq}
+use Rattle.std.proofs.lemmas.Bool.{or_cases, or_left, or_right}
 use Rattle.std.proofs.lemmas.Slice.Eq.{bytes_eq-Decides}
 
 -- the name was met, or is among those that are left, exactly if it is among all
@@ -20,18 +21,6 @@ is_first name wanted rest same = (0, omega arith, same)
 is_later : (name wanted : List ℕ) (rest : List (List ℕ)) → Contains rest wanted → Contains (name ∷ rest) wanted
 is_later name wanted rest (k, inside, is) = (suc k, omega (arith, inside), is)
 
-either_true : (one other : Bool) → IsTrue (one || other) → IsTrue one ⊎ IsTrue other
-either_true true other is = inl refl
-either_true false other is = inr is
-
-or_left : (one other : Bool) → IsTrue one → IsTrue (one || other)
-or_left true other is = refl
-or_left false other is = absurd (cc)
-
-or_right : (one other : Bool) → IsTrue other → IsTrue (one || other)
-or_right true other is = refl
-or_right false other is = is
-
 -- ---- along the names
 
 module _ (wanted : List ℕ) where
@@ -44,7 +33,7 @@ module _ (wanted : List ℕ) where
   pub met_next : (is_met is : Bool) (name : List ℕ) (left rest all : List (List ℕ)) → left ≡ name ∷ rest → IsTrue is ↔ (name ≡ wanted) → IsMetOrLeft wanted is_met left all → IsMetOrLeft wanted (is_met || is) rest all
   met_next is_met is name left rest all first same so_far = (
     ⊎_elim
-        (λ met. ⊎_elim (λ before. so_far.0 (inl before)) (λ here. so_far.0 (inr (from_left (is_first name wanted rest (same.0 here))))) (either_true is_met is met))
+        (λ met. ⊎_elim (λ before. so_far.0 (inl before)) (λ here. so_far.0 (inr (from_left (is_first name wanted rest (same.0 here))))) (or_cases is_met is met))
         (λ later. so_far.0 (inr (from_left (is_later name wanted rest later)))),
     λ among. ⊎_elim
         (λ before. inl (or_left is_met is before))
