@@ -196,6 +196,7 @@ pub(crate) struct Lists<'a> {
 
 // SAFETY: what the pointers lead to is borrowed or owned for reading alone, so any thread may read it.
 unsafe impl Send for Lists<'_> {}
+// SAFETY: as above.
 unsafe impl Sync for Lists<'_> {}
 
 impl<'a> Lists<'a> {
@@ -238,8 +239,9 @@ pub(crate) struct Index<'a> {
     heads: Box<Heads>,
 }
 
-// SAFETY: as for lists.
+// SAFETY: as for lists, of which this has what it points to.
 unsafe impl Send for Index<'_> {}
+// SAFETY: as above.
 unsafe impl Sync for Index<'_> {}
 
 impl<'a> Index<'a> {
