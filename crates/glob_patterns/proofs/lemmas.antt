@@ -1,6 +1,7 @@
 pub mod Agreement
 pub mod BareNames
 pub mod ByteSearches
+pub mod Foldings
 pub mod FrontEnds
 pub mod FrontLemmas
 pub mod GitAgreement
@@ -11,6 +12,7 @@ pub mod LiteralBytes
 pub mod LiteralEnds
 pub mod LoneStars
 pub mod ModeBits
+pub mod OrdinaryItems
 pub mod PathLimits
 pub mod PatternOrder
 pub mod ReadingEquations

@@ -103,7 +103,7 @@ front_is_whole text value way apart =
 
 -- ---- answers
 
-subject_whole : (mode : pattern.Mode) (path : List ℕ) (start : Option ℕ) → looks_at_name mode ≡ false → subject mode path start ≡ path
+pub subject_whole : (mode : pattern.Mode) (path : List ℕ) (start : Option ℕ) → looks_at_name mode ≡ false → subject mode path start ≡ path
 subject_whole mode path None whole = refl
 subject_whole mode path (Some k) whole = rw whole refl
 

@@ -4,6 +4,7 @@ ghost use Rattle.std.specs.List.{list_any, starts_with};
 ghost use Rattle.std.specs.Str.{IsUtf8};
 ghost use Rattle.std.specs.declared.cmp.Ordering.TheVariants.{Equal, Less};
 ghost use Rattle.glob_matcher.specs.declared.wildmatch.mode.Mode as wildmatch;
+ghost use Rattle.glob_matcher.specs.declared.wildmatch.way.Folding.TheVariants.{Both, Exact};
 ghost use Rattle.glob_matcher.specs.declared.wildmatch.way.Way.{Way};
 ghost use Rattle.glob_patterns.specs.declared.mode.Mode as pattern;
 ghost use Rattle.glob_patterns.specs.declared.pattern.Pattern.{Pattern};
@@ -16,6 +17,7 @@ ghost use Rattle.glob_patterns.specs.Equations.GitLines.{git_reading_of};
 ghost use Rattle.glob_patterns.specs.Equations.Readings.{reading_of};
 ghost use Rattle.glob_patterns.specs.GitLines.{GitReads, begins_with_escaped_sign};
 ghost use Rattle.glob_patterns.specs.GitPaths.{AnswersAsGit, FrontAndRest};
+ghost use Rattle.glob_patterns.specs.Laws.Foldings.{FoldsAlike};
 ghost use Rattle.glob_patterns.specs.Laws.Fronts.{StarsAreApart};
 ghost use Rattle.glob_patterns.specs.RepositoryPaths.{Answers};
 ghost use Rattle.glob_patterns.specs.Patterns.{HasReading, Reads, display_of, is_absolute, is_negative, shown_line};
@@ -108,11 +110,22 @@ pub fn a_front_without_stars_behind_it_changes_nothing()
     ensures { (text value : List ℕ) (way : Way) → StarsAreApart text → FrontAndRest value text way ↔ SplitsBy value text way }
 {}
 
-/// So, where case counts, such a text answers for a path as Git reads it exactly where it does in path mode.
+/// Where no capital stands behind a backslash, and sets hold none without its small letter and no odd range, exact folding matches what
+/// the usual one does.
+pub fn exact_folding_changes_nothing_in_ordinary_texts()
+    ensures { (path : Bool) (text value : List ℕ) → FoldsAlike text
+        → SplitsBy value text (record { path = path; folding = Both }) ↔ SplitsBy value text (record { path = path; folding = Exact }) }
+{}
+
+/// So a text whose front has no such stars behind it answers for a path as Git reads it exactly where it does in path mode: where case
+/// counts, and where it doesn't, if both foldings read the text alike.
 pub fn both_answers_for_a_path_agree()
-    ensures { (text : List ℕ) (mode : pattern.Mode) (path : List ℕ) (basename_start : Option ℕ) (is_dir : Option Bool)
+    ensures kept { (text : List ℕ) (mode : pattern.Mode) (path : List ℕ) (basename_start : Option ℕ) (is_dir : Option Bool)
         → StarsAreApart text
         → AnswersAsGit text mode path basename_start is_dir Case.Sensitive ↔ Answers text mode path basename_start is_dir Case.Sensitive (record { 0 = 1 }) }
+    ensures folded { (text : List ℕ) (mode : pattern.Mode) (path : List ℕ) (basename_start : Option ℕ) (is_dir : Option Bool)
+        → StarsAreApart text → FoldsAlike text
+        → AnswersAsGit text mode path basename_start is_dir Case.Fold ↔ Answers text mode path basename_start is_dir Case.Fold (record { 0 = 1 }) }
 {}
 
 /// A text that is UTF-8 is displayed byte for byte.
