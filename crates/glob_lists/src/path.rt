@@ -22,8 +22,8 @@ use std::sync::ledger::Ledger;
 
 /// A path of a repository, or what a base leaves of one: its bytes, and whether it is a directory's.
 ///
-/// The bytes begin with no slash and have no two slashes in a row. They are empty only of the top, and where a base was all of a path. A part `.` or
-/// `..` is a name like any other here, where Git goes to the folder that it means: lead such paths to where they mean before.
+/// The bytes begin with no slash and have no two slashes in a row. They are empty only of the top, and where a base was all of a path. A part
+/// `.` or `..` is a name like any other here, where Git goes to the folder that it means: lead such paths to where they mean before.
 /// Contracts see the bytes, and whether it is a directory's.
 #[derive(Debug, Drop)]
 pub struct RepositoryPath<'a> {

@@ -110,8 +110,8 @@ pub fn a_front_without_stars_behind_it_changes_nothing()
     ensures { (text value : List ℕ) (way : Way) → StarsAreApart text → FrontAndRest value text way ↔ SplitsBy value text way }
 {}
 
-/// Where no capital stands behind a backslash, and sets hold none without its small letter and no odd range, exact folding matches what
-/// the usual one does.
+/// Where no capital stands behind a backslash, sets have none without its small letter, and ranges are ordinary (`AreOrdinaryEnds`), exact
+/// folding matches what the usual one does.
 pub fn exact_folding_changes_nothing_in_ordinary_texts()
     ensures { (path : Bool) (text value : List ℕ) → FoldsAlike text
         → SplitsBy value text (record { path = path; folding = Both }) ↔ SplitsBy value text (record { path = path; folding = Exact }) }
