@@ -210,6 +210,16 @@ static void matched_lines(const struct field *fields, struct text *text)
             add_words(text, reader.line.words, reader.line.words_len);
 }
 
+/* Whether a part of a path is `.` or `..`: a name for the library, while Git goes where it leads. */
+static bool has_dots(const struct field *path)
+{
+    struct field rest = *path, part;
+    while (take(&rest, '/', &part))
+        if (is(&part, ".") || is(&part, ".."))
+            return true;
+    return false;
+}
+
 static void states(const struct field *fields, size_t count, struct text *text)
 {
     const struct gix_glob_path path = path_of(&fields[1]);
@@ -262,6 +272,8 @@ bool answer_attributes(const char *subject, const struct field *fields, size_t c
 {
     static struct text text;
     text.len = 0;
+    if (reads_as_git && has_dots(&fields[1]))
+        return false;
     if (strcmp(subject, "attribute_lines") == 0)
         one_line(fields, &text);
     else if (strcmp(subject, "attribute_files") == 0)
