@@ -31,6 +31,7 @@ TYPES = {
     "struct gix_glob_pattern *": (ctypes.POINTER(_library.Parts),),
     "struct gix_glob_lines *": (ctypes.POINTER(_library.Lines),),
     "bool *": (ctypes.POINTER(ctypes.c_bool),),
+    "void ": (None,),
     "bool ": (ctypes.c_bool,),
     "size_t ": (ctypes.c_size_t,),
     "uint64_t ": (ctypes.c_uint64,),
@@ -91,14 +92,15 @@ class Declarations(unittest.TestCase):
                 for (one, _), (_, it) in zip(fields, struct._fields_):
                     self.assertIn(it, TYPES[one])
         self.assertEqual(ctypes.sizeof(_library.Asked), 24)
-        self.assertEqual(int(re.search(r"GIX_GLOB_NEGATIVE (\d+)u", code)[1]), _library.NEGATIVE)
+        for name, number in (("NEGATIVE", _library.NEGATIVE), ("AS_CRATE", _library.AS_CRATE), ("AS_GIT", _library.AS_GIT)):
+            self.assertEqual(int(re.search(rf"GIX_GLOB_{name} (\d+)u", code)[1]), number)
         self.assertEqual(_library.NONE, 2**64 - 1)
 
     def test_the_package_exports_what_it_says(self):
         said = run(
             "from gix_glob import *; import gix_glob; print(len([globals()[name] for name in gix_glob.__all__]))"
         )
-        self.assertEqual(said.stdout, "7\n", said.stderr)
+        self.assertEqual(said.stdout, "8\n", said.stderr)
 
 
 class Finding(unittest.TestCase):
@@ -282,10 +284,11 @@ class Misuse(unittest.TestCase):
             self.assertEqual(IgnoreFile("/ab").decide(path).line, 1)
             self.assertEqual(list(IgnoreFile("/ab").match_files([path])), [path])
             self.assertEqual(IgnoreFile("x", path).base, b"ab/")
-        for call in (_library.parse, _library.Rules, _library.Memory, lambda it: _library.wildmatch(b"", it, 0)):
+        others = (lambda it: _library.Rules(it, False), lambda it: _library.wildmatch(b"", it, 0))
+        for call in (_library.parse, _library.parse_as_git, _library.Memory, *others):
             with self.assertRaises(TypeError):
                 call(Bytes(b"ab"))
-        rules = _library.Rules(b"a")
+        rules = _library.Rules(b"a", False)
         for call in (rules.last_match, _library.parse(b"a").matches_path):
             with self.assertRaises(TypeError):
                 call(Bytes(b"ab"), False, False)
@@ -293,7 +296,7 @@ class Misuse(unittest.TestCase):
             rules.last_matches([Bytes(b"ab")], [False], False)
 
     def test_several_paths_at_once(self):
-        rules = _library.Rules(b"a\n!b/")
+        rules = _library.Rules(b"a\n!b/", False)
         found = rules.last_matches([b"x/a", b"b", b"b", b"", b"a\0"], [False, True, False, False, False], False)
         self.assertEqual(list(found), [0, 1] + [_library.NONE] * 3)
         self.assertEqual(list(rules.last_matches([], [], False)), [])
@@ -305,7 +308,7 @@ class Misuse(unittest.TestCase):
                 rules.last_matches([b"a"], are_dirs, False)
 
     def test_places_outside_a_file(self):
-        rules = _library.Rules(b"a\nb")
+        rules = _library.Rules(b"a\nb", False)
         for at in (2, -3, 1 << 70):
             with self.assertRaises(IndexError):
                 rules.reading(at)
