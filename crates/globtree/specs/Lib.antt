@@ -1,3 +1,4 @@
+pub mod Answers
 pub mod ConfigKeys
 pub mod IndexHead
 pub mod Running

@@ -1,9 +1,10 @@
 //! Telling which state attributes have for paths.
-ghost use Rattle.std.specs.Prelude.{◌≡◌, ◌⊎◌, ℕ, List, if◌then◌else◌, IfOk, false, map};
+ghost use Rattle.std.specs.Prelude.{◌≡◌, ◌⊎◌, ℕ, List, if◌then◌else◌, IfOk, false, map, string_bytes};
 ghost use Rattle.std.specs.Borrow.{Bor};
-ghost use Rattle.gix_glob.specs.Watched.{has_failed};
+ghost use Rattle.gix_glob.specs.Watched.{has_failed, inner};
 ghost use Rattle.tree_commands.specs.CheckAttr.{all, named};
-ghost use Rattle.globtree.specs.Running.{IsAnswered, IsRefused, form_by};
+ghost use Rattle.globtree.specs.Answers.{AnswersAttr, form_by};
+ghost use Rattle.globtree.specs.Running.{IsAnswered, IsRefused};
 
 use crate::attribute_files::AttributeFiles;
 use crate::check_ignore::bytes_of;
@@ -21,7 +22,7 @@ use std::io::{Read, Write};
 use std::rt::{Env, Files};
 use tree_answers::Form;
 use tree_commands::check_attr::{
-    AskedAttributes, AttributeQuestion, check_attr_paths, run_check_attr,
+    AskedAttributes, AttributeFault, AttributeQuestion, check_attr_paths, run_check_attr,
 };
 use tree_words::check_attr::CheckAttrFlags;
 use tree_words::{Options, operands_of};
@@ -49,6 +50,7 @@ pub(crate) fn check_attr<R: Files + Env + Eprint + AllocGlobal, I: Read, O: Writ
     requires readable { has_failed input.old ≡ false }
     requires writable { has_failed output.old ≡ false }
     ensures status { IfOk result (λ status. IsAnswered status ⊎ IsRefused status) }
+    ensures answered { IfOk result (λ status. IsAnswered status → AnswersAttr flags (map string_bytes words.now) (I.remaining (inner input.old)) (I.remaining (inner input.new)) (O.contents (inner output.old)) (O.contents (inner output.new))) }
     ensures unread { IfOk result (λ status. IsRefused status → input.new ≡ input.old) }
     ensures unwritten { IfOk result (λ status. IsRefused status → output.new ≡ output.old) }
 {
@@ -79,10 +81,15 @@ pub(crate) fn check_attr<R: Files + Env + Eprint + AllocGlobal, I: Read, O: Writ
     } else {
         check_attr_paths(alloc, &question, source, &told, output)
     };
-    match outcome {
-        Ok(()) => Ok(ANSWERED),
-        Err(RecordFault::Answer(fault)) => Err(CheckFault::of_attributes(alloc, fault).into()),
-        Err(fault) => Err(fault.into()),
+    outcome.map_err(|fault| told_fault(alloc, fault))?;
+    Ok(ANSWERED)
+}
+
+/// A fault as it is told.
+fn told_fault(alloc: Global, fault: RecordFault<AttributeFault<CheckFault>>) -> anyhow::Error {
+    match fault {
+        RecordFault::Answer(fault) => CheckFault::of_attributes(alloc, fault).into(),
+        fault => fault.into(),
     }
 }
 

@@ -1,7 +1,8 @@
 //! The command `check-ignore`.
-ghost use Rattle.std.specs.Prelude.{◌≡◌, ℕ, List, IfOk, false, map};
+ghost use Rattle.std.specs.Prelude.{◌≡◌, ℕ, List, IfOk, false, map, string_bytes};
 ghost use Rattle.std.specs.Borrow.{Bor};
-ghost use Rattle.gix_glob.specs.Watched.{has_failed};
+ghost use Rattle.gix_glob.specs.Watched.{has_failed, inner};
+ghost use Rattle.globtree.specs.Answers.{AnswersIgnore, ReadsIgnore, TellsIgnore};
 ghost use Rattle.globtree.specs.Running.{IsAnswered, asked_by_flags};
 
 use crate::fault::CheckFault;
@@ -19,7 +20,7 @@ use std::rt::{Env, Files};
 use told_paths::Standpoint;
 use tree_answers::Form;
 use tree_commands::check_ignore::{
-    IgnoreFlags, IgnoreSources, check_ignore_paths, run_check_ignore,
+    IgnoreFault, IgnoreFlags, IgnoreSources, check_ignore_paths, run_check_ignore,
 };
 use tree_words::check_ignore::CheckIgnoreFlags;
 use tree_words::{Options, operands_of};
@@ -39,7 +40,8 @@ pub(crate) fn check_ignore<R: Files + Env + Eprint + AllocGlobal, I: Read, O: Wr
 ) -> Result<u8>
     requires readable { has_failed input.old ≡ false }
     requires writable { has_failed output.old ≡ false }
-    ensures { IfOk result IsAnswered }
+    ensures status { IfOk result IsAnswered }
+    ensures answered { IfOk result (λ status. AnswersIgnore flags (map string_bytes words.now) status (I.remaining (inner input.old)) (I.remaining (inner input.new)) (O.contents (inner output.old)) (O.contents (inner output.new))) }
 {
     let paths = operands_of(alloc, words).context("the paths")?.words;
     if let Some(message) = flags.disagreement(paths.len()) {
@@ -47,17 +49,53 @@ pub(crate) fn check_ignore<R: Files + Env + Eprint + AllocGlobal, I: Read, O: Wr
     }
     let (standpoint, sources) = sources_of(rt, alloc, options, flags)?;
     let asked = asked_by_flags(flags);
-    let outcome = if flags.stdin {
-        run_check_ignore(alloc, &standpoint, asked, sources, input, output).1
+    let is_ignored = if flags.stdin {
+        answer_input(alloc, &standpoint, asked, sources, input, output)?
     } else {
         let paths = bytes_of(alloc, &paths)?;
-        check_ignore_paths(alloc, &standpoint, asked, sources, &paths, output).1
+        answer_paths(alloc, &standpoint, asked, sources, &paths, output)?
     };
-    match outcome {
-        Ok(true) => Ok(ANSWERED),
-        Ok(false) => Ok(NONE_IGNORED),
-        Err(RecordFault::Answer(fault)) => Err(CheckFault::of_ignore(alloc, fault).into()),
-        Err(fault) => Err(fault.into()),
+    Ok(if is_ignored { ANSWERED } else { NONE_IGNORED })
+}
+
+/// Answers the paths that are read, and says whether a line decides about one.
+fn answer_input<R: Files + Eprint, I: Read, O: Write>(
+    alloc: Global,
+    standpoint: &Standpoint,
+    asked: IgnoreFlags,
+    sources: IgnoreSources<FolderFiles<'_, R>, FileKinds<'_, R>>,
+    input: &mut Watched<I>,
+    output: &mut Watched<O>,
+) -> Result<bool>
+    requires readable { has_failed input.old ≡ false }
+    requires writable { has_failed output.old ≡ false }
+    ensures { IfOk result (λ is_any. ReadsIgnore asked is_any (I.remaining (inner input.old)) (I.remaining (inner input.new)) (O.contents (inner output.old)) (O.contents (inner output.new))) }
+{
+    let (_sources, outcome) = run_check_ignore(alloc, standpoint, asked, sources, input, output);
+    outcome.map_err(|fault| told_fault(alloc, fault))
+}
+
+/// Answers these paths, and says whether a line decides about one.
+fn answer_paths<R: Files + Eprint, O: Write>(
+    alloc: Global,
+    standpoint: &Standpoint,
+    asked: IgnoreFlags,
+    sources: IgnoreSources<FolderFiles<'_, R>, FileKinds<'_, R>>,
+    paths: &[&[u8]],
+    output: &mut Watched<O>,
+) -> Result<bool>
+    requires { has_failed output.old ≡ false }
+    ensures { IfOk result (λ is_any. TellsIgnore asked (map (λ (path : Bor (List ℕ)). path.now) paths.now) is_any (O.contents (inner output.old)) (O.contents (inner output.new))) }
+{
+    let (_sources, outcome) = check_ignore_paths(alloc, standpoint, asked, sources, paths, output);
+    outcome.map_err(|fault| told_fault(alloc, fault))
+}
+
+/// A fault as it is told.
+fn told_fault(alloc: Global, fault: RecordFault<IgnoreFault<CheckFault>>) -> anyhow::Error {
+    match fault {
+        RecordFault::Answer(fault) => CheckFault::of_ignore(alloc, fault).into(),
+        fault => fault.into(),
     }
 }
 

@@ -1,5 +1,7 @@
 //! The command `files`.
 ghost use Rattle.std.specs.Prelude.{IfOk};
+ghost use Rattle.gix_glob.specs.Watched.{inner};
+ghost use Rattle.globtree.specs.Answers.{AnswersFiles};
 ghost use Rattle.globtree.specs.Running.{IsAnswered};
 
 use crate::fault::CheckFault;
@@ -31,7 +33,8 @@ pub(crate) fn list_files<R: Files + Env + Eprint + AllocGlobal + Clone + Drop, O
     folder: &str,
     output: &mut Watched<O>,
 ) -> Result<u8>
-    ensures { IfOk result IsAnswered }
+    ensures status { IfOk result IsAnswered }
+    ensures answered { IfOk result (λ _. AnswersFiles flags (O.contents (inner output.old)) (O.contents (inner output.new))) }
 {
     let concerns = Concerns {
         are_attributes: false,

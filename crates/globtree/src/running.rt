@@ -1,8 +1,9 @@
 //! What the words ask for, done.
-ghost use Rattle.std.specs.Prelude.{◌≡◌, ◌≢◌, IfOk, OnOk, false, map, string_bytes};
+ghost use Rattle.std.specs.Prelude.{◌≡◌, ◌≢◌, IfOk, OnOk, codes, false, map, string_bytes};
 ghost use Rattle.std.specs.Io.KnownBytes.{Appends};
 ghost use Rattle.gix_glob.specs.Watched.{has_failed, inner};
 ghost use Rattle.tree_words.specs.Words.{AreWrong};
+ghost use Rattle.globtree.specs.Answers.{AnswersWords};
 ghost use Rattle.globtree.specs.Running.{IsAnswered, IsRefused, IsStatus};
 
 use crate::check_attr::check_attr;
@@ -56,6 +57,7 @@ pub fn run_words<R: Files + Env + Eprint + AllocGlobal + Clone + Drop, I: Read, 
     requires readable { has_failed input.old ≡ false }
     requires writable { has_failed output.old ≡ false }
     ensures status { IsStatus result }
+    ensures answered { IsAnswered result → AnswersWords (map string_bytes words.now) result (I.remaining (inner input.old)) (I.remaining (inner input.new)) (O.contents (inner output.old)) (O.contents (inner output.new)) }
     ensures wrong { AreWrong (map string_bytes words.now) → result ≡ 129 }
     ensures unread { IsRefused result → input.new ≡ input.old }
     ensures unwritten { IsRefused result → output.new ≡ output.old }
