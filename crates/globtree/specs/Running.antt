@@ -1,5 +1,6 @@
 -- What the program ends with, and what is asked of it.
-use Rattle.std.specs.Prelude.{◌≡◌, ◌⊎◌, ℕ, if◌then◌else◌}
+use Rattle.std.specs.Prelude.{◌≡◌, ◌⊎◌, ℕ, Bool, if◌then◌else◌}
+use Rattle.tree_answers.specs.declared.form.Form.{Form}
 use Rattle.tree_answers.specs.declared.form.Form.TheVariants.{Lines, Records}
 use Rattle.tree_commands.specs.declared.check_ignore.flags.IgnoreFlags.{IgnoreFlags}
 use Rattle.tree_words.specs.declared.check_ignore.CheckIgnoreFlags.{CheckIgnoreFlags}
@@ -16,6 +17,10 @@ IsRefused status = (status ≡ 129) ⊎ (status ≡ 255)
 abbrev pub IsStatus : ℕ → Type 0
 IsStatus status = IsAnswered status ⊎ (IsRefused status ⊎ (status ≡ 128))
 
+-- records that a NUL ends, or lines
+abbrev pub form_by : Bool → Form
+form_by is_nul = if is_nul then Records else Lines
+
 -- what is written about paths, by the options of `check-ignore`
 abbrev pub asked_by_flags : CheckIgnoreFlags → IgnoreFlags
-asked_by_flags flags = record { form = if flags.nul then Records else Lines; verbose = flags.verbose; non_matching = flags.non_matching; quiet = flags.quiet }
+asked_by_flags flags = record { form = form_by flags.nul; verbose = flags.verbose; non_matching = flags.non_matching; quiet = flags.quiet }

@@ -1,10 +1,10 @@
 //! Telling which state attributes have for paths.
-ghost use Rattle.std.specs.Prelude.{◌≡◌, ◌⊎◌, ℕ, List, if◌then◌else◌, IfOk, false, map, string_bytes};
+ghost use Rattle.std.specs.Prelude.{◌≡◌, ◌⊎◌, ℕ, List, if◌then◌else◌, IfOk, OnOk, false, map, string_bytes};
 ghost use Rattle.std.specs.Borrow.{Bor};
 ghost use Rattle.gix_glob.specs.Watched.{has_failed, inner};
 ghost use Rattle.tree_commands.specs.CheckAttr.{all, named};
-ghost use Rattle.globtree.specs.Answers.{AnswersAttr, form_by};
-ghost use Rattle.globtree.specs.Running.{IsAnswered, IsRefused};
+ghost use Rattle.globtree.specs.Answers.{AnswersAttr, ReadsStates, TellsStates, case_by};
+ghost use Rattle.globtree.specs.Running.{IsAnswered, IsRefused, form_by};
 
 use crate::attribute_files::AttributeFiles;
 use crate::check_ignore::bytes_of;
@@ -50,7 +50,7 @@ pub(crate) fn check_attr<R: Files + Env + Eprint + AllocGlobal, I: Read, O: Writ
     requires readable { has_failed input.old ≡ false }
     requires writable { has_failed output.old ≡ false }
     ensures status { IfOk result (λ status. IsAnswered status ⊎ IsRefused status) }
-    ensures answered { IfOk result (λ status. IsAnswered status → AnswersAttr flags (map string_bytes words.now) (I.remaining (inner input.old)) (I.remaining (inner input.new)) (O.contents (inner output.old)) (O.contents (inner output.new))) }
+    ensures answered { IfOk result (λ status. IsAnswered status → AnswersAttr (case_by options.entry) flags (map string_bytes words.now) (I.remaining (inner input.old)) (I.remaining (inner input.new)) (O.contents (inner output.old)) (O.contents (inner output.new))) }
     ensures unread { IfOk result (λ status. IsRefused status → input.new ≡ input.old) }
     ensures unwritten { IfOk result (λ status. IsRefused status → output.new ≡ output.old) }
 {
@@ -73,16 +73,46 @@ pub(crate) fn check_attr<R: Files + Env + Eprint + AllocGlobal, I: Read, O: Writ
         return Ok(NO_NAME);
     }
     let asked_names = bytes_of(alloc, names)?;
-    let told = bytes_of(alloc, paths)?;
     let question = question_of(&outer, &asked_names, options, flags);
     let source = AttributeFiles { rt, alloc };
-    let outcome = if flags.stdin {
-        run_check_attr(alloc, &question, source, input, output)
-    } else {
-        check_attr_paths(alloc, &question, source, &told, output)
-    };
-    outcome.map_err(|fault| told_fault(alloc, fault))?;
+    if flags.stdin {
+        answer_input(alloc, &question, source, input, output)?;
+        return Ok(ANSWERED);
+    }
+    let paths = bytes_of(alloc, paths)?;
+    answer_paths(alloc, &question, source, &paths, output)?;
     Ok(ANSWERED)
+}
+
+/// Answers the paths that are read.
+fn answer_input<R: Files + Eprint, I: Read, O: Write>(
+    alloc: Global,
+    question: &AttributeQuestion<'_>,
+    source: AttributeFiles<'_, R>,
+    input: &mut Watched<I>,
+    output: &mut Watched<O>,
+) -> Result<()>
+    requires readable { has_failed input.old ≡ false }
+    requires writable { has_failed output.old ≡ false }
+    ensures { OnOk result (ReadsStates question.now (I.remaining (inner input.old)) (I.remaining (inner input.new)) (O.contents (inner output.old)) (O.contents (inner output.new))) }
+{
+    let outcome = run_check_attr(alloc, question, source, input, output);
+    outcome.map_err(|fault| told_fault(alloc, fault))
+}
+
+/// Answers these paths.
+fn answer_paths<R: Files + Eprint, O: Write>(
+    alloc: Global,
+    question: &AttributeQuestion<'_>,
+    source: AttributeFiles<'_, R>,
+    paths: &[&[u8]],
+    output: &mut Watched<O>,
+) -> Result<()>
+    requires { has_failed output.old ≡ false }
+    ensures { OnOk result (TellsStates question.now (map (λ (path : Bor (List ℕ)). path.now) paths.now) (O.contents (inner output.old)) (O.contents (inner output.new))) }
+{
+    let outcome = check_attr_paths(alloc, question, source, paths, output);
+    outcome.map_err(|fault| told_fault(alloc, fault))
 }
 
 /// A fault as it is told.
@@ -100,6 +130,7 @@ fn question_of<'a>(
     options: Options<'_>,
     flags: CheckAttrFlags,
 ) -> AttributeQuestion<'a>
+    ensures case { result.case ≡ case_by options.entry }
     ensures form { result.form ≡ form_by flags.nul }
     ensures asks { result.asked ≡ (if flags.all then all else named (map (λ (name : Bor (List ℕ)). name.now) names.now)) }
 {

@@ -1,8 +1,9 @@
 //! The command `check-ignore`.
-ghost use Rattle.std.specs.Prelude.{◌≡◌, ℕ, List, IfOk, false, map, string_bytes};
+ghost use Rattle.std.specs.Prelude.{◌≡◌, ℕ, List, IfOk, false, if◌then◌else◌, map, string_bytes};
 ghost use Rattle.std.specs.Borrow.{Bor};
 ghost use Rattle.gix_glob.specs.Watched.{has_failed, inner};
-ghost use Rattle.globtree.specs.Answers.{AnswersIgnore, ReadsIgnore, TellsIgnore};
+ghost use Rattle.glob_lists.specs.Rules.{by_git};
+ghost use Rattle.globtree.specs.Answers.{AnswersIgnore, ReadsIgnore, TellsIgnore, case_by};
 ghost use Rattle.globtree.specs.Running.{IsAnswered, asked_by_flags};
 
 use crate::fault::CheckFault;
@@ -41,7 +42,7 @@ pub(crate) fn check_ignore<R: Files + Env + Eprint + AllocGlobal, I: Read, O: Wr
     requires readable { has_failed input.old ≡ false }
     requires writable { has_failed output.old ≡ false }
     ensures status { IfOk result IsAnswered }
-    ensures answered { IfOk result (λ status. AnswersIgnore flags (map string_bytes words.now) status (I.remaining (inner input.old)) (I.remaining (inner input.new)) (O.contents (inner output.old)) (O.contents (inner output.new))) }
+    ensures answered { IfOk result (λ status. AnswersIgnore (case_by options.entry) flags (map string_bytes words.now) status (I.remaining (inner input.old)) (I.remaining (inner input.new)) (O.contents (inner output.old)) (O.contents (inner output.new))) }
 {
     let paths = operands_of(alloc, words).context("the paths")?.words;
     if let Some(message) = flags.disagreement(paths.len()) {
@@ -49,13 +50,20 @@ pub(crate) fn check_ignore<R: Files + Env + Eprint + AllocGlobal, I: Read, O: Wr
     }
     let (standpoint, sources) = sources_of(rt, alloc, options, flags)?;
     let asked = asked_by_flags(flags);
-    let is_ignored = if flags.stdin {
-        answer_input(alloc, &standpoint, asked, sources, input, output)?
-    } else {
-        let paths = bytes_of(alloc, &paths)?;
-        answer_paths(alloc, &standpoint, asked, sources, &paths, output)?
-    };
-    Ok(if is_ignored { ANSWERED } else { NONE_IGNORED })
+    if flags.stdin {
+        let is_any = answer_input(alloc, &standpoint, asked, sources, input, output)?;
+        return Ok(status_of(is_any));
+    }
+    let paths = bytes_of(alloc, &paths)?;
+    let is_any = answer_paths(alloc, &standpoint, asked, sources, &paths, output)?;
+    Ok(status_of(is_any))
+}
+
+/// What the command ends with, where a line decided about a path, or none did.
+fn status_of(is_any: bool) -> u8
+    ensures { result ≡ (if is_any then 0 else 1) }
+{
+    if is_any { ANSWERED } else { NONE_IGNORED }
 }
 
 /// Answers the paths that are read, and says whether a line decides about one.
@@ -69,7 +77,7 @@ fn answer_input<R: Files + Eprint, I: Read, O: Write>(
 ) -> Result<bool>
     requires readable { has_failed input.old ≡ false }
     requires writable { has_failed output.old ≡ false }
-    ensures { IfOk result (λ is_any. ReadsIgnore asked is_any (I.remaining (inner input.old)) (I.remaining (inner input.new)) (O.contents (inner output.old)) (O.contents (inner output.new))) }
+    ensures { IfOk result (λ is_any. ReadsIgnore sources.tree.rules asked is_any (I.remaining (inner input.old)) (I.remaining (inner input.new)) (O.contents (inner output.old)) (O.contents (inner output.new))) }
 {
     let (_sources, outcome) = run_check_ignore(alloc, standpoint, asked, sources, input, output);
     outcome.map_err(|fault| told_fault(alloc, fault))
@@ -85,7 +93,7 @@ fn answer_paths<R: Files + Eprint, O: Write>(
     output: &mut Watched<O>,
 ) -> Result<bool>
     requires { has_failed output.old ≡ false }
-    ensures { IfOk result (λ is_any. TellsIgnore asked (map (λ (path : Bor (List ℕ)). path.now) paths.now) is_any (O.contents (inner output.old)) (O.contents (inner output.new))) }
+    ensures { IfOk result (λ is_any. TellsIgnore sources.tree.rules asked (map (λ (path : Bor (List ℕ)). path.now) paths.now) is_any (O.contents (inner output.old)) (O.contents (inner output.new))) }
 {
     let (_sources, outcome) = check_ignore_paths(alloc, standpoint, asked, sources, paths, output);
     outcome.map_err(|fault| told_fault(alloc, fault))
@@ -122,7 +130,9 @@ fn sources_of<'a, R: Files + Env + Eprint + AllocGlobal>(
         Standpoint,
         IgnoreSources<FolderFiles<'a, R>, FileKinds<'a, R>>,
     ),
-> {
+>
+    ensures { IfOk result (λ both. both.1.tree.rules ≡ by_git (case_by options.entry)) }
+{
     let concerns = Concerns {
         are_attributes: false,
         is_nul: flags.nul,

@@ -1,9 +1,9 @@
 //! What the words ask for, done.
-ghost use Rattle.std.specs.Prelude.{◌≡◌, ◌≢◌, IfOk, OnOk, codes, false, map, string_bytes};
+ghost use Rattle.std.specs.Prelude.{◌≡◌, ◌≢◌, ◌⊎◌, IfOk, OnOk, false, map, string_bytes};
 ghost use Rattle.std.specs.Io.KnownBytes.{Appends};
 ghost use Rattle.gix_glob.specs.Watched.{has_failed, inner};
 ghost use Rattle.tree_words.specs.Words.{AreWrong};
-ghost use Rattle.globtree.specs.Answers.{AnswersWords};
+ghost use Rattle.globtree.specs.Answers.{AnswersCommand, AnswersWords, case_by};
 ghost use Rattle.globtree.specs.Running.{IsAnswered, IsRefused, IsStatus};
 
 use crate::check_attr::check_attr;
@@ -15,7 +15,7 @@ use gix_glob::search::Watched;
 use std::alloc::Global;
 use std::io::{ErrorKind, Read, Write};
 use std::rt::{Env, Files};
-use tree_words::{Command, asked_by};
+use tree_words::{Command, Options, asked_by};
 
 /// What the program ends with.
 pub(crate) const ANSWERED: u8 = 0;
@@ -65,7 +65,29 @@ pub fn run_words<R: Files + Env + Eprint + AllocGlobal + Clone + Drop, I: Read, 
     let Some((options, command)) = asked_by(words) else {
         return tell_wrong_words(rt);
     };
-    let answer = match command {
+    match answer_command(rt, alloc, options, command, input, output) {
+        Ok(status) => status,
+        Err(fault) => tell_fault(rt, alloc, fault),
+    }
+}
+
+/// Answers a command.
+fn answer_command<R: Files + Env + Eprint + AllocGlobal + Clone + Drop, I: Read, O: Write>(
+    rt: &R,
+    alloc: Global,
+    options: Options<'_>,
+    command: Command<'_>,
+    input: &mut Watched<I>,
+    output: &mut Watched<O>,
+) -> Result<u8>
+    requires readable { has_failed input.old ≡ false }
+    requires writable { has_failed output.old ≡ false }
+    ensures status { IfOk result (λ status. IsAnswered status ⊎ IsRefused status) }
+    ensures answered { IfOk result (λ status. IsAnswered status → AnswersCommand (case_by options.entry) command.entry status (I.remaining (inner input.old)) (I.remaining (inner input.new)) (O.contents (inner output.old)) (O.contents (inner output.new))) }
+    ensures unread { IfOk result (λ status. IsRefused status → input.new ≡ input.old) }
+    ensures unwritten { IfOk result (λ status. IsRefused status → output.new ≡ output.old) }
+{
+    match command {
         Command::Help => write_text(output, USAGE),
         Command::Version => write_text(output, VERSION),
         Command::CheckIgnore { flags, words } => {
@@ -75,10 +97,6 @@ pub fn run_words<R: Files + Env + Eprint + AllocGlobal + Clone + Drop, I: Read, 
         Command::CheckAttr { flags, words } => {
             check_attr(rt, alloc, options, flags, words, input, output)
         }
-    };
-    match answer {
-        Ok(status) => status,
-        Err(fault) => tell_fault(rt, alloc, fault),
     }
 }
 

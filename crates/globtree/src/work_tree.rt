@@ -1,6 +1,7 @@
 //! The work tree that the options before a command tell of, with the files of patterns that count in all of it.
-ghost use Rattle.std.specs.Prelude.{◌≡◌, if◌then◌else◌};
-ghost use Rattle.gix_glob.specs.declared.pattern.Case.TheVariants.{Fold, Sensitive};
+ghost use Rattle.std.specs.Prelude.{◌≡◌, IfOk};
+ghost use Rattle.glob_lists.specs.Rules.{by_git};
+ghost use Rattle.globtree.specs.Answers.{case_by};
 
 use crate::excludes::{push_excludes, push_info};
 use crate::places::{go_to_folders, go_to_top};
@@ -25,7 +26,9 @@ pub(crate) fn tree_of<'a, R: Files + Env + Eprint + AllocGlobal>(
     alloc: Global,
     options: Options<'_>,
     concerns: Concerns,
-) -> Result<(Standpoint, Tree<IgnoreLines, FolderFiles<'a, R>>)> {
+) -> Result<(Standpoint, Tree<IgnoreLines, FolderFiles<'a, R>>)>
+    ensures { IfOk result (λ both. both.1.rules ≡ by_git (case_by options.entry)) }
+{
     let (standpoint, fronts) = fronts_of(rt, alloc, options, concerns)?;
     let source = FolderFiles::new(rt, alloc);
     let rules = Rules::by_git(case_of(options));
@@ -52,7 +55,7 @@ pub(crate) fn fronts_of<R: Files + Env + Eprint + AllocGlobal>(
 
 /// Whether the case of letters counts by the options.
 pub(crate) fn case_of(options: Options<'_>) -> Case
-    ensures { result ≡ (if options.entry.ignore_case then Fold else Sensitive) }
+    ensures { result ≡ case_by options.entry }
 {
     if options.ignore_case {
         Case::Fold
