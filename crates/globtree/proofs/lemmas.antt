@@ -1,1 +1,2 @@
+pub mod OperandLemmas
 pub mod ResultLemmas

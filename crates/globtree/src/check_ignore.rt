@@ -77,7 +77,7 @@ fn answer_input<R: Files + Eprint, I: Read, O: Write>(
 ) -> Result<bool>
     requires readable { has_failed input.old ≡ false }
     requires writable { has_failed output.old ≡ false }
-    ensures { IfOk result (λ is_any. ReadsIgnore sources.tree.rules asked is_any (I.remaining (inner input.old)) (I.remaining (inner input.new)) (O.contents (inner output.old)) (O.contents (inner output.new))) }
+    ensures { IfOk result (λ is_any. ReadsIgnore sources.entry.tree.rules asked is_any (I.remaining (inner input.old)) (I.remaining (inner input.new)) (O.contents (inner output.old)) (O.contents (inner output.new))) }
 {
     let (_sources, outcome) = run_check_ignore(alloc, standpoint, asked, sources, input, output);
     outcome.map_err(|fault| told_fault(alloc, fault))
@@ -93,7 +93,7 @@ fn answer_paths<R: Files + Eprint, O: Write>(
     output: &mut Watched<O>,
 ) -> Result<bool>
     requires { has_failed output.old ≡ false }
-    ensures { IfOk result (λ is_any. TellsIgnore sources.tree.rules asked (map (λ (path : Bor (List ℕ)). path.now) paths.now) is_any (O.contents (inner output.old)) (O.contents (inner output.new))) }
+    ensures { IfOk result (λ is_any. TellsIgnore sources.entry.tree.rules asked (map (λ (path : Bor (List ℕ)). path.now) paths.now) is_any (O.contents (inner output.old)) (O.contents (inner output.new))) }
 {
     let (_sources, outcome) = check_ignore_paths(alloc, standpoint, asked, sources, paths, output);
     outcome.map_err(|fault| told_fault(alloc, fault))

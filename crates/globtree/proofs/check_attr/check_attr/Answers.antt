@@ -1,11 +1,49 @@
-use Rattle.std.proofs.Common.{rules, ◌≡◌, ◌⊎◌, ℕ, List, if◌then◌else◌, IfOk, false, map, string_bytes, ◌+◌, ◌-◌, ◌*◌, ◌<◌, ◌≤◌, length, ◌/◌, ◌%◌, Bool, true, nat_eq, nat_lt, [], ◌∷◌, ◌++◌, slice_index_or, slice_set, bit_and, bit_or, Fits, w8, w32, w64, MutBor}
+use Rattle.std.proofs.Common.{◌≡◌, IfOk, List, ℕ, ap, if◌then◌else◌, map, sym, string_bytes, subst, ◌∙◌}
+use Rattle.std.proofs.lemmas.Bool.{false≢true}
 use Rattle.std.specs.Borrow.{Bor}
-use Rattle.gix_glob.specs.Watched.{has_failed, inner}
-use Rattle.tree_commands.specs.CheckAttr.{all, named}
-use Rattle.globtree.specs.Answers.{AnswersAttr, form_by}
-use Rattle.globtree.specs.Running.{IsAnswered, IsRefused}
+use Rattle.gix_glob.specs.Watched.{inner}
+use Rattle.tree_commands.specs.CheckAttr as attributes
+use Rattle.tree_words.specs.declared.operands.Operands.{Operands}
+use Rattle.tree_words.specs.Operands.{dashes_at, operands_among}
+use Rattle.globtree.specs.Answers.{TellsStates}
+use Rattle.globtree.proofs.lemmas.OperandLemmas.{back_seen, front_seen, names_seen}
 use Rattle.globtree.proofs.check_attr.check_attr.Goals as goal
 
--- src/check_attr.rt:40:1
+pub returns-then-flags-clause-answered : goal.returns-then-flags-clause-answered
+returns-then-flags-clause-answered g c answered =
+    let see : Bor (List ℕ) → List ℕ = λ word. word.now in
+    let operands = c.in_ok-operands.operands in
+    let told = operands_among (map string_bytes c.args.words.now) in
+    let all = subst (λ r. IfOk r (λ (read : Operands). map see read.words.items ≡ told)) c.in_ok-operands.ensures c.operands_of.ensures.all in
+    let before = subst (λ r. IfOk r (λ (read : Operands). read.before ≡ dashes_at (map string_bytes c.args.words.now))) c.in_ok-operands.ensures c.operands_of.ensures.before in
+    let names = front_seen see operands.words.items c.deref.result.now told c.deref.ensures.value all c.in-Ok.count _ _ c.split_at.ensures.front c.in_ok-asked_names.ensures in
+    record {
+      count = c.in-Ok.count;
+      names = names_seen see c.args.flags operands.words.items told operands.before _ c.len.result _ c.in-Ok.count c.names_first.result all operands.words.ok.0 c.len.ensures before c.names_first.ensures.names c.in-Ok.is;
+      query = c.question_of-question.result;
+      cased = c.question_of-question.ensures.case;
+      form = c.question_of-question.ensures.form;
+      asks = c.question_of-question.ensures.asks ∙ ap (λ names. if c.args.flags.all then attributes.all else attributes.named names) (ap (map see) c.deref-2.ensures.value ∙ names);
+      read = λ _. c.in_ok-answer_input.ensures;
+      told = λ is. absurd (false≢true (sym is ∙ c.if-flags.true));
+    }
+
 pub returns-clause-answered : goal.returns-clause-answered
-returns-clause-answered g c = ?
+returns-clause-answered g c answered =
+    let see : Bor (List ℕ) → List ℕ = λ word. word.now in
+    let operands = c.in_ok-operands.operands in
+    let told = operands_among (map string_bytes c.args.words.now) in
+    let all = subst (λ r. IfOk r (λ (read : Operands). map see read.words.items ≡ told)) c.in_ok-operands.ensures c.operands_of.ensures.all in
+    let before = subst (λ r. IfOk r (λ (read : Operands). read.before ≡ dashes_at (map string_bytes c.args.words.now))) c.in_ok-operands.ensures c.operands_of.ensures.before in
+    let names = front_seen see operands.words.items c.deref.result.now told c.deref.ensures.value all c.in-Ok.count _ _ c.split_at.ensures.front c.in_ok-asked_names.ensures in
+    let paths = back_seen see operands.words.items c.deref.result.now told c.deref.ensures.value all c.in-Ok.count _ _ c.split_at.ensures.back c.in_ok-paths.ensures in
+    record {
+      count = c.in-Ok.count;
+      names = names_seen see c.args.flags operands.words.items told operands.before _ c.len.result _ c.in-Ok.count c.names_first.result all operands.words.ok.0 c.len.ensures before c.names_first.ensures.names c.in-Ok.is;
+      query = c.question_of-question.result;
+      cased = c.question_of-question.ensures.case;
+      form = c.question_of-question.ensures.form;
+      asks = c.question_of-question.ensures.asks ∙ ap (λ names. if c.args.flags.all then attributes.all else attributes.named names) (ap (map see) c.deref-2.ensures.value ∙ names);
+      read = λ is. absurd (false≢true (sym c.if-flags.false ∙ is));
+      told = λ _. subst (λ paths. TellsStates c.question_of-question.result paths (g.O.Write.contents (inner c.args.output.now)) (g.O.Write.contents (inner c.answer_paths.new.output))) (ap (map see) c.deref-3.ensures.value ∙ paths) c.in_ok-answer_paths.ensures;
+    }

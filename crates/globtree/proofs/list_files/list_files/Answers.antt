@@ -1,13 +1,28 @@
-use Rattle.std.proofs.Common.{rules, IfOk, ◌≡◌, ℕ, ◌+◌, ◌-◌, ◌*◌, ◌<◌, ◌≤◌, length, ◌/◌, ◌%◌, Bool, true, false, nat_eq, nat_lt, List, [], ◌∷◌, ◌++◌, slice_index_or, slice_set, bit_and, bit_or, Fits, w8, w32, w64, Bor, MutBor}
+use Rattle.std.proofs.Common.{subst}
+use Rattle.std.specs.Io.KnownBytes.{Appends}
+use Rattle.std.specs.List.{flat_map}
 use Rattle.gix_glob.specs.Watched.{inner}
-use Rattle.globtree.specs.Answers.{AnswersFiles}
-use Rattle.globtree.specs.Running.{IsAnswered}
+use Rattle.tree_commands.specs.Files.{path_line}
 use Rattle.globtree.proofs.list_files.list_files.Goals as goal
 
--- src/list_files.rt:38:1
 pub returns-in-Ok-clause-answered : goal.returns-in-Ok-clause-answered
-returns-in-Ok-clause-answered g c = ?
+returns-in-Ok-clause-answered g c =
+    let lists = c.in-Ok.ensures.lists in
+    let standpoint = c.in_ok-standpoint.standpoint in
+    record {
+      standpoint = standpoint;
+      paths = lists.0;
+      ordered = lists.1;
+      written = subst (λ form. Appends (g.O.Write.contents (inner c.args.output.now)) (g.O.Write.contents (inner c.run_files.new.writer)) (flat_map (path_line standpoint form) lists.0)) c.ended_by.ensures lists.2;
+    }
 
--- src/list_files.rt:38:1
 pub returns-in-Ok-2-clause-answered : goal.returns-in-Ok-2-clause-answered
-returns-in-Ok-2-clause-answered g c = ?
+returns-in-Ok-2-clause-answered g c =
+    let lists = c.in-Ok-2.ensures.lists in
+    let standpoint = c.in_ok-standpoint.standpoint in
+    record {
+      standpoint = standpoint;
+      paths = lists.0;
+      ordered = lists.1;
+      written = subst (λ form. Appends (g.O.Write.contents (inner c.args.output.now)) (g.O.Write.contents (inner c.run_files.new.writer)) (flat_map (path_line standpoint form) lists.0)) c.ended_by.ensures lists.2;
+    }
