@@ -15,13 +15,15 @@ use glob_attributes::State;
 use glob_lines::IgnoreLines;
 use glob_lists::{PreparedList, Reading, Rules};
 use glob_trees::{FolderLists, Tree};
+use record_streams::RecordFault;
 use std::alloc::{AllocError, Global};
 use told_paths::Standpoint;
 use tree_answers::Form;
 use tree_commands::check_attr::{
-    AskedAttributes, AttributeFolders, AttributeQuestion, OuterFiles, check_attr_paths,
+    AskedAttributes, AttributeFault, AttributeFolders, AttributeQuestion, OuterFiles,
+    check_attr_paths,
 };
-use tree_commands::check_ignore::{IgnoreFlags, IgnoreSources, check_ignore_paths};
+use tree_commands::check_ignore::{IgnoreFault, IgnoreFlags, IgnoreSources, check_ignore_paths};
 
 /// Which line of which file decides about a path: both numbers count from 1. A path that ends in a slash is that of a folder, and told
 /// without it.
@@ -115,10 +117,10 @@ impl<'a> Asked<'a> {
             &paths,
             &mut writer,
         );
-        if outcome.is_err() {
-            return Err(RowFault::Call("check_ignore_paths"));
+        match outcome {
+            Ok(_is_any) => push_place(alloc, &writer.into_inner(), answer),
+            Err(fault) => Err(fault_of_ignore(fault)),
         }
-        push_place(alloc, &writer.into_inner(), answer)
     }
 
     /// The lists of the files, each with its number as its name.
@@ -140,6 +142,26 @@ impl<'a> Asked<'a> {
             lists.push(PreparedList::new(alloc, list))?;
         }
         Ok(lists)
+    }
+}
+
+/// Why `check-ignore` had no answer.
+fn fault_of_ignore(fault: RecordFault<IgnoreFault<SourceFault>>) -> RowFault {
+    match fault {
+        RecordFault::Memory
+        | RecordFault::Answer(IgnoreFault::Memory)
+        | RecordFault::Answer(IgnoreFault::Source(SourceFault::Memory)) => RowFault::Memory,
+        _ => RowFault::Call("check_ignore_paths"),
+    }
+}
+
+/// Why `check-attr` had no answer.
+fn fault_of_attributes(fault: RecordFault<AttributeFault<AllocError>>) -> RowFault {
+    match fault {
+        RecordFault::Memory
+        | RecordFault::Answer(AttributeFault::Memory)
+        | RecordFault::Answer(AttributeFault::Source(_)) => RowFault::Memory,
+        _ => RowFault::Call("check_attr_paths"),
     }
 }
 
@@ -222,10 +244,10 @@ pub(crate) fn git_attributes(
     let mut writer = Watched::new(room(alloc)?);
     let paths = [question.bytes(2)?];
     let outcome = check_attr_paths(alloc, &asked, NoFiles { alloc }, &paths, &mut writer);
-    if outcome.is_err() {
-        return Err(RowFault::Call("check_attr_paths"));
+    match outcome {
+        Ok(()) => push_words(alloc, &writer.into_inner(), answer),
+        Err(fault) => Err(fault_of_attributes(fault)),
     }
-    push_words(alloc, &writer.into_inner(), answer)
 }
 
 /// Adds a word for each state of an output, in which a path, a name and a state stand in turn.
