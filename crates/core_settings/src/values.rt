@@ -1,6 +1,8 @@
 //! What the section `core` sets of matching and printing.
-ghost use Rattle.std.specs.Prelude.{◌≡◌, ◌⊎◌, ◌==◌, codes, option_and_then, option_map, position, IfErr, IfOk};
+ghost use Rattle.std.specs.Prelude.{◌≡◌, ◌⊎◌, ◌==◌, codes, map, option_and_then, option_map, position, IfErr, IfOk};
+ghost use Rattle.std.specs.List.{list_any};
 ghost use Rattle.std.specs.Option.{option_copied};
+ghost use Rattle.std.specs.Str.{bytes_eq};
 ghost use Rattle.std.specs.Vec.{vec_items};
 ghost use Rattle.git_config.specs.Configuration.{key_of, seen_setting};
 ghost use Rattle.git_config.specs.Grammar.{before_zero};
@@ -185,27 +187,43 @@ const BOOLEANS: [&[u8]; 15] = [
 fn is_boolean(key: &[u8]) -> bool
     ensures { result ≡ is_boolean key.now }
 {
-    BOOLEANS.iter().any(|name| key == *name)
+    is_among(key, &BOOLEANS)
 }
+
+/// The keys of paths.
+const PATHS: [&[u8]; 3] = [
+    b"core.excludesfile",
+    b"core.attributesfile",
+    b"core.hookspath",
+];
 
 /// Whether Git looks for a path at a key.
 fn is_path(key: &[u8]) -> bool
     ensures { result ≡ is_path key.now }
 {
-    key == b"core.excludesfile".as_slice()
-        || key == b"core.attributesfile".as_slice()
-        || key == b"core.hookspath".as_slice()
+    is_among(key, &PATHS)
+}
+
+/// Whether a key is among some.
+fn is_among(key: &[u8], keys: &[&[u8]]) -> bool
+    ensures { result ≡ list_any (bytes_eq key.now) (map (λ b. b.now) keys.now) }
+{
+    for other in keys {
+        if key == *other {
+            return true;
+        }
+    }
+    false
 }
 
 /// The boolean that counts of a key.
 fn boolean_at(config: &Config, key: &[u8], default: bool) -> bool
     ensures { result ≡ boolean_at default (last_value key.now (seen_settings config.now)) }
 {
-    let said = match config.last_of(key) {
-        Some(setting) => boolean(slice_of(&setting.entry.value)),
-        None => None,
-    };
-    said.unwrap_or(default)
+    match config.last_of(key) {
+        Some(setting) => boolean(slice_of(&setting.entry.value)).unwrap_or(default),
+        None => default,
+    }
 }
 
 /// The file of excludes.
