@@ -29,20 +29,18 @@ abbrev pub lacks_system : Option (List ℕ) → Option Bool
 lacks_system None = Some false
 lacks_system (Some value) = boolean_of (Some value)
 
-abbrev pub system_files : Bool → Places → List (List ℕ)
-system_files true places = []
-system_files false places = option_to_list (option_or places.system places.installed)
+abbrev pub system_file : Bool → Places → Option (List ℕ)
+system_file lacks places = if lacks then None else option_or places.system places.installed
 
 -- the user's two, or the one that stands for both
 abbrev pub user_files : Places → Option (List ℕ) → List (List ℕ)
 user_files places (Some file) = file ∷ []
 user_files places None = option_to_list (settings_file places.config_home places.home (codes "config")) ++ option_to_list (below_home places.home (codes "/.gitconfig"))
 
-abbrev pub repository_files : Places → List (List ℕ)
-repository_files places = option_to_list places.repository ++ option_to_list places.work_tree
-
+-- the system's, the user's, the repository's
 abbrev pub files_of : Bool → Places → List (List ℕ)
-files_of lacks places = system_files lacks places ++ (user_files places places.global ++ repository_files places)
+files_of lacks places =
+    option_to_list (system_file lacks places) ++ (user_files places places.global ++ (option_to_list places.repository ++ option_to_list places.work_tree))
 
 -- ---- pairs of the environment
 

@@ -78,9 +78,5 @@ values_of around config_home settings =
     }
 
 -- the settings, unless an entry is wrong: the first one is told, also where a later one is right
-abbrev pub unless : Option Fault → CoreSettings (List ℕ) → Result (CoreSettings (List ℕ)) Fault
-unless None core = Ok core
-unless (Some fault) core = Err fault
-
 abbrev pub core_of : Surroundings → Option (List ℕ) → List Seen → Result (CoreSettings (List ℕ)) Fault
-core_of around config_home settings = unless (first_fault around settings) (values_of around config_home settings)
+core_of around config_home settings = elim (first_fault around settings) [ Some fault ↦ Err fault | None ↦ Ok (values_of around config_home settings) ]

@@ -2,7 +2,7 @@
 ghost use Rattle.std.specs.Prelude.{◌≡◌, ◌++◌, ◌∷◌, ◌≤◌, ◌==◌, [], if◌then◌else◌, is_some, length, map, nat_lt, not, option_map, position, IfOk, OnOk};
 ghost use Rattle.std.specs.Option.{option_copied, option_to_list};
 ghost use Rattle.std.specs.Vec.{vec_items};
-ghost use Rattle.core_settings.specs.Sources.{files_of, lacks_system, pair_count, pair_word, pair_words, pairs_fault, read_pairs, repository_files, sources_fault, sources_of, system_files, user_files, words_behind};
+ghost use Rattle.core_settings.specs.Sources.{files_of, lacks_system, pair_count, pair_word, pair_words, pairs_fault, read_pairs, sources_fault, sources_of, system_file, user_files, words_behind};
 ghost use Rattle.core_settings.specs.Views.{pair_with, places_with, seen_source, seen_sources, source_with, sources_fault_with};
 ghost use Rattle.core_settings.specs.declared.fault.SourcesFault.TheVariants.{NoSystem};
 ghost use Rattle.core_settings.specs.declared.fault.WrongPairs.TheVariants.{NoKey, NoValue};
@@ -164,26 +164,22 @@ fn add_files(
 ) -> Result<(), AllocError>
     ensures { OnOk result (seen_sources out.new ≡ seen_sources out.old ++ map (λ path. File path) (files_of lacks (places_with (λ b. b.now) places.now))) }
 {
-    add_system_file(alloc, lacks, places, out)?;
+    add_file(alloc, system_file(lacks, places), out)?;
     add_user_files(alloc, places, out)?;
-    add_repository_files(alloc, places, out)
+    add_file(alloc, places.repository, out)?;
+    add_file(alloc, places.work_tree, out)
 }
 
-/// Adds the system's file.
-fn add_system_file(
-    alloc: Global,
-    lacks: bool,
-    places: &ConfigPlaces<&[u8]>,
-    out: &mut Vec<ConfigSource<Vec<u8>>>,
-) -> Result<(), AllocError>
-    ensures { OnOk result (seen_sources out.new ≡ seen_sources out.old ++ map (λ path. File path) (system_files lacks (places_with (λ b. b.now) places.now))) }
+/// The system's file.
+fn system_file<'a>(lacks: bool, places: &ConfigPlaces<&'a [u8]>) -> Option<&'a [u8]>
+    ensures { option_copied result ≡ system_file lacks (places_with (λ b. b.now) places.now) }
 {
     if lacks {
-        return Ok(());
+        return None;
     }
     match places.system {
-        Some(path) => add_file(alloc, Some(path), out),
-        None => add_file(alloc, places.installed, out),
+        Some(path) => Some(path),
+        None => places.installed,
     }
 }
 
@@ -202,18 +198,6 @@ fn add_user_files(
     add_path(settings, out)?;
     let own = below_home(alloc, places.home, b"/.gitconfig")?;
     add_path(own, out)
-}
-
-/// Adds the repository's files.
-fn add_repository_files(
-    alloc: Global,
-    places: &ConfigPlaces<&[u8]>,
-    out: &mut Vec<ConfigSource<Vec<u8>>>,
-) -> Result<(), AllocError>
-    ensures { OnOk result (seen_sources out.new ≡ seen_sources out.old ++ map (λ path. File path) (repository_files (places_with (λ b. b.now) places.now))) }
-{
-    add_file(alloc, places.repository, out)?;
-    add_file(alloc, places.work_tree, out)
 }
 
 /// Adds a file, if there is one.

@@ -1,5 +1,5 @@
 //! What the section `core` sets of matching and printing.
-ghost use Rattle.std.specs.Prelude.{◌≡◌, ◌⊎◌, ◌==◌, codes, map, option_and_then, option_map, position, IfErr, IfOk};
+ghost use Rattle.std.specs.Prelude.{◌≡◌, ◌⊎◌, ◌==◌, map, option_and_then, option_map, position, IfErr, IfOk};
 ghost use Rattle.std.specs.List.{list_any};
 ghost use Rattle.std.specs.Option.{option_copied};
 ghost use Rattle.std.specs.Str.{bytes_eq};
@@ -51,8 +51,22 @@ pub fn core_settings(
     Ok(CoreSettings {
         ignore_case: boolean_at(config, b"core.ignorecase", false),
         quote_path: boolean_at(config, b"core.quotepath", true),
-        excludes: excludes(alloc, config, around, config_home)?,
-        attributes: attributes(alloc, config, around, config_home)?,
+        excludes: file_at(
+            alloc,
+            config,
+            around,
+            config_home,
+            b"core.excludesfile",
+            b"ignore",
+        )?,
+        attributes: file_at(
+            alloc,
+            config,
+            around,
+            config_home,
+            b"core.attributesfile",
+            b"attributes",
+        )?,
     })
 }
 
@@ -226,33 +240,20 @@ fn boolean_at(config: &Config, key: &[u8], default: bool) -> bool
     }
 }
 
-/// The file of excludes.
-fn excludes(
+/// The file that counts of a key; by default that of a name among the user's settings.
+fn file_at(
     alloc: Global,
     config: &Config,
     around: &Surroundings,
     config_home: Option<&[u8]>,
+    key: &[u8],
+    name: &[u8],
 ) -> Result<Option<Vec<u8>>, AllocError>
-    ensures { IfOk result (λ file. option_map vec_items file ≡ file_at around.now (settings_file (option_copied config_home.entry) (option_map vec_items around.now.home) (codes "ignore")) (last_value (codes "core.excludesfile") (seen_settings config.now))) }
+    ensures { IfOk result (λ file. option_map vec_items file ≡ file_at around.now (settings_file (option_copied config_home.entry) (option_map vec_items around.now.home) name.now) (last_value key.now (seen_settings config.now))) }
 {
-    match config.last_of(b"core.excludesfile") {
+    match config.last_of(key) {
         Some(setting) => path_at(alloc, around, setting),
-        None => settings_file(alloc, config_home, slice_of(&around.home), b"ignore"),
-    }
-}
-
-/// The file of attributes.
-fn attributes(
-    alloc: Global,
-    config: &Config,
-    around: &Surroundings,
-    config_home: Option<&[u8]>,
-) -> Result<Option<Vec<u8>>, AllocError>
-    ensures { IfOk result (λ file. option_map vec_items file ≡ file_at around.now (settings_file (option_copied config_home.entry) (option_map vec_items around.now.home) (codes "attributes")) (last_value (codes "core.attributesfile") (seen_settings config.now))) }
-{
-    match config.last_of(b"core.attributesfile") {
-        Some(setting) => path_at(alloc, around, setting),
-        None => settings_file(alloc, config_home, slice_of(&around.home), b"attributes"),
+        None => settings_file(alloc, config_home, slice_of(&around.home), name),
     }
 }
 
