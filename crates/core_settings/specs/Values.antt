@@ -31,8 +31,7 @@ abbrev pub told_path : Surroundings → List ℕ → Option (List ℕ)
 told_path around value = expanded around (option_map vec_items around.home) value
 
 abbrev pub boolean_fault : List ℕ → Option (List ℕ) → Option Fault
-boolean_fault key None = None
-boolean_fault key (Some value) = if is_some (boolean_of (Some value)) then None else Some (Boolean key value)
+boolean_fault key value = if is_some (boolean_of value) then None else option_map (λ text. Boolean key text) value
 
 abbrev pub path_fault : Surroundings → Seen → Option (List ℕ) → Option Fault
 path_fault around s None = Some (NoPath (key_of s) s.file s.entry.line)
