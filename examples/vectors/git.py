@@ -231,7 +231,7 @@ def config_sources(variables, repository, work_tree, words):
             if kind != b"file" or sources[-1:] != [line]:
                 sources.append(line)
         complaints = re.findall(rb"^(?:error|fatal): (.*\n)", ran.stderr, re.M)
-        return [b"".join(line + b"\n" for line in sources).replace(top, b"/top"), b"".join(complaints) or None]
+        return [None, b"".join(complaints)] if complaints else [b"".join(line + b"\n" for line in sources).replace(top, b"/top"), None]
 
 
 def list_configuration(start, words, variables):

@@ -1,4 +1,4 @@
-//! Rows of the sources of a configuration: which files and words are read, and what is wrong behind them.
+//! Rows of the sources of a configuration: which files and words are read, or what is wrong behind them.
 
 use crate::answer::Answer;
 use crate::fault::RowFault;
@@ -31,10 +31,15 @@ pub(crate) fn config_sources(
     let pairs = pairs_of(alloc, &variables)?;
     let words = lines_of(alloc, question.bytes(3)?)?;
     let sources = sources_of(alloc, &places, &pairs, &words)?;
-    answer.push(&list_text(alloc, &sources)?)?;
     match &sources.fault {
-        Some(fault) => Ok(answer.push(&fault_text(alloc, fault)?)?),
-        None => Ok(answer.push_option(None)?),
+        Some(fault) => {
+            answer.push_option(None)?;
+            Ok(answer.push(&fault_text(alloc, fault)?)?)
+        }
+        None => {
+            answer.push(&list_text(alloc, &sources)?)?;
+            Ok(answer.push_option(None)?)
+        }
     }
 }
 
