@@ -109,9 +109,13 @@ fn wrong<F>(alloc: Global, what: WrongFile, path: &[u8]) -> Result<Option<F>, Co
 /// The system's words for an error, without its number.
 fn reason_of(alloc: Global, error: &io::Error) -> Result<String, AllocError> {
     let told = format!(in alloc; "{error}")?;
-    let words = match told.as_str().split_once(" (os error ") {
+    String::from_str(alloc, without_number(told.as_str()))
+}
+
+/// What stands before the system's number of an error.
+fn without_number(told: &str) -> &str {
+    match told.split_once(" (os error ") {
         Some((words, _number)) => words,
-        None => told.as_str(),
-    };
-    String::from_str(alloc, words)
+        None => told,
+    }
 }
