@@ -1,5 +1,5 @@
 -- The parts of a path.
-use Rattle.std.specs.Prelude.{ℕ, zero, suc, ◌-◌, Bool, not, ◌==◌, List, length, take, drop, Option, Some, None}
+use Rattle.std.specs.Prelude.{ℕ, zero, suc, ◌-◌, Bool, not, ◌==◌, List, [], ◌∷◌, length, take, drop, codes, Option, Some, None}
 use Rattle.std.specs.List.{prefix_len, suffix_len}
 
 abbrev pub is_slash : ℕ → Bool
@@ -20,3 +20,8 @@ first_part path = part_of (drop (prefix_len is_slash path) path) (prefix_len is_
 -- what stands before the last slash of a path
 abbrev pub folder_of : List ℕ → List ℕ
 folder_of path = take ((length path - suffix_len is_of_part path) - 1) path
+
+-- a path from the root, in which the root has its slash
+abbrev pub named : List ℕ → List ℕ
+named [] = codes "/"
+named (byte ∷ path) = byte ∷ path

@@ -1,8 +1,8 @@
 //! The files and the environment of the operating system, as `git_repository` and `git_config` ask for them.
 #![tactic(auto)]
 
-mod config_disk;
-mod disk;
+mod disk_config_files;
+mod disk_files;
 mod environment;
 mod fault;
 mod parts;
@@ -14,8 +14,8 @@ mod tests;
 mod user;
 mod variables;
 
-pub use config_disk::ConfigDisk;
-pub use disk::Disk;
+pub use disk_config_files::DiskConfigFiles;
+pub use disk_files::DiskFiles;
 pub use environment::RepositoryVariables;
 pub use fault::{ConfigFileFault, VariableFault, WrongFile};
 pub use user::User;

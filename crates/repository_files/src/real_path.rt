@@ -1,4 +1,6 @@
 //! The path of a file from the root, without links, as Git finds it.
+ghost use Rattle.std.specs.Prelude.{◌≡◌, IfOk};
+ghost use Rattle.repository_files.specs.Parts.{named};
 
 use crate::parts::{first_part, leave};
 use crate::reading::answered;
@@ -66,7 +68,9 @@ fn start_of<R: Files>(rt: &R, alloc: Global, path: &[u8]) -> Result<Option<Vec<u
 }
 
 /// A path from the root: there the root has its slash.
-fn named(mut path: Vec<u8>) -> Result<Vec<u8>, AllocError> {
+fn named(mut path: Vec<u8>) -> Result<Vec<u8>, AllocError>
+    ensures { IfOk result (λ real. real.items ≡ named path.items) }
+{
     if path.is_empty() {
         path.push(b'/')?;
     }

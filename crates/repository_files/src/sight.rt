@@ -1,5 +1,7 @@
 //! What is seen of a file: what stands there at a second look has to be what stood there at the first.
 ghost use Rattle.std.specs.Prelude.{◌≡◌, ◌↔◌, IsTrue};
+ghost use Rattle.std.specs.Fs.{file_type, IsDir, IsFile};
+ghost use Rattle.repository_files.specs.declared.sight.FileKind.TheVariants.{Folder, Regular};
 ghost use Rattle.repository_files.specs.Sight.{IsSameFile};
 
 use std::fs::Metadata;
@@ -42,7 +44,10 @@ impl Sight {
 /// The number by which Linux knows the device `/dev/null`.
 const NULL_DEVICE: u64 = 0x103;
 
-fn kind_of(found: &Metadata) -> FileKind {
+fn kind_of(found: &Metadata) -> FileKind
+    ensures regular { (result ≡ Regular) ↔ IsFile (file_type found.now) }
+    ensures folder { (result ≡ Folder) ↔ IsDir (file_type found.now) }
+{
     if found.is_file() {
         FileKind::Regular
     } else if found.is_dir() {

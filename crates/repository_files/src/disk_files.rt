@@ -15,20 +15,20 @@ use std::rt::Files;
 /// The files of the operating system. What can't be looked at isn't there. The kit opens a file only by a text, so what has a path that is
 /// no UTF-8 isn't there, either.
 #[derive(Drop)]
-pub struct Disk<'a, R> {
+pub struct DiskFiles<'a, R> {
     pub(crate) rt: &'a R,
     pub(crate) alloc: Global,
     user: User,
 }
 
-impl<'a, R> Disk<'a, R> {
+impl<'a, R> DiskFiles<'a, R> {
     /// The files as this user sees them.
-    pub fn new(rt: &'a R, alloc: Global, user: User) -> Disk<'a, R> {
-        Disk { rt, alloc, user }
+    pub fn new(rt: &'a R, alloc: Global, user: User) -> DiskFiles<'a, R> {
+        DiskFiles { rt, alloc, user }
     }
 }
 
-impl<'a, R: Files> Disk<'a, R> {
+impl<'a, R: Files> DiskFiles<'a, R> {
     /// What stands at a path, where links are followed.
     fn found(&self, path: &[u8]) -> Result<Option<Metadata>, AllocError> {
         match str::from_utf8(path) {
@@ -57,7 +57,7 @@ impl<'a, R: Files> Disk<'a, R> {
 const RUN_BITS: u32 = 0o111;
 
 /// Nothing is known of real files, so nothing is claimed of them.
-impl<'a, R: Files> FileSystem for Disk<'a, R> {
+impl<'a, R: Files> FileSystem for DiskFiles<'a, R> {
     ghost tree = { λ _. unknown_tree };
 
     ghost is_known = { λ _. ⊥ };

@@ -1,6 +1,7 @@
 //! The files of the operating system, as a configuration asks for them.
+ghost use Rattle.std.specs.Prelude.{◌≡◌, ◌+◌, ◌<◌, ◌≤◌, None, Some};
 
-use crate::disk::Disk;
+use crate::disk_files::DiskFiles;
 use crate::fault::{ConfigFileFault, WrongFile};
 use crate::reading::{Unread, read_front};
 use git_config::{ConfigFiles, FoundFile};
@@ -19,32 +20,43 @@ const MOST_FILES: usize = 10_000;
 
 /// The files of the operating system that a configuration consists of. They are counted.
 #[derive(Drop)]
-pub struct ConfigDisk<'a, R> {
-    disk: &'a Disk<'a, R>,
+pub struct DiskConfigFiles<'a, R> {
+    files: &'a DiskFiles<'a, R>,
     asked: Cell<usize>,
 }
 
-impl<'a, R> ConfigDisk<'a, R> {
-    /// The files of a disk, of which none was asked for.
-    pub fn new(disk: &'a Disk<'a, R>) -> ConfigDisk<'a, R> {
-        ConfigDisk {
-            disk,
+impl<'a, R> DiskConfigFiles<'a, R> {
+    /// The files of the operating system, of which none was asked for.
+    pub fn new(files: &'a DiskFiles<'a, R>) -> DiskConfigFiles<'a, R> {
+        DiskConfigFiles {
+            files,
             asked: Cell::new(0),
         }
     }
 
     /// Counts a file that is asked for.
     fn count(&self) -> Result<(), ConfigFileFault> {
-        let asked = self.asked.get();
-        if asked >= MOST_FILES {
+        let Some(asked) = one_more(self.asked.get()) else {
             return Err(ConfigFileFault::TooMany);
-        }
-        self.asked.set(asked + 1);
+        };
+        self.asked.set(asked);
         Ok(())
     }
 }
 
-impl<'a, R: Files> ConfigDisk<'a, R> {
+/// The number of files with one more that is asked for; `None` where that is too many.
+fn one_more(asked: usize) -> Option<usize>
+    ensures few { asked < 10000 → result ≡ Some (asked + 1) }
+    ensures many { 10000 ≤ asked → result ≡ None }
+{
+    if asked < MOST_FILES {
+        Some(asked + 1)
+    } else {
+        None
+    }
+}
+
+impl<'a, R: Files> DiskConfigFiles<'a, R> {
     /// Whether the user may not read the file at a path. Git passes over a file of the user's own, as `~/.gitconfig`, that is shut; one of
     /// the system, of the repository or one that is included is a fault. It isn't counted.
     ///
@@ -54,7 +66,7 @@ impl<'a, R: Files> ConfigDisk<'a, R> {
         let Ok(name) = str::from_utf8(path) else {
             return Ok(false);
         };
-        match read_front(self.disk.rt, self.disk.alloc, name, 0) {
+        match read_front(self.files.rt, self.files.alloc, name, 0) {
             Err(Unread::System(error)) => match error.kind() {
                 ErrorKind::OutOfMemory => Err(AllocError),
                 kind => Ok(kind == ErrorKind::PermissionDenied),
@@ -64,7 +76,7 @@ impl<'a, R: Files> ConfigDisk<'a, R> {
     }
 }
 
-impl<'a, R: Files> ConfigFiles for ConfigDisk<'a, R> {
+impl<'a, R: Files> ConfigFiles for DiskConfigFiles<'a, R> {
     type Fault = ConfigFileFault;
 
     // nothing is known of real files
@@ -75,8 +87,8 @@ impl<'a, R: Files> ConfigFiles for ConfigDisk<'a, R> {
         let Ok(name) = str::from_utf8(path) else {
             return Ok(None);
         };
-        let alloc = self.disk.alloc;
-        let bytes = match read_front(self.disk.rt, alloc, name, MOST_BYTES + 1) {
+        let alloc = self.files.alloc;
+        let bytes = match read_front(self.files.rt, alloc, name, MOST_BYTES + 1) {
             Ok(bytes) if bytes.len() > MOST_BYTES => return wrong(alloc, WrongFile::TooLarge, path),
             Ok(bytes) => bytes,
             Err(Unread::Folder) => return wrong(alloc, WrongFile::Folder, path),
@@ -84,7 +96,7 @@ impl<'a, R: Files> ConfigFiles for ConfigDisk<'a, R> {
             Err(Unread::Replaced) => return wrong(alloc, WrongFile::Replaced, path),
             Err(Unread::System(error)) => return refused(alloc, &error, path),
         };
-        match self.disk.real_path(path)? {
+        match self.files.real_path(path)? {
             Some(real_path) => Ok(Some(FoundFile { bytes, real_path })),
             // (it was removed since)
             None => Ok(None),
