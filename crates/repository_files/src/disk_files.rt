@@ -102,7 +102,10 @@ impl<'a, R: Files> FileSystem for DiskFiles<'a, R> {
 
     fn is_ours(&self, path: &[u8]) -> Result<bool, AllocError> {
         let user = self.user;
-        Ok(self.standing(path)?.is_some_and(|there| user.owns(there.uid())))
+        Ok(
+            self.standing(path)?
+                .is_some_and(|there| user.owns(there.uid())),
+        )
     }
 
     /// 0 where nothing can be looked at.
