@@ -14,11 +14,23 @@ pub enum Folding {
     Exact,
 }
 
-/// How a match goes. A [`super::Mode`] asks for one, and never for exact folding.
+/// How a match goes: whether a wildcard matches a slash, and how case is folded. A [`super::Mode`] asks for one of the first four.
+///
+/// It is one enum rather than a bit beside a [`Folding`]: a struct of two fields would take two registers in every call.
 #[derive(Debug, Copy, Clone, Eq, PartialEq)]
-pub struct Way {
-    path: bool,
-    folding: Folding,
+pub enum Way {
+    /// A wildcard matches a slash too, and case counts.
+    Plain,
+    /// No wildcard matches a slash, and case counts.
+    Path,
+    /// A wildcard matches a slash too, and case doesn't count.
+    FoldedPlain,
+    /// No wildcard matches a slash, and case doesn't count.
+    FoldedPath,
+    /// A wildcard matches a slash too, and folding is exact.
+    ExactPlain,
+    /// No wildcard matches a slash, and folding is exact.
+    ExactPath,
 }
 
 /// Whether one byte is a small letter, and the other its capital.
@@ -31,14 +43,21 @@ fn is_small_of(small: u8, capital: u8) -> bool
 }
 
 impl Way {
-    ghost use Rattle.glob_matcher.specs.Bytes.{is_path, folds, is_exact, fold, fold_inner, is_dead};
+    ghost use Rattle.glob_matcher.specs.Bytes.{is_path, folding, folds, is_exact, fold, fold_inner, is_dead, way_with};
 
     /// A way: whether no wildcard matches a slash, and how case is folded.
     #[inline(always)]
     pub fn new(path: bool, folding: Folding) -> Way
-        ensures { result ≡ record { path = path; folding = folding } }
+        ensures { result ≡ way_with path folding }
     {
-        Way { path, folding }
+        match (folding, path) {
+            (Folding::Off, false) => Way::Plain,
+            (Folding::Off, true) => Way::Path,
+            (Folding::Both, false) => Way::FoldedPlain,
+            (Folding::Both, true) => Way::FoldedPath,
+            (Folding::Exact, false) => Way::ExactPlain,
+            (Folding::Exact, true) => Way::ExactPath,
+        }
     }
 
     /// Whether a wildcard matches no slash.
@@ -46,17 +65,18 @@ impl Way {
     pub fn is_path(self) -> bool
         ensures { result ≡ is_path self }
     {
-        self.path
+        matches!(self, Way::Path | Way::FoldedPath | Way::ExactPath)
     }
 
     /// The same way in plain mode, where a wildcard matches a slash too.
     #[inline(always)]
     pub fn in_plain_mode(self) -> Way
-        ensures { result ≡ record { path = false; folding = self.folding } }
+        ensures { result ≡ way_with false (folding self) }
     {
-        Way {
-            path: false,
-            folding: self.folding,
+        match self {
+            Way::Plain | Way::Path => Way::Plain,
+            Way::FoldedPlain | Way::FoldedPath => Way::FoldedPlain,
+            Way::ExactPlain | Way::ExactPath => Way::ExactPlain,
         }
     }
 
@@ -65,9 +85,9 @@ impl Way {
     pub(crate) fn folds(self) -> bool
         ensures { result ≡ folds self }
     {
-        match self.folding {
-            Folding::Off => false,
-            Folding::Both | Folding::Exact => true,
+        match self {
+            Way::Plain | Way::Path => false,
+            Way::FoldedPlain | Way::FoldedPath | Way::ExactPlain | Way::ExactPath => true,
         }
     }
 
@@ -76,10 +96,7 @@ impl Way {
     pub(crate) fn is_exact(self) -> bool
         ensures { result ≡ is_exact self }
     {
-        match self.folding {
-            Folding::Off | Folding::Both => false,
-            Folding::Exact => true,
-        }
+        matches!(self, Way::ExactPlain | Way::ExactPath)
     }
 
     /// Whether two bytes are equal, after folding where the way asks for it.

@@ -17,7 +17,7 @@ use super::view::PatternView;
 use super::{Case, Mode, Pattern};
 use bitflags::Flags;
 use glob_matcher::wildmatch;
-use glob_matcher::wildmatch::{CountedTexts, Counts, Folding, Texts, Way, text_is_short};
+use glob_matcher::wildmatch::{CountedTexts, Counts, Texts, Way, text_is_short};
 use std::marker::Brand;
 use std::sync::ledger::{Blank, Ledger};
 
@@ -25,11 +25,10 @@ use std::sync::ledger::{Blank, Ledger};
 fn git_way(case: Case) -> Way
     ensures { result ≡ git_way case }
 {
-    let folding = match case {
-        Case::Sensitive => Folding::Off,
-        Case::Fold => Folding::Exact,
-    };
-    Way::new(true, folding)
+    match case {
+        Case::Sensitive => Way::Path,
+        Case::Fold => Way::ExactPath,
+    }
 }
 
 impl Pattern {
