@@ -5,7 +5,7 @@ ghost use Rattle.std.specs.Option.{ForSome};
 ghost use Rattle.glob_matcher.specs.declared.wildmatch.way.Way.{Way};
 ghost use Rattle.glob_matcher.specs.Matching.{SplitsBy};
 ghost use Rattle.glob_matcher.specs.Private.Takes.{Takes};
-ghost use Rattle.glob_matcher.specs.Steps.{IsBlankOf, NeverFall, step_limit};
+ghost use Rattle.glob_matcher.specs.Steps.{IsBlankOf, NeverFall, look_limit, step_limit};
 ghost use Rattle.glob_patterns.specs.GitPaths.{AnswersAsGit, FrontAndRest, git_way};
 ghost use Rattle.glob_patterns.specs.PatternLimits.{pattern_look_limit};
 ghost use Rattle.glob_patterns.specs.Patterns.{IsPattern, looks_at_name};
@@ -31,6 +31,23 @@ fn git_way(case: Case) -> Way
         Case::Sensitive => Way::Path,
         Case::Fold => Way::ExactPath,
     }
+}
+
+/// Whether the rest of a text matches the rest of a value, as [`wildmatch::marked`] answers it. It is not inlined: few values begin as a front
+/// does, and the others don't pay for the registers of the match.
+#[inline(never)]
+fn decide_rest<S: Ledger, L: Ledger>(
+    text: &[u8],
+    value: &[u8],
+    way: Way,
+    counts: &mut Counts<S, L>,
+) -> bool
+    ensures exact { IsTrue result ↔ SplitsBy value.now text.now way }
+    ensures limit { counts.new.steps ≤ counts.old.steps + step_limit (length text.now) (length value.now) }
+    ensures looks { counts.new.looks ≤ counts.old.looks + look_limit (length text.now) (length value.now) }
+    ensures grows { NeverFall counts.old counts.new }
+{
+    wildmatch::marked(text, value, way, counts)
 }
 
 impl Pattern {
@@ -192,9 +209,8 @@ impl<'a> PatternView<'a> {
         }
     }
 
-    /// Whether the value begins as the literal front of the text does, up to its end, and the rest of the text matches what follows. It is
-    /// not inlined, so that a text that is matched as a whole doesn't pay for its registers.
-    #[inline(never)]
+    /// Whether the value begins as the literal front of the text does, up to its end, and the rest of the text matches what follows.
+    #[inline(always)]
     fn decide_by_front<S: Ledger, L: Ledger>(
         self,
         value: &[u8],
@@ -217,7 +233,7 @@ impl<'a> PatternView<'a> {
         if !begins {
             return false;
         }
-        wildmatch::marked(&self.text[front_end..], &value[front_end..], way, counts)
+        decide_rest(&self.text[front_end..], &value[front_end..], way, counts)
     }
 
     /// Whether the value begins with the bytes of the text before a place, and the counts of what that took.

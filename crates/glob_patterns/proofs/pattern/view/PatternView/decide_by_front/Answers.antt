@@ -19,7 +19,7 @@ pub returns-clause-exact : goal.returns-clause-exact
 returns-clause-exact g c = λ lawful.
     let first : first_special c.args.self.text.now ≡ Some c.args.front_end = sym lawful.placed ∙ c.requires.first in
     let begins = c.front_compared-begins.ensures.exact.0 c.if-not-begins.false in
-    let rest : _ ↔ SplitsBy (drop c.args.front_end c.args.value.now) (drop c.args.front_end c.args.self.text.now) c.args.way = rw (take_rest, take_rest) at c.marked.ensures.exact in (
+    let rest : _ ↔ SplitsBy (drop c.args.front_end c.args.value.now) (drop c.args.front_end c.args.self.text.now) c.args.way = rw (take_rest, take_rest) at c.decide_rest.ensures.exact in (
       λ yes. front_joined _ _ _ c.args.front_end first begins (rest.0 yes),
       λ h. rest.1 (front_cut _ _ _ c.args.front_end first h).1,
     )
@@ -27,9 +27,9 @@ returns-clause-exact g c = λ lawful.
 pub returns-clause-steps : goal.returns-clause-steps
 returns-clause-steps g c =
     let taken : c.front_compared-begins.result.1.now.steps ≤ c.args.counts.now.steps + 0 = omega (arith, c.front_compared-begins.ensures.count.steps) in
-    let within = within_both _ _ _ _ _ _ taken c.marked.ensures.limit (steps_behind _ _ _ _ (length-from c.args.self.text.now c.args.front_end) (length-from c.args.value.now c.args.front_end)) in search (rules, within)
+    let within = within_both _ _ _ _ _ _ taken c.decide_rest.ensures.limit (steps_behind _ _ _ _ (length-from c.args.self.text.now c.args.front_end) (length-from c.args.value.now c.args.front_end)) in search (rules, within)
 
 pub returns-clause-looks : goal.returns-clause-looks
 returns-clause-looks g c =
-    let within = within_both _ _ _ _ _ _ c.front_compared-begins.ensures.count.looks c.marked.ensures.looks
+    let within = within_both _ _ _ _ _ _ c.front_compared-begins.ensures.count.looks c.decide_rest.ensures.looks
     (looks_behind _ _ _ _ (length-from c.args.self.text.now c.args.front_end) (length-from c.args.value.now c.args.front_end)) in search (rules, within)
