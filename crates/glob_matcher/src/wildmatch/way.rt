@@ -86,10 +86,7 @@ impl Way {
     pub(crate) fn folds(self) -> bool
         ensures { result ≡ folds self }
     {
-        match self {
-            Way::Plain | Way::Path => false,
-            Way::FoldedPlain | Way::FoldedPath | Way::ExactPlain | Way::ExactPath => true,
-        }
+        self as u8 & 6 != 0
     }
 
     /// Whether folding is exact.
@@ -97,7 +94,7 @@ impl Way {
     pub(crate) fn is_exact(self) -> bool
         ensures { result ≡ is_exact self }
     {
-        self as u8 >= Way::ExactPlain as u8
+        self as u8 & 4 != 0
     }
 
     /// Whether two bytes are equal, after folding where the way asks for it.
