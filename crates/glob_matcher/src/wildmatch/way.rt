@@ -16,7 +16,8 @@ pub enum Folding {
 
 /// How a match goes: whether a wildcard matches a slash, and how case is folded. A [`super::Mode`] asks for one of the first four.
 ///
-/// It is one enum rather than a bit beside a [`Folding`]: a struct of two fields would take two registers in every call.
+/// It is one enum rather than a bit beside a [`Folding`]: a struct of two fields would take two registers in every call. The ways stand
+/// in an order in which each question is one mask: the odd ones are those of path mode, and the last two fold exactly.
 #[derive(Debug, Copy, Clone, Eq, PartialEq)]
 pub enum Way {
     /// A wildcard matches a slash too, and case counts.
@@ -65,7 +66,7 @@ impl Way {
     pub fn is_path(self) -> bool
         ensures { result ≡ is_path self }
     {
-        // the ways of path mode are the odd ones: a `match` would make a table of jumps of it
+        // a `match` would become a table of jumps
         self as u8 & 1 == 1
     }
 
@@ -86,6 +87,7 @@ impl Way {
     pub(crate) fn folds(self) -> bool
         ensures { result ≡ folds self }
     {
+        // all but the first two; a mask is merged with those of a mode's bits, and a comparison isn't
         self as u8 & 6 != 0
     }
 

@@ -1,4 +1,4 @@
--- A part of a path takes no more than the whole path may.
+-- A text whose front is not compared apart is matched as a whole; and a part of a path takes no more than the whole path may.
 use Rattle.std.proofs.Common.{rules, ◌≡◌, ◌↔◌, ⊎_elim, true, false, not, IsTrue, Some, length, drop, sym, ap, subst, ◌∙◌}
 use Rattle.std.proofs.lemmas.Bool.{cases_Bool, false≢true}
 use Rattle.std.proofs.lemmas.List.{take_rest}

@@ -1,11 +1,10 @@
 -- The front is compared by itself, and the rest is matched.
-use Rattle.std.proofs.Common.{rules, ◌≡◌, ◌↔◌, ◌+◌, ◌≤◌, Some, drop, sym, ap, ◌∙◌, arith}
+use Rattle.std.proofs.Common.{rules, ◌≡◌, ◌↔◌, ◌+◌, ◌≤◌, Some, drop, sym, ◌∙◌, arith}
 use Rattle.std.proofs.lemmas.Bool.{false≢true}
 use Rattle.std.proofs.lemmas.List.{take_rest}
 use Rattle.glob_matcher.specs.Matching.{SplitsBy}
-use Rattle.glob_patterns.specs.GitPaths.{FrontAndRest}
 use Rattle.glob_patterns.specs.Patterns.{first_special}
-use Rattle.glob_patterns.proofs.lemmas.FrontLemmas.{front_all, front_cut, front_inside, front_joined, front_none}
+use Rattle.glob_patterns.proofs.lemmas.FrontLemmas.{front_cut, front_joined}
 use Rattle.glob_patterns.proofs.lemmas.PathLimits.{length-from, looks_behind, steps_behind, within_both}
 use Rattle.glob_patterns.proofs.pattern.view.PatternView.decide_by_front.Goals as goal
 

@@ -1,5 +1,5 @@
 -- Where no front is compared apart, it is empty, or all.
-use Rattle.std.proofs.Common.{◌≡◌, Some, sym, ap, ◌∙◌, arith}
+use Rattle.std.proofs.Common.{Some, sym, ap, ◌∙◌, arith}
 use Rattle.glob_patterns.proofs.lemmas.FrontLemmas.{front_all, front_none}
 use Rattle.glob_patterns.proofs.pattern.view.PatternView.front_apart.Goals as goal
 
