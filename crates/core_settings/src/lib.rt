@@ -10,5 +10,6 @@ mod user_files;
 mod values;
 
 pub use fault::{CoreFault, SourcesFault, WrongPairs};
+pub use paths::told_path;
 pub use sources::{ConfigPlaces, ConfigSource, ConfigSources, Pair, config_sources};
-pub use values::{CoreSettings, core_settings};
+pub use values::{CoreSettings, core_settings, key_of};

@@ -11,8 +11,11 @@ use crate::user_files::below_home;
 use git_config::{ConfigPath, Surroundings, config_path};
 use std::alloc::{AllocError, Global};
 
-/// The path that a value says, where the folder is known that it begins with.
-pub(crate) fn told_path(
+/// The path that a value says, where the folder is known that it begins with; `around.home` is `HOME`.
+///
+/// # Errors
+/// Only where memory was refused.
+pub fn told_path(
     alloc: Global,
     around: &Surroundings,
     value: &[u8],

@@ -153,8 +153,11 @@ fn file_of(alloc: Global, setting: &ReadSetting) -> Result<Option<Vec<u8>>, Allo
     }
 }
 
-/// The key of an entry: a byte 0 ends it.
-fn key_of(alloc: Global, setting: &ReadSetting) -> Result<Vec<u8>, AllocError>
+/// The key of an entry: what stands before the first byte 0 of its section and name.
+///
+/// # Errors
+/// Only where memory was refused.
+pub fn key_of(alloc: Global, setting: &ReadSetting) -> Result<Vec<u8>, AllocError>
     ensures { IfOk result (λ key. key.items ≡ key_of (seen_setting setting.now)) }
 {
     let whole = joined(alloc, &setting.section, &setting.entry.name)?;
