@@ -131,12 +131,15 @@ format_checked settings = elim (format_fault (version_of settings) (extensions_o
 -- ---- the files themselves
 
 module _ (Shows : List ℕ → Option (FoundFile (List ℕ)) → Type 0) (words : Environment (List ℕ)) where
-  abbrev pub WorktreeAlone : Bool → Folders (List ℕ) → Answer (List Seen)
-  WorktreeAlone false folders = is (Ok [])
-  WorktreeAlone true folders = do
+  abbrev pub WorktreeChecked : Folders (List ℕ) → Answer (List Seen)
+  WorktreeChecked folders = do
     own ← FileAlone Shows (file_path words folders file.WorktreeConfig)
     _ ← is (checked false own)
     is (Ok own)
+
+  abbrev pub WorktreeAlone : Bool → Folders (List ℕ) → Answer (List Seen)
+  WorktreeAlone false folders = is (Ok [])
+  WorktreeAlone true folders = WorktreeChecked folders
 
   -- `config`, and with its leave `config.worktree`, say by themselves how the repository is read
   abbrev pub OwnSettings : Folders (List ℕ) → Answer (Settings (List ℕ))

@@ -7,8 +7,6 @@ use Rattle.git_repository.specs.GitFolders.{real_path_of, told_from}
 use Rattle.git_repository.specs.Naming.{exclude_name}
 use Rattle.git_repository.specs.Search.{Finds}
 use Rattle.git_repository.specs.declared.fault.FindFault.{FindFault}
-use Rattle.git_repository.specs.declared.fault.FindFault.TheVariants.{At}
-use Rattle.git_repository.specs.declared.fault.Wrong.TheVariants.{Bare, Owner}
 use Rattle.git_repository.specs.declared.folders.Folders.{Folders}
 use Rattle.git_repository.specs.declared.folders.RepositoryFile.TheVariants as file
 use Rattle.git_repository.specs.declared.found.Found.{Found}
@@ -17,14 +15,16 @@ use Rattle.core_settings.specs.declared.fault.CoreFault.{CoreFault}
 use Rattle.core_settings.specs.declared.sources.ConfigPlaces.{ConfigPlaces}
 use Rattle.core_settings.specs.declared.values.CoreSettings.{CoreSettings}
 use Rattle.core_settings.specs.Values.{core_of}
-use Rattle.opened_repository.specs.declared.fault.RepositoryFault.TheVariants.{Find, NoWorkTree, Value}
+use Rattle.opened_repository.specs.declared.fault.RepositoryFault.TheVariants.{NoWorkTree, Value}
 use Rattle.opened_repository.specs.declared.opened.Opened.{Opened}
+use Rattle.opened_repository.specs.declared.trusted.SafeSetting.{SafeSetting}
+use Rattle.opened_repository.specs.declared.trusted.SafeSetting.TheVariants.{BareRepository, Directory}
 use Rattle.opened_repository.specs.Alone.{OwnSettings}
 use Rattle.opened_repository.specs.Answers.{Answer, Asked, Fault, In, is, is', ◌>>=◌}
 use Rattle.opened_repository.specs.Heads.{branch_of}
 use Rattle.opened_repository.specs.Readings.{Files, Known, Reads, listed_by, nothing_known}
 use Rattle.opened_repository.specs.Results.{Said}
-use Rattle.opened_repository.specs.Safe.{bare_refused, paths_of}
+use Rattle.opened_repository.specs.Safe.{bare_refused, paths_of, setting_for}
 
 -- a path that isn't absolute is told from the top of the work tree
 abbrev pub told_in : Option (List ℕ) → List ℕ → List ℕ
@@ -74,22 +74,34 @@ module _ (tree : FileTree) (Shows : Files) (said : Said) where
   abbrev pub FindsBy : List (List ℕ) → Bool → Answer (Found (List ℕ))
   FindsBy directories refused = In (Finds tree said.environment (record { directories = directories; bare_is_refused = refused }) said.current)
 
-  abbrev pub AsksBare : Result (Found (List ℕ)) Fault → Answer (Found (List ℕ))
-  AsksBare (Err (Find (At Bare path))) = do
+  abbrev pub BareAsked : Answer (Found (List ℕ))
+  BareAsked = do
     settings ← Trusted Shows said
     refused ← is (bare_refused false (settings_of (codes "safe.barerepository") settings))
     FindsBy [] refused
-  AsksBare first = is first
 
-  abbrev pub AsksOwner : Result (Found (List ℕ)) Fault → Answer (Found (List ℕ))
-  AsksOwner (Err (Find (At Owner path))) = do
+  abbrev pub OwnerAsked : Answer (Found (List ℕ))
+  OwnerAsked = do
     settings ← Trusted Shows said
     directories ← is (paths_of said.around (settings_of (codes "safe.directory") settings))
     FindsBy directories false
-  AsksOwner first = is first
+
+  -- what is asked, by the setting for which a repository was refused
+  abbrev pub BareIf : Option SafeSetting → Result (Found (List ℕ)) Fault → Answer (Found (List ℕ))
+  BareIf (Some BareRepository) first = BareAsked
+  BareIf (Some Directory) first = is first
+  BareIf None first = is first
+
+  abbrev pub OwnerIf : Option SafeSetting → Result (Found (List ℕ)) Fault → Answer (Found (List ℕ))
+  OwnerIf (Some Directory) first = OwnerAsked
+  OwnerIf (Some BareRepository) first = is first
+  OwnerIf None first = is first
+
+  abbrev pub FindsOurs : Answer (Found (List ℕ))
+  FindsOurs = Asked (FindsBy [] true) (λ first. BareIf (setting_for first) first)
 
   abbrev pub FindsTrusted : Answer (Found (List ℕ))
-  FindsTrusted = Asked (Asked (FindsBy [] true) AsksBare) AsksOwner
+  FindsTrusted = Asked FindsOurs (λ first. OwnerIf (setting_for first) first)
 
   -- ---- all files and words
 
@@ -110,6 +122,9 @@ module _ (tree : FileTree) (Shows : Files) (said : Said) where
     Reads Shows said.around known (listed_by (inner folders own) said.pairs said.words)
 
   -- ---- what comes of them
+
+  abbrev pub FoldersOf : Found (List ℕ) → Answer (Folders (List ℕ))
+  FoldersOf found = In (is' (folders_of tree said.environment found))
 
   abbrev pub TopOf : Found (List ℕ) → Settings (List ℕ) → Answer (Option (List ℕ))
   TopOf found own = In (is' (work_tree_of tree said.environment own found))
@@ -149,6 +164,6 @@ module _ (tree : FileTree) (Shows : Files) (said : Said) where
   Opens = do
     _ ← Outer Shows said
     found ← FindsTrusted
-    folders ← In (is' (folders_of tree said.environment found))
+    folders ← FoldersOf found
     own ← OwnSettings Shows said.environment folders
     OpensFound found folders own

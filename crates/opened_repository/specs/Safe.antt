@@ -3,10 +3,29 @@ use Rattle.std.specs.Prelude.{ℕ, Bool, true, false, if◌then◌else◌, List,
 use Rattle.std.specs.Str.{bytes_eq}
 use Rattle.git_config.specs.declared.surroundings.Surroundings.{Surroundings}
 use Rattle.git_config.specs.Configuration.{Seen}
+use Rattle.git_repository.specs.declared.fault.FindFault.TheVariants.{At}
+use Rattle.git_repository.specs.declared.fault.Wrong.{Wrong}
+use Rattle.git_repository.specs.declared.fault.Wrong.TheVariants.{Bare, Owner}
 use Rattle.core_settings.specs.declared.fault.CoreFault.TheVariants.{NoFolder}
 use Rattle.core_settings.specs.Values.{told_path}
-use Rattle.opened_repository.specs.declared.fault.RepositoryFault.TheVariants.{BareValue, Value}
+use Rattle.opened_repository.specs.declared.fault.RepositoryFault.TheVariants.{BareValue, Find, Value}
+use Rattle.opened_repository.specs.declared.trusted.SafeSetting.{SafeSetting}
+use Rattle.opened_repository.specs.declared.trusted.SafeSetting.TheVariants.{BareRepository, Directory}
 use Rattle.opened_repository.specs.Answers.{Fault, bytes_of}
+
+-- the setting that is asked where a repository was refused
+abbrev pub setting_of : Wrong → Option SafeSetting
+setting_of Bare = Some BareRepository
+setting_of Owner = Some Directory
+setting_of _ = None
+
+abbrev pub setting_by : Fault → Option SafeSetting
+setting_by (Find (At wrong path)) = setting_of wrong
+setting_by _ = None
+
+abbrev pub setting_for : {A : Type 0} → Result A Fault → Option SafeSetting
+setting_for (Ok found) = None
+setting_for (Err fault) = setting_by fault
 
 -- the path that a value of `safe.directory` says, where the folder is known that it begins with
 abbrev pub path_of : Surroundings → Seen → Result (List ℕ) Fault

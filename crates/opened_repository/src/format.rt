@@ -58,7 +58,11 @@ fn version_of(config: &Config) -> Option<u32>
 fn natural_of(number: i32) -> Option<u32>
     ensures { result ≡ natural_of number }
 {
-    if number < 0 { None } else { Some(number as u32) }
+    if number < 0 {
+        None
+    } else {
+        Some(number as u32)
+    }
 }
 
 /// The names of the extensions.
@@ -102,10 +106,7 @@ pub(crate) fn check_read_format<F>(alloc: Global, config: &Config) -> Result<(),
 }
 
 /// A fault that holds its name.
-fn owned_fault(
-    alloc: Global,
-    fault: FormatFault<&[u8]>,
-) -> Result<FormatFault<Vec<u8>>, AllocError>
+fn owned_fault(alloc: Global, fault: FormatFault<&[u8]>) -> Result<FormatFault<Vec<u8>>, AllocError>
     ensures { IfOk result (λ owned. format_fault_with vec_items owned ≡ format_fault_with (λ b. b.now) fault.entry) }
 {
     Ok(match fault {
@@ -123,11 +124,7 @@ pub(crate) fn has_worktree_config(config: &Config) -> bool
 }
 
 /// The value that counts of a key in two files, of which the second stands behind the first.
-fn last_of_both<'a>(
-    shared: &'a Config,
-    own: &'a Config,
-    key: &[u8],
-) -> Option<Option<&'a [u8]>>
+fn last_of_both<'a>(shared: &'a Config, own: &'a Config, key: &[u8]) -> Option<Option<&'a [u8]>>
     ensures { option_map (λ value. option_copied value) result ≡ last_of_both key.now (seen_settings shared.now) (seen_settings own.now) }
 {
     match last_value(own, key) {

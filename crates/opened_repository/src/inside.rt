@@ -85,10 +85,7 @@ fn real_path_of<S: FileSystem>(
 {
     match source.real_path(path)? {
         Some(real) => Ok(real),
-        None => Err(FindFault::At(
-            Wrong::LeadsNowhere,
-            Vec::from_slice(alloc, path)?,
-        )),
+        None => Err(FindFault::At(Wrong::LeadsNowhere, Vec::from_slice(alloc, path)?)),
     }
 }
 

@@ -1,20 +1,23 @@
 //! Opening the repository of a current folder.
 ghost use Rattle.std.specs.Prelude.{◌≡◌, option_map, IfOk};
 ghost use Rattle.std.specs.Vec.{vec_items};
+ghost use Rattle.core_settings.specs.Values.{core_of};
+ghost use Rattle.core_settings.specs.Views.{seen_settings};
+ghost use Rattle.core_settings.specs.Views as core_views;
 ghost use Rattle.git_repository.specs.Answers.{found_with};
 ghost use Rattle.git_repository.specs.Folders.{file_path, folders_with, settings_with};
 ghost use Rattle.git_repository.specs.declared.folders.RepositoryFile.TheVariants as file;
 ghost use Rattle.opened_repository.specs.Answers.{Tells, is};
-ghost use Rattle.opened_repository.specs.Opening.{NameFrom, NameOf, Opens, OpensFound, TopOf, has_top, index_at, told_in, top_checked};
+ghost use Rattle.opened_repository.specs.Opening.{FoldersOf, NameFrom, NameOf, Opens, OpensFound, TopOf, core_told, has_top, index_at, told_in, top_checked};
 ghost use Rattle.opened_repository.specs.Results.{opened_of, said_of};
 
 use crate::fault::{OpenFault, RepositoryFault};
-use crate::opened::Opened;
 use crate::inside::{read_all, told_from};
+use crate::opened::Opened;
 use crate::own::{lent, read_own};
 use crate::told::Told;
 use crate::trusted::{find_trusted, read_outer};
-use core_settings::core_settings;
+use core_settings::{CoreSettings, core_settings};
 use git_config::{Config, ConfigFiles};
 use git_repository::{
     FileSystem, Folders, Found, RepositoryFile, Settings, exclude_name, file_path, folders_of,
@@ -37,7 +40,7 @@ pub fn open<S: FileSystem + ConfigFiles>(
 {
     read_outer(alloc, source, told)?;
     let found = find_trusted(alloc, source, told)?;
-    let folders = folders_of(alloc, source, &told.environment, &found)?;
+    let folders = folders(alloc, source, told, &found)?;
     let own = read_own(alloc, source, &told.environment, &folders)?;
     open_found(alloc, source, told, found, folders, &own)
 }
@@ -56,7 +59,7 @@ fn open_found<S: FileSystem + ConfigFiles>(
     let top = work_tree(alloc, source, told, own, &found)?;
     let config = read_all(alloc, source, told, &folders, own.has_worktree_config)?;
     check_top(source, told.needs_work_tree, &top)?;
-    let core = core_settings(alloc, &config, told.around, told.places.config_home)?;
+    let core = core(alloc, told, &config)?;
     let exclude_name = name_of(alloc, source, told, &found, own, &top)?;
     let environment = &told.environment;
     Ok(Opened {
@@ -73,6 +76,29 @@ fn open_found<S: FileSystem + ConfigFiles>(
         config,
         core,
     })
+}
+
+/// The folders of the repository that was found.
+fn folders<S: FileSystem + ConfigFiles>(
+    alloc: Global,
+    source: &S,
+    told: &Told<'_>,
+    found: &Found<Vec<u8>>,
+) -> Result<Folders<Vec<u8>>, OpenFault<S::Fault>>
+    ensures { Tells (S.is_known source.now) (folders_with vec_items) result (FoldersOf (S.tree source.now) (S.shows source.now) (said_of told.now) (found_with vec_items found.now)) }
+{
+    Ok(folders_of(alloc, source, &told.environment, found)?)
+}
+
+/// What the section `core` sets.
+fn core<F>(
+    alloc: Global,
+    told: &Told<'_>,
+    config: &Config,
+) -> Result<CoreSettings<Vec<u8>>, OpenFault<F>>
+    ensures { Tells (Unit {0}) (core_views.settings_with vec_items) result (is (core_told (core_of (said_of told.now).around (said_of told.now).places.config_home (seen_settings config.now)))) }
+{
+    Ok(core_settings(alloc, config, told.around, told.places.config_home)?)
 }
 
 /// The top of the work tree.
@@ -141,15 +167,7 @@ fn name_from<S: FileSystem + ConfigFiles>(
     ensures { Tells (S.is_known source.now) vec_items result (NameFrom (S.tree source.now) (S.shows source.now) (said_of told.now) (found_with vec_items found.now) (settings_with vec_items own.now) top.now) }
 {
     let (environment, current) = (&told.environment, told.current);
-    Ok(exclude_name(
-        alloc,
-        source,
-        environment,
-        &lent(own),
-        found,
-        current,
-        top,
-    )?)
+    Ok(exclude_name(alloc, source, environment, &lent(own), found, current, top)?)
 }
 
 /// A file that the configuration sets, from the top of the work tree.

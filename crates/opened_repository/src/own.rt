@@ -4,7 +4,7 @@ ghost use Rattle.std.specs.Vec.{vec_items};
 ghost use Rattle.core_settings.specs.Views.{seen_settings};
 ghost use Rattle.git_repository.specs.Environments.{environment_with};
 ghost use Rattle.git_repository.specs.Folders.{file_path, folders_with, settings_with};
-ghost use Rattle.opened_repository.specs.Alone.{FileAlone, OwnSettings, WorktreeAlone};
+ghost use Rattle.opened_repository.specs.Alone.{FileAlone, OwnSettings, WorktreeAlone, WorktreeChecked};
 ghost use Rattle.opened_repository.specs.Answers.{Tells};
 
 use crate::alone::read_alone;
@@ -56,11 +56,23 @@ fn read_worktree<F: ConfigFiles>(
 ) -> Result<Config, OpenFault<F::Fault>>
     ensures { Tells (Unit {0}) seen_settings result (WorktreeAlone (F.shows files.now) (environment_with (λ b. b.now) environment.now) counts (folders_with vec_items folders.now)) }
 {
-    if !counts {
-        return Ok(Config {
-            settings: Vec::new(alloc),
-        });
+    if counts {
+        return read_checked(alloc, files, environment, folders);
     }
+    Ok(Config {
+        settings: Vec::new(alloc),
+    })
+}
+
+/// The entries of the file `config.worktree` by itself, of which none is wrong.
+fn read_checked<F: ConfigFiles>(
+    alloc: Global,
+    files: &F,
+    environment: &Environment<&[u8]>,
+    folders: &Folders<Vec<u8>>,
+) -> Result<Config, OpenFault<F::Fault>>
+    ensures { Tells (Unit {0}) seen_settings result (WorktreeChecked (F.shows files.now) (environment_with (λ b. b.now) environment.now) (folders_with vec_items folders.now)) }
+{
     let file = RepositoryFile::WorktreeConfig;
     let own = read_file(alloc, files, environment, folders, file)?;
     check_values(alloc, false, &own)?;
