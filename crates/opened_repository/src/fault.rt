@@ -2,13 +2,10 @@
 ghost use Rattle.std.specs.Prelude.{◌≡◌};
 ghost use Rattle.opened_repository.specs.Faults.{of_core, of_find, of_read};
 
-use bstr::BStr;
 use core_settings::{CoreFault, SourcesFault};
 use git_config::{ReadFault, SettingFault, WrongSetting};
 use git_repository::{FindFault, FormatFault};
 use std::alloc::{AllocError, AllocFailed};
-use std::error::Error;
-use std::fmt;
 use std::rc::Rc;
 
 /// What is wrong with a repository, or with what is told of it. `S` holds bytes that many entries share, and `B` bytes.

@@ -16,6 +16,7 @@ mod told;
 mod trusted;
 mod urls;
 mod values;
+mod words;
 
 pub use fault::{OpenFault, RepositoryFault};
 pub use opened::Opened;
