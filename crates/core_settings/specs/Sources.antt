@@ -1,5 +1,5 @@
 -- Which files and words Git's configuration is read from, in order.
-use Rattle.std.specs.Prelude.{ℕ, ◌-◌, ◌^◌, ◌%◌, Bool, true, false, not, ◌||◌, ◌==◌, nat_lt, if◌then◌else◌, List, [], ◌∷◌, ◌++◌, length, map, take, codes, Option, Some, None, is_none, is_some, option_map, Result, Ok, Err}
+use Rattle.std.specs.Prelude.{ℕ, ◌-◌, ◌^◌, ◌%◌, Bool, false, not, ◌||◌, ◌==◌, nat_lt, if◌then◌else◌, List, [], ◌∷◌, ◌++◌, length, map, take, codes, Option, Some, None, is_some, option_map, Result, Ok, Err}
 use Rattle.std.specs.Char.{is_digit}
 use Rattle.std.specs.List.{before_first, list_all, take_while}
 use Rattle.std.specs.Option.{option_or, option_to_list}
@@ -55,13 +55,9 @@ number_of (b ∷ text) =
     if length digits == 0 || not (list_all (λ d. is_digit d 10) digits) then None else Some (counted (is_negative (b ∷ text)) (digits_value 10 digits))
 
 -- how many pairs are told
-abbrev pub if_few : Option ℕ → Result ℕ WrongPairs
-if_few None = Err Count
-if_few (Some n) = if nat_lt n (2 ^ 31) then Ok n else Err TooMany
-
 abbrev pub pair_count : Option (List ℕ) → Result ℕ WrongPairs
 pair_count None = Ok 0
-pair_count (Some text) = if_few (number_of text)
+pair_count (Some text) = elim (number_of text) [ None ↦ Err Count | Some n ↦ if nat_lt n (2 ^ 31) then Ok n else Err TooMany ]
 
 -- those of so many pairs that are read: up to one without a value
 abbrev pub read_pairs : ℕ → List (Pair (List ℕ)) → List (Pair (List ℕ))
@@ -83,7 +79,7 @@ pairs_fault (Ok n) pairs =
 
 -- ---- all of them
 
--- a word of the command line
+-- the words of the command line, if nothing is wrong before them
 abbrev pub word_of : List ℕ → ConfigSource (List ℕ)
 word_of word = Word (before_first is_equals word) (value_of_word word)
 
@@ -91,19 +87,19 @@ abbrev pub words_behind : Option WrongPairs → List (List ℕ) → Sources
 words_behind (Some wrong) words = []
 words_behind None words = map word_of words
 
-abbrev pub sources_by : Option Bool → Places → List (Pair (List ℕ)) → List (List ℕ) → Sources
-sources_by None places pairs words = []
-sources_by (Some lacks) places pairs words =
-    map (λ path. File path) (files_of lacks places) ++ (pair_words (pair_count places.count) pairs ++ words_behind (pairs_fault (pair_count places.count) pairs) words)
-
 -- the sources, up to a fault
 abbrev pub sources_of : Places → List (Pair (List ℕ)) → List (List ℕ) → Sources
-sources_of places pairs words = sources_by (lacks_system places.no_system) places pairs words
+sources_of places pairs words =
+    let count = pair_count places.count in
+    elim (lacks_system places.no_system) [
+      | None ↦ []
+      | Some lacks ↦ map (λ path. File path) (files_of lacks places) ++ (pair_words count pairs ++ words_behind (pairs_fault count pairs) words)
+    ]
 
 -- and the fault behind them
-abbrev pub fault_by : Option Bool → Places → List (Pair (List ℕ)) → Option (SourcesFault (List ℕ))
-fault_by None places pairs = option_map (λ value. NoSystem value) places.no_system
-fault_by (Some lacks) places pairs = option_map (λ wrong. Pairs wrong) (pairs_fault (pair_count places.count) pairs)
-
 abbrev pub sources_fault : Places → List (Pair (List ℕ)) → Option (SourcesFault (List ℕ))
-sources_fault places pairs = fault_by (lacks_system places.no_system) places pairs
+sources_fault places pairs =
+    elim (lacks_system places.no_system) [
+      | None ↦ option_map (λ value. NoSystem value) places.no_system
+      | Some lacks ↦ option_map (λ wrong. Pairs wrong) (pairs_fault (pair_count places.count) pairs)
+    ]

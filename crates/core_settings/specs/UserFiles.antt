@@ -14,11 +14,8 @@ settings_folder (Some []) home = below_home home (codes "/.config")
 settings_folder (Some (b ∷ folder)) home = Some (b ∷ folder)
 
 -- a path without the current folder in front: `./`, and the slashes behind it
-abbrev pub without_slashes : List ℕ → List ℕ
-without_slashes path = drop (position_or_len (λ b. not (is_slash b)) path) path
-
 abbrev pub without_dot : List ℕ → List ℕ
-without_dot path = if starts_with nat_eq path (codes "./") then without_slashes (drop 2 path) else path
+without_dot path = if starts_with nat_eq path (codes "./") then drop (position_or_len (λ b. not (is_slash b)) (drop 2 path)) (drop 2 path) else path
 
 -- a file of the settings
 abbrev pub settings_file : Option (List ℕ) → Option (List ℕ) → List ℕ → Option (List ℕ)

@@ -1,5 +1,5 @@
 -- What the section `core` sets of matching and printing, by the entries of a configuration.
-use Rattle.std.specs.Prelude.{ℕ, Bool, true, false, not, ◌==◌, if◌then◌else◌, List, [], ◌∷◌, length, map, codes, Option, Some, None, is_some, option_map, option_and_then, unwrap_or, Result, Ok, Err}
+use Rattle.std.specs.Prelude.{ℕ, Bool, true, false, ◌==◌, if◌then◌else◌, List, [], ◌∷◌, length, map, codes, Option, Some, None, is_some, option_map, option_and_then, unwrap_or, Result, Ok, Err}
 use Rattle.std.specs.List.{last_or, list_any}
 use Rattle.std.specs.Option.{option_or}
 use Rattle.std.specs.Str.{bytes_eq}
@@ -31,8 +31,7 @@ abbrev pub told_path : Surroundings → List ℕ → Option (List ℕ)
 told_path around value = expanded around (option_map vec_items around.home) value
 
 abbrev pub boolean_fault : List ℕ → Option (List ℕ) → Option Fault
-boolean_fault key None = None
-boolean_fault key (Some value) = if is_some (boolean_of (Some value)) then None else Some (Boolean key value)
+boolean_fault key value = if is_some (boolean_of value) then None else option_map (λ text. Boolean key text) value
 
 abbrev pub path_fault : Surroundings → Seen → Option (List ℕ) → Option Fault
 path_fault around s None = Some (NoPath (key_of s) s.file s.entry.line)

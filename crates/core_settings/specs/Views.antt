@@ -18,17 +18,18 @@ use Rattle.core_settings.specs.declared.sources.Pair.{Pair}
 use Rattle.core_settings.specs.declared.values.CoreSettings.{CoreSettings}
 
 abbrev pub places_with : {A B : Type 0} → (A → B) → ConfigPlaces A → ConfigPlaces B
-places_with see places = record {
-  home = option_map see places.home;
-  config_home = option_map see places.config_home;
-  no_system = option_map see places.no_system;
-  system = option_map see places.system;
-  installed = option_map see places.installed;
-  global = option_map see places.global;
-  repository = option_map see places.repository;
-  work_tree = option_map see places.work_tree;
-  count = option_map see places.count;
-}
+places_with see places =
+    record {
+      home = option_map see places.home;
+      config_home = option_map see places.config_home;
+      no_system = option_map see places.no_system;
+      system = option_map see places.system;
+      installed = option_map see places.installed;
+      global = option_map see places.global;
+      repository = option_map see places.repository;
+      work_tree = option_map see places.work_tree;
+      count = option_map see places.count;
+    }
 
 abbrev pub pair_with : {A B : Type 0} → (A → B) → Pair A → Pair B
 pair_with see pair = record { key = see pair.key; value = option_map see pair.value }

@@ -5,7 +5,7 @@ ghost use Rattle.std.specs.List.{list_all, starts_with};
 ghost use Rattle.std.specs.Option.{SomeIff, option_copied};
 ghost use Rattle.std.specs.Str.Parse.{digits_value};
 ghost use Rattle.git_config.specs.Numbers.{is_negative, is_solid, signed_of, unsigned_of};
-ghost use Rattle.core_settings.specs.Sources.{counted, if_few, number_of, pair_count};
+ghost use Rattle.core_settings.specs.Sources.{counted, number_of, pair_count};
 
 use crate::fault::WrongPairs;
 
@@ -14,18 +14,10 @@ pub(crate) fn pair_count(count: Option<&[u8]>) -> Result<u64, WrongPairs>
     ensures count { result ≡ pair_count (option_copied count.entry) }
     ensures few { IfOk result (λ n. n < 2 ^ 31) }
 {
-    match count {
-        Some(text) => if_few(number_of(text)),
-        None => Ok(0),
-    }
-}
-
-/// A number of pairs, if it isn't too large.
-fn if_few(number: Option<u64>) -> Result<u64, WrongPairs>
-    ensures count { result ≡ if_few number }
-    ensures few { IfOk result (λ n. n < 2 ^ 31) }
-{
-    match number {
+    let Some(text) = count else {
+        return Ok(0);
+    };
+    match number_of(text) {
         None => Err(WrongPairs::Count),
         Some(number) if number < 1 << 31 => Ok(number),
         Some(_) => Err(WrongPairs::TooMany),

@@ -1,9 +1,10 @@
 //! Where the files of a user's settings lie.
-ghost use Rattle.std.specs.Prelude.{◌≡◌, ◌++◌, not, option_map, position, IfOk};
+ghost use Rattle.std.specs.Prelude.{◌≡◌, ◌++◌, drop, not, option_map, position, IfOk};
+ghost use Rattle.std.specs.List.{position_or_len};
 ghost use Rattle.std.specs.Option.{option_copied};
 ghost use Rattle.std.specs.Vec.{vec_items};
 ghost use Rattle.git_config.specs.Paths.{is_slash};
-ghost use Rattle.core_settings.specs.UserFiles.{below_home, settings_file, settings_folder, without_dot, without_slashes};
+ghost use Rattle.core_settings.specs.UserFiles.{below_home, settings_file, settings_folder, without_dot};
 
 use crate::bytes::joined;
 use std::alloc::{AllocError, Global};
@@ -65,7 +66,7 @@ fn without_dot(path: &[u8]) -> &[u8]
 
 /// A path without the slashes in front.
 fn without_slashes(path: &[u8]) -> &[u8]
-    ensures { result.now ≡ without_slashes path.now }
+    ensures { result.now ≡ drop (position_or_len (λ b. not (is_slash b)) path.now) path.now }
 {
     match first_other(path) {
         Some(place) => &path[place..],

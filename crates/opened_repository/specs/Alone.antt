@@ -1,5 +1,5 @@
 -- What a repository's own file says by itself, without what it includes.
-use Rattle.std.specs.Prelude.{◌≡◌, ℕ, ℤ, pos, negsuc, Bool, true, false, not, ◌&&◌, ◌||◌, nat_eq, if◌then◌else◌, List, [], ◌∷◌, ◌++◌, drop, codes, Option, Some, None, is_some, option_and_then, Result, Ok, Err}
+use Rattle.std.specs.Prelude.{◌≡◌, ℕ, ℤ, pos, negsuc, Bool, true, false, not, ◌&&◌, ◌||◌, nat_eq, if◌then◌else◌, List, [], ◌∷◌, ◌++◌, drop, codes, Option, Some, None, is_some, option_map, option_and_then, Result, Ok, Err}
 use Rattle.std.specs.List.{starts_with}
 use Rattle.std.specs.Option.{option_or, option_to_list}
 use Rattle.std.specs.Str.{bytes_eq}
@@ -10,15 +10,14 @@ use Rattle.git_config.specs.declared.item.Item.TheVariants.{Section, Sets}
 use Rattle.git_config.specs.declared.setting.WrongSetting.TheVariants.{Text}
 use Rattle.git_config.specs.Configuration.{Seen, key_of}
 use Rattle.git_config.specs.Grammar.{items_of}
-use Rattle.git_config.specs.Numbers.{boolean_of, integer_of}
+use Rattle.git_config.specs.Numbers.{integer_of}
 use Rattle.git_repository.specs.declared.environment.Environment.{Environment}
 use Rattle.git_repository.specs.declared.folders.Folders.{Folders}
 use Rattle.git_repository.specs.declared.folders.RepositoryFile.TheVariants as file
 use Rattle.git_repository.specs.Folders.{file_path}
 use Rattle.git_repository.specs.Formats.{format_fault}
 use Rattle.git_repository.specs.declared.settings.Settings.{Settings}
-use Rattle.core_settings.specs.declared.fault.CoreFault.TheVariants.{Boolean}
-use Rattle.core_settings.specs.Values.{boolean_at, last_value}
+use Rattle.core_settings.specs.Values.{boolean_at, boolean_fault, last_value}
 use Rattle.opened_repository.specs.declared.fault.RepositoryFault.TheVariants.{Format, Line, Number, Setting, Value}
 use Rattle.opened_repository.specs.Answers.{Answer, Fault, bytes_of, is, ◌>>=◌}
 
@@ -46,8 +45,7 @@ pub record FileAlone (Shows : List ℕ → Option (FoundFile (List ℕ)) → Typ
 -- ---- what is wrong with an entry
 
 abbrev pub boolean_wrong : List ℕ → Option (List ℕ) → Option Fault
-boolean_wrong key None = None
-boolean_wrong key (Some value) = if is_some (boolean_of (Some value)) then None else Some (Value (Boolean key value))
+boolean_wrong key value = option_map (λ fault. Value fault) (boolean_fault key value)
 
 abbrev pub number_wrong : Option (List ℕ) → Option (List ℕ) → Option Fault
 number_wrong file value = if is_some (integer_of (bytes_of value)) then None else Some (Number (bytes_of value) file)

@@ -1,5 +1,5 @@
 -- The last entry sets it.
-use Rattle.std.proofs.Common.{◌≡◌, ◌∙◌, IfOk, option_map, subst, sym}
+use Rattle.std.proofs.Common.{◌≡◌, IfOk, option_map, subst, sym}
 use Rattle.std.specs.Option.{option_copied}
 use Rattle.std.specs.Vec.{vec_items}
 use Rattle.git_config.specs.Configuration.{seen_setting}
