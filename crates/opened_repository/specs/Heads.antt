@@ -1,5 +1,5 @@
 -- The branch that `HEAD` names.
-use Rattle.std.specs.Prelude.{ℕ, ◌-◌, ◌^◌, nat_eq, if◌then◌else◌, List, ◌++◌, length, take, drop, codes, Option, Some, None, option_map, option_and_then}
+use Rattle.std.specs.Prelude.{ℕ, ◌-◌, ◌^◌, nat_eq, if◌then◌else◌, List, ◌++◌, length, take, drop, codes, Option, Some, None, option_and_then}
 use Rattle.std.specs.List.{prefix_len, starts_with, suffix_len}
 use Rattle.git_repository.specs.FileTree.{FileTree}
 use Rattle.git_repository.specs.GitFolders.{is_blank}

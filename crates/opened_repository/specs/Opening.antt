@@ -1,12 +1,11 @@
 -- Opening a repository: its stages, in Git's order. The first fault ends it.
-use Rattle.std.specs.Prelude.{◌≡◌, ℕ, Bool, true, false, not, ◌&&◌, if◌then◌else◌, List, [], ◌∷◌, Option, Some, None, codes, option_map, Result, Ok, Err}
+use Rattle.std.specs.Prelude.{ℕ, Bool, true, false, not, ◌&&◌, if◌then◌else◌, List, [], ◌∷◌, Option, Some, None, codes, option_map, Result, Ok, Err}
 use Rattle.git_config.specs.Configuration.{Seen, settings_of}
 use Rattle.git_repository.specs.FileTree.{FileTree}
 use Rattle.git_repository.specs.Folders.{file_path, folders_of, work_tree_of}
 use Rattle.git_repository.specs.GitFolders.{real_path_of, told_from}
 use Rattle.git_repository.specs.Naming.{exclude_name}
 use Rattle.git_repository.specs.Search.{Finds}
-use Rattle.git_repository.specs.declared.fault.FindFault.{FindFault}
 use Rattle.git_repository.specs.declared.folders.Folders.{Folders}
 use Rattle.git_repository.specs.declared.folders.RepositoryFile.TheVariants as file
 use Rattle.git_repository.specs.declared.found.Found.{Found}

@@ -1,6 +1,5 @@
 -- Words that only private clauses cite.
-use Rattle.std.specs.Prelude.{ℕ, List, Option, None, Result, Ok, Err, Vec}
-use Rattle.std.specs.declared.alloc.Global.{Global}
+use Rattle.std.specs.Prelude.{Option, None, Result, Ok, Err}
 use Rattle.opened_repository.specs.Answers.{fault_of}
 use Rattle.opened_repository.specs.Safe.{setting_by}
 use Rattle.opened_repository.specs.declared.fault.OpenFault.{OpenFault}

@@ -1,5 +1,5 @@
 -- What is asked where a search was refused.
-use Rattle.std.proofs.Common.{◌≡◌, List, Option, Some, None, Result, Ok, Err, subst}
+use Rattle.std.proofs.Common.{◌≡◌, Option, Some, Result, Ok, Err, subst}
 use Rattle.opened_repository.specs.Answers.{Answer, Asked, Fault, Tells, fault_of}
 use Rattle.opened_repository.specs.Private.{setting_asked}
 use Rattle.opened_repository.specs.Safe.{setting_for}

@@ -3,10 +3,10 @@ use Rattle.std.proofs.Common.{◌≡◌, ◌∙◌, ℕ, ◌+◌, ◌<◌, List,
 use Rattle.std.specs.Prelude.{Vec}
 use Rattle.std.specs.Vec.{vec_items}
 use Rattle.std.specs.declared.alloc.Global.{Global}
-use Rattle.std.proofs.lemmas.List.{append-nil, drop_more, map-append}
+use Rattle.std.proofs.lemmas.List.{drop_more, map-append}
 use Rattle.git_config.specs.Configuration.{Seen, seen_setting}
 use Rattle.git_config.specs.declared.surroundings.Surroundings.{Surroundings}
-use Rattle.opened_repository.specs.Answers.{Answer, Fault, Tells, fault_of, is}
+use Rattle.opened_repository.specs.Answers.{Fault, Tells, is}
 use Rattle.opened_repository.specs.Safe.{before, path_of, paths_of}
 use Rattle.opened_repository.specs.declared.fault.OpenFault.{OpenFault}
 use Rattle.opened_repository.specs.declared.fault.OpenFault.TheVariants.{File, Memory, Told}

@@ -1,5 +1,5 @@
 -- What a reader tells is a reading.
-use Rattle.std.proofs.Common.{◌≡◌, ℕ, List, [], ◌∷◌, Option, Result, Ok, Err, length, map, refl, arith}
+use Rattle.std.proofs.Common.{◌≡◌, ℕ, List, [], ◌∷◌, Result, Ok, Err, length, map, refl, arith}
 use Rattle.std.specs.Prelude.{Vec}
 use Rattle.std.specs.Vec.{vec_items}
 use Rattle.std.specs.declared.alloc.Global.{Global}
@@ -10,7 +10,7 @@ use Rattle.git_config.specs.declared.includes.ReadFault.{ReadFault}
 use Rattle.git_config.specs.declared.includes.ReadFault.TheVariants as read
 use Rattle.git_config.specs.declared.setting.SettingFault.{SettingFault}
 use Rattle.git_config.specs.declared.surroundings.Surroundings.{Surroundings}
-use Rattle.git_config.specs.Configuration.{FromSources, Outcome, seen_fault, seen_setting}
+use Rattle.git_config.specs.Configuration.{FromSources, seen_fault, seen_setting}
 use Rattle.core_settings.specs.declared.sources.ConfigSource.{ConfigSource}
 use Rattle.core_settings.specs.Views.{seen_settings, seen_source}
 use Rattle.opened_repository.specs.Answers.{Tells}

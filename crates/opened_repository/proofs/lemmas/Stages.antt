@@ -1,16 +1,14 @@
 -- One stage behind another.
-use Rattle.std.proofs.Common.{◌≡◌, ◌⊎◌, ℕ, List, Option, Some, None, Result, Ok, Err, refl, sym, ap, subst, inl, inr}
+use Rattle.std.proofs.Common.{◌≡◌, ℕ, List, Option, Result, Ok, Err, refl, sym, subst, inl, inr}
 use Rattle.std.specs.Prelude.{IsErrAnd, Vec, option_map}
-use Rattle.std.specs.Vec.{vec_items}
 use Rattle.std.specs.declared.alloc.Global.{Global}
-use Rattle.git_repository.specs.Answers.{Answers, fault_with}
+use Rattle.git_repository.specs.Answers.{Answers}
 use Rattle.git_repository.specs.declared.fault.FindFault.{FindFault}
 use Rattle.git_repository.specs.declared.fault.FindFault.TheVariants as find
 use Rattle.opened_repository.specs.Answers.{Answer, Fault, In, Tells, Then, fault_of}
 use Rattle.opened_repository.specs.Faults.{of_find}
 use Rattle.opened_repository.specs.declared.fault.OpenFault.{OpenFault}
 use Rattle.opened_repository.specs.declared.fault.OpenFault.TheVariants.{File, Memory, Told}
-use Rattle.opened_repository.specs.declared.fault.RepositoryFault.TheVariants.{Find}
 
 -- what is seen of bytes
 abbrev pub bytes : Vec ℕ Global → List ℕ

@@ -1,6 +1,4 @@
 -- What is known of a repository, once its git folder leads somewhere.
-use Rattle.std.proofs.Common.{◌∙◌, ◌≡◌, ℕ, List, Ok, [], ◌∷◌, ap, map, option_map, refl}
-use Rattle.std.specs.Vec.{vec_items}
 use Rattle.git_repository.specs.GitFolders.{real_path_of, told_from}
 use Rattle.opened_repository.specs.Answers.{is'}
 use Rattle.opened_repository.specs.Faults.{of_find}
@@ -9,7 +7,7 @@ use Rattle.opened_repository.specs.Opening.{KnownIn}
 use Rattle.opened_repository.specs.Readings.{known_of}
 use Rattle.opened_repository.specs.Results.{said_of}
 use Rattle.opened_repository.proofs.lemmas.Knowns.{known_is}
-use Rattle.opened_repository.proofs.lemmas.Stages.{all, bytes, bytes_if, finds, step, stop}
+use Rattle.opened_repository.proofs.lemmas.Stages.{all, bytes, finds, step, stop}
 use Rattle.opened_repository.proofs.inside.known_in.Goals as goal
 
 pub returns-in_err-real : goal.returns-in_err-real

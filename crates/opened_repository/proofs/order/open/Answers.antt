@@ -2,13 +2,12 @@
 use Rattle.std.proofs.Common.{Err}
 use Rattle.std.specs.Vec.{vec_items}
 use Rattle.core_settings.specs.Views.{seen_settings}
-use Rattle.core_settings.specs.Views as core
 use Rattle.git_repository.specs.Answers.{found_with}
 use Rattle.git_repository.specs.Folders.{folders_with, settings_with}
 use Rattle.opened_repository.specs.Alone.{OwnSettings}
 use Rattle.opened_repository.specs.Opening.{Opens, OpensFound}
 use Rattle.opened_repository.specs.Results.{opened_of, said_of}
-use Rattle.opened_repository.proofs.lemmas.Stages.{all, bytes, bytes_if, of_known, rest, step, stop}
+use Rattle.opened_repository.proofs.lemmas.Stages.{all, bytes, of_known, rest, step, stop}
 use Rattle.opened_repository.proofs.order.open.Goals as goal
 
 pub returns-in_err-folders : goal.returns-in_err-folders

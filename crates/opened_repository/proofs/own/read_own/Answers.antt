@@ -6,7 +6,7 @@ use Rattle.git_repository.specs.Environments.{environment_with}
 use Rattle.git_repository.specs.Folders.{folders_with, settings_with}
 use Rattle.opened_repository.specs.Alone.{OwnSettings, WorktreeAlone}
 use Rattle.opened_repository.specs.Answers.{Tells}
-use Rattle.opened_repository.proofs.lemmas.Stages.{all, bytes, bytes_if, step, stop}
+use Rattle.opened_repository.proofs.lemmas.Stages.{all, bytes, step, stop}
 use Rattle.opened_repository.proofs.own.read_own.Goals as goal
 
 pub returns-in_err-own : goal.returns-in_err-own

@@ -1,5 +1,5 @@
 -- What the reader tells is a reading of these sources.
-use Rattle.std.proofs.Common.{◌∙◌, Ok, ap, map, refl}
+use Rattle.std.proofs.Common.{◌∙◌, ap, map}
 use Rattle.std.specs.Vec.{vec_items}
 use Rattle.core_settings.specs.Views.{seen_settings, seen_source, seen_sources}
 use Rattle.opened_repository.specs.Faults.{of_read}

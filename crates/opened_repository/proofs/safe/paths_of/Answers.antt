@@ -1,7 +1,6 @@
 -- The paths, one entry after the other.
 use Rattle.std.proofs.Common.{map, sym}
 use Rattle.std.specs.Vec.{vec_items}
-use Rattle.git_config.specs.Configuration.{seen_setting}
 use Rattle.opened_repository.specs.Answers.{is}
 use Rattle.opened_repository.specs.Safe.{paths_of}
 use Rattle.opened_repository.proofs.lemmas.Paths.{paths-more, paths-stop, seen}

@@ -1,7 +1,7 @@
 -- What is asked, or nothing.
-use Rattle.std.proofs.Common.{◌≡◌, ◌∙◌, [], true, Option, Some, None, ap, refl, sym}
+use Rattle.std.proofs.Common.{◌∙◌, [], true, Option, Some, None, ap, refl, sym}
 use Rattle.git_repository.specs.Answers.{found_with}
-use Rattle.opened_repository.specs.Opening.{BareAsked, BareIf, FindsBy, FindsOurs, OwnerAsked, OwnerIf}
+use Rattle.opened_repository.specs.Opening.{BareAsked, BareIf, FindsBy}
 use Rattle.opened_repository.specs.Results.{said_of}
 use Rattle.opened_repository.specs.declared.trusted.SafeSetting.{SafeSetting}
 use Rattle.opened_repository.specs.declared.trusted.SafeSetting.TheVariants.{BareRepository, Directory}

@@ -1,11 +1,11 @@
 -- What is asked, or nothing.
-use Rattle.std.proofs.Common.{◌≡◌, ◌∙◌, Option, Some, None, ap, refl, sym}
+use Rattle.std.proofs.Common.{◌∙◌, Option, Some, ap, sym}
 use Rattle.git_repository.specs.Answers.{found_with}
-use Rattle.opened_repository.specs.Opening.{BareAsked, BareIf, FindsBy, FindsOurs, OwnerAsked, OwnerIf}
+use Rattle.opened_repository.specs.Opening.{FindsOurs, OwnerAsked, OwnerIf}
 use Rattle.opened_repository.specs.Results.{said_of}
 use Rattle.opened_repository.specs.declared.trusted.SafeSetting.{SafeSetting}
-use Rattle.opened_repository.specs.declared.trusted.SafeSetting.TheVariants.{BareRepository, Directory}
-use Rattle.opened_repository.proofs.lemmas.Asking.{asked, kept}
+use Rattle.opened_repository.specs.declared.trusted.SafeSetting.TheVariants.{Directory}
+use Rattle.opened_repository.proofs.lemmas.Asking.{asked}
 use Rattle.opened_repository.proofs.lemmas.Stages.{bytes}
 use Rattle.opened_repository.proofs.trusted.find_trusted.Goals as goal
 
