@@ -17,8 +17,9 @@ pub struct Told<'a> {
     pub pairs: &'a [Pair<&'a [u8]>],
     /// The words behind `-c`.
     pub words: &'a [&'a [u8]],
-    /// The user and the installation. `git_folders`, `branch` and `urls` are passed over: they are found.
+    /// The user and the installation; `home` is `HOME`, as in `places`. `git_folders`, `branch` and `urls` are passed over: they are
+    /// found.
     pub around: &'a Surroundings,
-    /// Whether the command can't do without a work tree.
+    /// Whether the command needs a work tree: one that isn't there is then a fault, before any value is looked at.
     pub needs_work_tree: bool,
 }
