@@ -3,13 +3,13 @@ use Rattle.std.specs.Prelude.{false, ◌≡◌, ◌==◌, ◌≤◌, ⊤, ℕ, �
 use Rattle.std.specs.Option.{ForSome}
 use Rattle.glob_patterns.specs.declared.pattern.case.Case.{Case}
 use Rattle.glob_patterns.specs.declared.pattern.case.Case.TheVariants.{Sensitive, Fold}
-use Rattle.glob_matcher.specs.declared.wildmatch.way.Folding.TheVariants.{Both}
+use Rattle.glob_matcher.specs.declared.wildmatch.way.Way.TheVariants.{FoldedPlain}
 use Rattle.glob_patterns.specs.Folding.{folding_of}
 
 -- the bytes that are compared: those of the text, or where case doesn't count those after folding
 abbrev pub folding_by : Case → List ℕ → List ℕ
 folding_by Sensitive text = text
-folding_by Fold text = folding_of (record { path = false; folding = Both }) text
+folding_by Fold text = folding_of FoldedPlain text
 
 -- the path is a front that equals the base, and then the rest
 pub record Rest (case : Case) (base path rest : List ℕ) : Type 0 where

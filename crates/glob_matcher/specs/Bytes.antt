@@ -6,6 +6,7 @@ use Rattle.std.specs.Str.{byte}
 use Rattle.glob_matcher.specs.declared.wildmatch.way.Folding.{Folding}
 use Rattle.glob_matcher.specs.declared.wildmatch.way.Folding.TheVariants.{Off, Both, Exact}
 use Rattle.glob_matcher.specs.declared.wildmatch.way.Way.{Way}
+use Rattle.glob_matcher.specs.declared.wildmatch.way.Way.TheVariants.{Plain, Path, FoldedPlain, FoldedPath, ExactPlain, ExactPath}
 
 -- bytes with a meaning of their own
 abbrev pub star : ℕ
@@ -57,7 +58,30 @@ has_slash text = list_any (λ b. b == slash) text
 
 -- whether no wildcard matches a slash
 abbrev pub is_path : Way → Bool
-is_path way = way.path
+is_path Plain = false
+is_path Path = true
+is_path FoldedPlain = false
+is_path FoldedPath = true
+is_path ExactPlain = false
+is_path ExactPath = true
+
+-- how case is folded
+abbrev pub folding : Way → Folding
+folding Plain = Off
+folding Path = Off
+folding FoldedPlain = Both
+folding FoldedPath = Both
+folding ExactPlain = Exact
+folding ExactPath = Exact
+
+-- the way of such a bit and such a folding
+abbrev pub way_with : Bool → Folding → Way
+way_with false Off = Plain
+way_with true Off = Path
+way_with false Both = FoldedPlain
+way_with true Both = FoldedPath
+way_with false Exact = ExactPlain
+way_with true Exact = ExactPath
 
 -- whether folding is on, and whether it is exact
 abbrev pub is_on : Folding → Bool
@@ -72,11 +96,11 @@ is_exact_one Exact = true
 
 -- whether the case of ASCII letters doesn't count
 abbrev pub folds : Way → Bool
-folds way = is_on way.folding
+folds way = is_on (folding way)
 
 -- whether only the value, and what stands for itself in the pattern, is folded
 abbrev pub is_exact : Way → Bool
-is_exact way = is_exact_one way.folding
+is_exact way = is_exact_one (folding way)
 
 -- a byte after folding, where it is folded: of the value, or one that stands for itself in the pattern
 abbrev pub fold : Way → ℕ → ℕ

@@ -4,7 +4,7 @@ use Rattle.std.specs.List.{before_first}
 use Rattle.glob_matcher.specs.declared.wildmatch.way.Folding.{Folding}
 use Rattle.glob_matcher.specs.declared.wildmatch.way.Folding.TheVariants.{Off, Exact}
 use Rattle.glob_matcher.specs.declared.wildmatch.way.Way.{Way}
-use Rattle.glob_matcher.specs.Bytes.{is_special}
+use Rattle.glob_matcher.specs.Bytes.{is_special, way_with}
 use Rattle.glob_matcher.specs.Matching.{SplitsBy}
 use Rattle.glob_patterns.specs.declared.mode.Mode as pattern
 use Rattle.glob_patterns.specs.declared.pattern.case.Case.{Case}
@@ -34,7 +34,7 @@ git_folding Fold = Exact
 
 -- the way in which Git matches paths: no wildcard matches a slash
 abbrev pub git_way : Case → Way
-git_way case = record { path = true; folding = git_folding case }
+git_way case = way_with true (git_folding case)
 
 -- A pattern of this text and this mode answers yes for a path, as Git reads it: a pattern for directories only where the path is known to
 -- be one. One that looks at the name alone matches that; any other matches the path by its front and its rest.

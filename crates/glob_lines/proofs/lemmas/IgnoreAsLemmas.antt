@@ -32,10 +32,6 @@ begun Git bytes rest text first = record {
   shorter = TellsLines-lines_of.shorter bytes first.line rest first.cut;
 }
 
-pub no_lines : (reading : Reading) (bytes : List ℕ) → bytes ≡ [] → lines_as reading bytes ≡ []
-no_lines Crate bytes none = ap (lines_as Crate) none
-no_lines Git bytes none = ap (lines_as Git) none
-
 pub length-lines_as-le : (reading : Reading) (bytes : List ℕ) → length (lines_as reading (without_mark bytes)) ≤ length bytes
 length-lines_as-le Crate bytes = length-ignore_lines-le bytes
 length-lines_as-le Git bytes = length-git_lines-le bytes

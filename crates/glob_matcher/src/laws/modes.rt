@@ -2,7 +2,7 @@
 ghost use Rattle.std.specs.Prelude.{◌≡◌, ◌↔◌, ℕ, false, List};
 ghost use Rattle.glob_matcher.specs.declared.wildmatch.mode.Mode.{Mode};
 ghost use Rattle.glob_matcher.specs.declared.wildmatch.way.Way.{Way};
-ghost use Rattle.glob_matcher.specs.Bytes.{HasByte, folds, has_slash, is_exact, star};
+ghost use Rattle.glob_matcher.specs.Bytes.{HasByte, folding, folds, has_slash, is_exact, star};
 ghost use Rattle.glob_matcher.specs.Matching.{Splits, SplitsBy};
 ghost use Rattle.glob_matcher.specs.Ways.{way_of};
 
@@ -17,9 +17,9 @@ pub fn no_slash_is_special_where_the_value_has_none()
 
 /// The same of two ways that fold alike.
 pub fn no_slash_is_special_in_ways_that_fold_alike()
-    ensures bare { (way other : Way) (pattern value : List ℕ) → way.folding ≡ other.folding → has_slash value ≡ false
+    ensures bare { (way other : Way) (pattern value : List ℕ) → folding way ≡ folding other → has_slash value ≡ false
         → has_slash pattern ≡ false → SplitsBy value pattern way ↔ SplitsBy value pattern other }
-    ensures one_star { (way other : Way) (pattern value : List ℕ) → way.folding ≡ other.folding → has_slash value ≡ false
+    ensures one_star { (way other : Way) (pattern value : List ℕ) → folding way ≡ folding other → has_slash value ≡ false
         → ¬ (HasByte pattern 0 star × HasByte pattern 1 star) → SplitsBy value pattern way ↔ SplitsBy value pattern other }
 {}
 

@@ -22,15 +22,15 @@ pub trait Texts {
 }
 
 impl Texts for Brand {
-    ghost use Rattle.std.specs.Prelude.{[], false};
+    ghost use Rattle.std.specs.Prelude.{[]};
     ghost use Rattle.std.proofs.Common.{arith};
-    ghost use Rattle.glob_matcher.specs.declared.wildmatch.way.Folding.TheVariants.{Off};
+    ghost use Rattle.glob_matcher.specs.declared.wildmatch.way.Way.TheVariants.{Plain};
 
     ghost pattern = { [] };
 
     ghost value = { [] };
 
-    ghost way = { record { path = false; folding = Off } };
+    ghost way = { Plain };
 
     ghost counts = { 0 };
 

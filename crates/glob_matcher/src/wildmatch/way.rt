@@ -14,11 +14,24 @@ pub enum Folding {
     Exact,
 }
 
-/// How a match goes. A [`super::Mode`] asks for one, and never for exact folding.
+/// How a match goes: whether a wildcard matches a slash, and how case is folded. A [`super::Mode`] asks for one of the first four.
+///
+/// It is one enum rather than a bit beside a [`Folding`]: a struct of two fields would take two registers in every call. The ways stand
+/// in an order in which each question is one mask: the odd ones are those of path mode, and the last two fold exactly.
 #[derive(Debug, Copy, Clone, Eq, PartialEq)]
-pub struct Way {
-    path: bool,
-    folding: Folding,
+pub enum Way {
+    /// A wildcard matches a slash too, and case counts.
+    Plain,
+    /// No wildcard matches a slash, and case counts.
+    Path,
+    /// A wildcard matches a slash too, and case doesn't count.
+    FoldedPlain,
+    /// No wildcard matches a slash, and case doesn't count.
+    FoldedPath,
+    /// A wildcard matches a slash too, and folding is exact.
+    ExactPlain,
+    /// No wildcard matches a slash, and folding is exact.
+    ExactPath,
 }
 
 /// Whether one byte is a small letter, and the other its capital.
@@ -31,14 +44,21 @@ fn is_small_of(small: u8, capital: u8) -> bool
 }
 
 impl Way {
-    ghost use Rattle.glob_matcher.specs.Bytes.{is_path, folds, is_exact, fold, fold_inner, is_dead};
+    ghost use Rattle.glob_matcher.specs.Bytes.{is_path, folding, folds, is_exact, fold, fold_inner, is_dead, way_with};
 
     /// A way: whether no wildcard matches a slash, and how case is folded.
     #[inline(always)]
     pub fn new(path: bool, folding: Folding) -> Way
-        ensures { result ≡ record { path = path; folding = folding } }
+        ensures { result ≡ way_with path folding }
     {
-        Way { path, folding }
+        match (folding, path) {
+            (Folding::Off, false) => Way::Plain,
+            (Folding::Off, true) => Way::Path,
+            (Folding::Both, false) => Way::FoldedPlain,
+            (Folding::Both, true) => Way::FoldedPath,
+            (Folding::Exact, false) => Way::ExactPlain,
+            (Folding::Exact, true) => Way::ExactPath,
+        }
     }
 
     /// Whether a wildcard matches no slash.
@@ -46,17 +66,19 @@ impl Way {
     pub fn is_path(self) -> bool
         ensures { result ≡ is_path self }
     {
-        self.path
+        // a `match` would become a table of jumps
+        self as u8 & 1 == 1
     }
 
     /// The same way in plain mode, where a wildcard matches a slash too.
     #[inline(always)]
     pub fn in_plain_mode(self) -> Way
-        ensures { result ≡ record { path = false; folding = self.folding } }
+        ensures { result ≡ way_with false (folding self) }
     {
-        Way {
-            path: false,
-            folding: self.folding,
+        match self {
+            Way::Plain | Way::Path => Way::Plain,
+            Way::FoldedPlain | Way::FoldedPath => Way::FoldedPlain,
+            Way::ExactPlain | Way::ExactPath => Way::ExactPlain,
         }
     }
 
@@ -65,10 +87,8 @@ impl Way {
     pub(crate) fn folds(self) -> bool
         ensures { result ≡ folds self }
     {
-        match self.folding {
-            Folding::Off => false,
-            Folding::Both | Folding::Exact => true,
-        }
+        // all but the first two; a mask is merged with those of a mode's bits, and a comparison isn't
+        self as u8 & 6 != 0
     }
 
     /// Whether folding is exact.
@@ -76,10 +96,7 @@ impl Way {
     pub(crate) fn is_exact(self) -> bool
         ensures { result ≡ is_exact self }
     {
-        match self.folding {
-            Folding::Off | Folding::Both => false,
-            Folding::Exact => true,
-        }
+        self as u8 & 4 != 0
     }
 
     /// Whether two bytes are equal, after folding where the way asks for it.

@@ -4,7 +4,7 @@ use Rattle.std.specs.Char.{to_ascii_lowercase}
 use Rattle.std.proofs.lemmas.Bool.{cases_Bool, false≢true}
 use Rattle.glob_matcher.specs.declared.wildmatch.way.Folding.TheVariants.{Both, Exact}
 use Rattle.glob_matcher.specs.declared.wildmatch.way.Way.{Way}
-use Rattle.glob_matcher.specs.Bytes.{IsEscaped, fold, folds, is_dead, is_path}
+use Rattle.glob_matcher.specs.Bytes.{IsEscaped, fold, folds, is_dead, is_path, way_with}
 use Rattle.glob_matcher.specs.Matching.{IsCut, Lang, SplitsBy}
 use Rattle.glob_matcher.specs.Sets.{Set, SetAt, set_holds}
 use Rattle.glob_matcher.specs.Tokens.{Token, Byte, Any, OneOf, Free, Local, Dirs, Nothing, Spells, TokenAt}
@@ -59,23 +59,35 @@ module _ (m n : Way) (text : List ℕ) (alike : ReadAlike m n text) where
 -- ---- exact folding, and the usual one
 
 exact_reads_alike : (path : Bool) (text : List ℕ) → FoldsAlike text → ReadAlike (usual path) (exact path) text
-exact_reads_alike path text ordinary = record {
+exact_reads_alike false text ordinary = record {
   path = refl;
   case = refl;
   live = ordinary.escapes;
-  sets = λ i j set b here. set_alike path set b (ordinary.sets i j set here);
+  sets = λ i j set b here. set_alike false set b (ordinary.sets i j set here);
+}
+exact_reads_alike true text ordinary = record {
+  path = refl;
+  case = refl;
+  live = ordinary.escapes;
+  sets = λ i j set b here. set_alike true set b (ordinary.sets i j set here);
 }
 
 usual_reads_alike : (path : Bool) (text : List ℕ) → FoldsAlike text → ReadAlike (exact path) (usual path) text
-usual_reads_alike path text ordinary = record {
+usual_reads_alike false text ordinary = record {
   path = refl;
   case = refl;
   live = λ i b escaped. refl;
-  sets = λ i j set b here. sym (set_alike path set b (ordinary.sets i j set here));
+  sets = λ i j set b here. sym (set_alike false set b (ordinary.sets i j set here));
+}
+usual_reads_alike true text ordinary = record {
+  path = refl;
+  case = refl;
+  live = λ i b escaped. refl;
+  sets = λ i j set b here. sym (set_alike true set b (ordinary.sets i j set here));
 }
 
 pub foldings_agree : (path : Bool) (text value : List ℕ) → FoldsAlike text
-    → SplitsBy value text (record { path = path; folding = Both }) ↔ SplitsBy value text (record { path = path; folding = Exact })
+    → SplitsBy value text (way_with path Both) ↔ SplitsBy value text (way_with path Exact)
 foldings_agree path text value ordinary = (
   splits_over (usual path) (exact path) text (exact_reads_alike path text ordinary) value,
   splits_over (exact path) (usual path) text (usual_reads_alike path text ordinary) value,

@@ -10,7 +10,7 @@ ghost use Rattle.glob_patterns.specs.declared.mode.Mode as pattern;
 ghost use Rattle.glob_patterns.specs.declared.pattern.Pattern.{Pattern};
 ghost use Rattle.glob_patterns.specs.declared.pattern.case.Case.{Case};
 ghost use Rattle.glob_patterns.specs.Laws.LiteralBytes.{AreAlike, EndsAlike, HasAlike, HasAlikePair, IsUnescapedUpTo, is_joining};
-ghost use Rattle.glob_matcher.specs.Bytes.{HasByte, is_special};
+ghost use Rattle.glob_matcher.specs.Bytes.{HasByte, is_special, way_with};
 ghost use Rattle.glob_matcher.specs.Matching.{Splits, SplitsBy};
 ghost use Rattle.glob_patterns.specs.PatternParts.{text_of, SamePattern, pattern_cmp};
 ghost use Rattle.glob_patterns.specs.Equations.GitLines.{git_reading_of};
@@ -114,7 +114,7 @@ pub fn a_front_without_stars_behind_it_changes_nothing()
 /// folding matches what the usual one does.
 pub fn exact_folding_changes_nothing_in_ordinary_texts()
     ensures { (path : Bool) (text value : List ℕ) → FoldsAlike text
-        → SplitsBy value text (record { path = path; folding = Both }) ↔ SplitsBy value text (record { path = path; folding = Exact }) }
+        → SplitsBy value text (way_with path Both) ↔ SplitsBy value text (way_with path Exact) }
 {}
 
 /// So a text whose front has no such stars behind it answers for a path as Git reads it exactly where it does in path mode: where case

@@ -1,12 +1,14 @@
 //! Whether a path of a repository matches, as Git reads a pattern: the literal front is compared by itself, and the rest of the text is a
 //! pattern of its own.
-ghost use Rattle.std.specs.Prelude.{◌≡◌, ◌↔◌, ◌+◌, ◌*◌, ◌≤◌, IsTrue, length, take};
+ghost use Rattle.std.specs.Prelude.{◌≡◌, ◌↔◌, ◌+◌, ◌*◌, ◌≤◌, ℕ, false, IsTrue, IfSome, IfNone, List, Some, length, take};
 ghost use Rattle.std.specs.Option.{ForSome};
+ghost use Rattle.glob_matcher.specs.declared.wildmatch.way.Way.{Way};
+ghost use Rattle.glob_matcher.specs.Matching.{SplitsBy};
 ghost use Rattle.glob_matcher.specs.Private.Takes.{Takes};
-ghost use Rattle.glob_matcher.specs.Steps.{IsBlankOf, NeverFall, step_limit};
+ghost use Rattle.glob_matcher.specs.Steps.{IsBlankOf, NeverFall, look_limit, step_limit};
 ghost use Rattle.glob_patterns.specs.GitPaths.{AnswersAsGit, FrontAndRest, git_way};
 ghost use Rattle.glob_patterns.specs.PatternLimits.{pattern_look_limit};
-ghost use Rattle.glob_patterns.specs.Patterns.{IsPattern};
+ghost use Rattle.glob_patterns.specs.Patterns.{IsPattern, looks_at_name};
 ghost use Rattle.glob_patterns.specs.RepositoryPaths.{IsAfterLastSlash};
 ghost use Rattle.glob_patterns.specs.Private.Asked.{IsAnsweredAsGit};
 ghost use Rattle.glob_patterns.specs.Private.Fronts.{BeginsAlike};
@@ -17,7 +19,7 @@ use super::view::PatternView;
 use super::{Case, Mode, Pattern};
 use bitflags::Flags;
 use glob_matcher::wildmatch;
-use glob_matcher::wildmatch::{CountedTexts, Counts, Folding, Texts, Way, text_is_short};
+use glob_matcher::wildmatch::{CountedTexts, Counts, Texts, Way, text_is_short};
 use std::marker::Brand;
 use std::sync::ledger::{Blank, Ledger};
 
@@ -25,11 +27,27 @@ use std::sync::ledger::{Blank, Ledger};
 fn git_way(case: Case) -> Way
     ensures { result ≡ git_way case }
 {
-    let folding = match case {
-        Case::Sensitive => Folding::Off,
-        Case::Fold => Folding::Exact,
-    };
-    Way::new(true, folding)
+    match case {
+        Case::Sensitive => Way::Path,
+        Case::Fold => Way::ExactPath,
+    }
+}
+
+/// Whether the rest of a text matches the rest of a value, as [`wildmatch::marked`] answers it. It is not inlined: few values begin as a front
+/// does, and the others don't pay for the registers of the match.
+#[inline(never)]
+fn decide_rest<S: Ledger, L: Ledger>(
+    text: &[u8],
+    value: &[u8],
+    way: Way,
+    counts: &mut Counts<S, L>,
+) -> bool
+    ensures exact { IsTrue result ↔ SplitsBy value.now text.now way }
+    ensures limit { counts.new.steps ≤ counts.old.steps + step_limit (length text.now) (length value.now) }
+    ensures looks { counts.new.looks ≤ counts.old.looks + look_limit (length text.now) (length value.now) }
+    ensures grows { NeverFall counts.old counts.new }
+{
+    wildmatch::marked(text, value, way, counts)
 }
 
 impl Pattern {
@@ -165,21 +183,43 @@ impl<'a> PatternView<'a> {
             return false;
         }
         let way = git_way(asked.case);
-        if !self.mode.looks_at_name() {
-            return self.decide_by_front(asked.path, way, counts);
+        if let Some(front_end) = self.front_apart() {
+            return self.decide_by_front(asked.path, front_end, way, counts);
         }
         let start = asked.subject_start(self.mode);
         self.decide(&asked.path[start..], start > 0, way, counts)
     }
 
-    /// Whether the value begins as the literal front of the text does, and the rest of the text matches what follows.
+    /// Where the literal front of the text ends, if it is compared apart: of a text that looks at the whole path, and neither begins with a
+    /// special byte nor has none. Any other text is matched as a whole.
+    #[inline(always)]
+    fn front_apart(self) -> Option<usize>
+        ensures some { IfSome result (λ place. (looks_at_name self.entry.mode ≡ false)
+            × (self.entry.first_wildcard_pos ≡ Some place) × (place ≤ length self.entry.text.now)) }
+        ensures none { IsPattern self.entry.text.now self.entry.mode self.entry.first_wildcard_pos → IfNone result
+            (looks_at_name self.entry.mode ≡ false → (value : List ℕ) (way : Way)
+            → FrontAndRest value self.entry.text.now way ↔ SplitsBy value self.entry.text.now way) }
+    {
+        if self.mode.looks_at_name() {
+            return None;
+        }
+        match self.first_wildcard_pos {
+            Some(place) if place > 0 && place <= self.text.len() => Some(place),
+            _ => None,
+        }
+    }
+
+    /// Whether the value begins as the literal front of the text does, up to its end, and the rest of the text matches what follows.
     #[inline(always)]
     fn decide_by_front<S: Ledger, L: Ledger>(
         self,
         value: &[u8],
+        front_end: usize,
         way: Way,
         counts: &mut Counts<S, L>,
     ) -> bool
+        requires first { self.first_wildcard_pos ≡ Some front_end }
+        requires inside { front_end ≤ length self.text.now }
         ensures exact { IsPattern self.entry.text.now self.entry.mode self.entry.first_wildcard_pos →
             IsTrue result ↔ FrontAndRest value.now self.entry.text.now way }
         ensures steps { counts.new.steps ≤ counts.old.steps + step_limit (length self.entry.text.now) (length value.now) }
@@ -187,17 +227,13 @@ impl<'a> PatternView<'a> {
             ≤ counts.old.looks + pattern_look_limit (length self.entry.text.now) (length value.now) }
         ensures grows { NeverFall counts.old counts.new }
     {
-        let front_end = match self.first_wildcard_pos {
-            Some(place) if place > 0 && place <= self.text.len() => place,
-            _ => return self.decide(value, false, way, counts),
-        };
         text_is_short(self.text);
         text_is_short(value);
         let (begins, counts) = self.front_compared::<S, L, Brand>(value, front_end, way, counts);
         if !begins {
             return false;
         }
-        wildmatch::marked(&self.text[front_end..], &value[front_end..], way, counts)
+        decide_rest(&self.text[front_end..], &value[front_end..], way, counts)
     }
 
     /// Whether the value begins with the bytes of the text before a place, and the counts of what that took.

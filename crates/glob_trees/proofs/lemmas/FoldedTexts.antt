@@ -4,7 +4,7 @@ use Rattle.std.proofs.lemmas.List.{length-map}
 use Rattle.gix_glob.specs.declared.pattern.Case.{Case}
 use Rattle.gix_glob.specs.declared.pattern.Case.TheVariants.{Sensitive, Fold}
 use Rattle.gix_glob.specs.declared.wildmatch.Way.{Way}
-use Rattle.gix_glob.specs.declared.wildmatch.Folding.TheVariants.{Both}
+use Rattle.gix_glob.specs.declared.wildmatch.Way.TheVariants.{FoldedPlain}
 use Rattle.gix_glob.specs.Bytes.{HasByte, fold, slash}
 use Rattle.gix_glob.specs.Folding.{folding_of}
 use Rattle.gix_glob.specs.Stripping.{folding_by}
@@ -66,8 +66,8 @@ module _ (way : Way) where
 
 pub made_by : (case : Case) (front rest other : List ℕ) → folding_by case (front ++ rest) ≡ folding_by case other → IsMadeAs (folding_by case) front rest other
 made_by Sensitive front rest other same = record { first = front; second = rest; joined = sym same; fronts = refl; rests = refl }
-made_by Fold front rest other same = made_as (fold (record { path = false; folding = Both })) front rest other same
+made_by Fold front rest other same = made_as (fold FoldedPlain) front rest other same
 
 pub slash_by : (case : Case) (below other : List ℕ) → folding_by case (slash ∷ below) ≡ folding_by case other → (more : List ℕ) × (other ≡ slash ∷ more)
 slash_by Sensitive below other same = (below, sym same)
-slash_by Fold below other same = let first = slash_first (record { path = false; folding = Both }) below other same in (first.0, first.1)
+slash_by Fold below other same = let first = slash_first FoldedPlain below other same in (first.0, first.1)

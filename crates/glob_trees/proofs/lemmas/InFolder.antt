@@ -24,13 +24,6 @@ last_splits (y ∷ z ∷ xs) x is =
     let rest = last_splits (z ∷ xs) x (subst (λ k. slice_get (y ∷ z ∷ xs) k ≡ Some x) e is) in
     (y ∷ rest.0, ap (λ l. y ∷ l) rest.1)
 
-pub last_there : {X : Type 0} (xs : List X) (x : X) → slice_get (xs ++ x ∷ []) (length (xs ++ x ∷ []) - 1) ≡ Some x
-last_there [] x = refl
-last_there (y ∷ []) x = refl
-last_there (y ∷ z ∷ xs) x =
-    let e : length ((y ∷ z ∷ xs) ++ x ∷ []) - 1 ≡ suc (length ((z ∷ xs) ++ x ∷ []) - 1) = omega arith in
-    subst (λ k. slice_get ((y ∷ z ∷ xs) ++ x ∷ []) k ≡ Some x) (sym e) (last_there (z ∷ xs) x)
-
 -- what stands from a place on
 pub tail : {X : Type 0} (n : ℕ) (xs : List X) → take (length xs - n) (drop n xs) ≡ drop n xs
 tail n xs = take_all (length xs - n) (drop n xs) (omega (arith, length-drop n xs))

@@ -9,7 +9,7 @@ use Rattle.glob_matcher.specs.declared.wildmatch.items.Class.{Class}
 use Rattle.glob_matcher.specs.declared.wildmatch.items.Class.TheVariants as class
 use Rattle.glob_matcher.specs.declared.wildmatch.items.Item.{Item}
 use Rattle.glob_matcher.specs.declared.wildmatch.items.Item.TheVariants as item
-use Rattle.glob_matcher.specs.Bytes.{HasByte, IsEscaped, NoSlash, backslash, fold, is_exact_one, has_slash, is_path, slash, star}
+use Rattle.glob_matcher.specs.Bytes.{HasByte, IsEscaped, NoSlash, backslash, fold, folding, is_exact_one, has_slash, is_path, slash, star}
 use Rattle.glob_matcher.specs.Sets.{Set, class_holds, item_holds, set_holds}
 use Rattle.glob_matcher.specs.Tokens.{Token, Byte, Any, OneOf, Free, Local, Dirs, Nothing, TokenAt, DirsAt, IsRun, IsBounded, From}
 use Rattle.glob_matcher.specs.Matching.{SplitsBy, SplitsFrom}
@@ -21,7 +21,7 @@ use Rattle.glob_matcher.proofs.lemmas.cutting.SlashLemmas.{ends_in_slash_byte, f
 
 -- ---- tests of a byte that is no slash, in ways that fold alike
 
-module _ (m n : Way) (case : m.folding ≡ n.folding) where
+module _ (m n : Way) (case : folding m ≡ folding n) where
   same_fold : (b : ℕ) → fold m b ≡ fold n b
   same_fold b = rw case refl
 
@@ -123,7 +123,7 @@ bounded_or_not p i j = elim (cases_lt j (i + 2)) [
 pub NoDirs : List ℕ → ℕ → Type 0
 NoDirs p i = (way : Way) (j : ℕ) → ¬ DirsAt way p i j
 
-module _ (m n : Way) (p v : List ℕ) (case : m.folding ≡ n.folding) (none : NoSlash v 0 (length v)) where
+module _ (m n : Way) (p v : List ℕ) (case : folding m ≡ folding n) (none : NoSlash v 0 (length v)) where
   -- what is split from place i on in the one mode is split in the other
   Over : ℕ → Type 0
   Over i = (k : ℕ) → k ≤ length v → SplitsFrom v k p i m → SplitsFrom v k p i n
@@ -202,7 +202,7 @@ module _ (m n : Way) (p v : List ℕ) (case : m.folding ≡ n.folding) (none : N
 -- ---- the law
 
 -- where no place of the value has a slash, and no double star and its slash begin the pattern, the modes tell nothing apart
-pub splits_alike : (m n : Way) (p v : List ℕ) → m.folding ≡ n.folding → has_slash v ≡ false → NoDirs p 0 → SplitsBy v p m ↔ SplitsBy v p n
+pub splits_alike : (m n : Way) (p v : List ℕ) → folding m ≡ folding n → has_slash v ≡ false → NoDirs p 0 → SplitsBy v p m ↔ SplitsBy v p n
 unfolding Over
 splits_alike m n p v case bare no_dirs = (
   λ s. over m n p v case none (length p) 0 (omega arith) no_dirs 0 (omega arith) s,
