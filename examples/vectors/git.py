@@ -206,6 +206,70 @@ def listed(ran, start):
     return b"".join(lines)
 
 
+def config_sources(variables, repository, work_tree, words):
+    """Which files and words Git reads: each file that variables name has an entry."""
+    if not IS_GIT or b"installed=" in variables:
+        return ()
+    with rows.folder_of([]) as folder:
+        top = os.path.realpath(os.fsencode(folder))
+        told = dict(line.replace(b"/top", top).split(b"=", 1) for line in variables.split(b"\n") if line)
+        start = make_git_folder(top + b"/r/.git", b"main") if repository else top
+        home, config_home = told.get(b"HOME"), told.get(b"XDG_CONFIG_HOME")
+        files = [told.get(b"GIT_CONFIG_SYSTEM"), told.get(b"GIT_CONFIG_GLOBAL"), config_home and config_home + b"/git/config"]
+        files += [home + b"/.config/git/config", home + b"/.gitconfig"] if home else []
+        for path in filter(None, files):
+            rows.write(os.path.join(start, path), b"[a]b")
+        if repository:
+            rows.write(start + b"/.git/config", b"[core]repositoryFormatVersion=0\n[extensions]worktreeConfig=" + rows.told(work_tree)[0].encode())
+            rows.write(start + b"/.git/config.worktree", b"[a]b")
+        ran = list_configuration(start, words, {b"GIT_CONFIG_NOSYSTEM": b"%d" % (b"GIT_CONFIG_SYSTEM" not in told), **told})
+        origins, entries = ran.stdout.split(b"\0")[:-1:2], ran.stdout.split(b"\0")[1::2]
+        sources = []
+        for origin, entry in zip(origins, entries):
+            kind, _, path = origin.partition(b":")
+            line = path if kind == b"file" else b" " + entry.replace(b"\n", b"=", 1)
+            if kind != b"file" or sources[-1:] != [line]:
+                sources.append(line)
+        complaints = re.findall(rb"^(?:error|fatal): (.*\n)", ran.stderr, re.M)
+        return [None, b"".join(complaints)] if complaints else [b"".join(line + b"\n" for line in sources).replace(top, b"/top"), None]
+
+
+def list_configuration(start, words, variables):
+    """What Git lists of its configuration in a folder, with these words of its command line."""
+    options = [part for word in words.split(b"\n") if word for part in (b"-c", word)]
+    environment = {b"PATH": os.fsencode(os.environ["PATH"]), **variables}
+    return subprocess.run(["git", *options, "config", "--list", "--show-origin", "-z"], cwd=start, env=environment, capture_output=True, check=False)
+
+
+def core_settings(home, config_home, sources, words, *fields):
+    """What Git matches and prints by its settings: each file that may be set has a line that tells its own name."""
+    if not IS_GIT or not set(sources.split()) <= READ:
+        return ()
+    with rows.folder_of([]) as folder:
+        top = os.path.realpath(os.fsencode(folder))
+        home, config_home, words, *fields = (it and it.replace(b"/top", top) for it in (home, config_home, words, *fields))
+        start = make_git_folder(top + b"/r/.git", b"main")
+        for path, text in rows.pairs(fields):
+            rows.write(path, text)
+        rows.write(start + b"/.gitignore", b"a\n")
+        folders = [config_home and config_home + b"/git", home and home + b"/.config/git"]
+        values = re.findall(rb"(?i)(?:excludes|attributes)file *= *([^\s]+)", b"\n".join([words, *fields]))
+        set_files = [(home or b"") + value[1:] if value.startswith(b"~/") else value for value in values if not value.startswith(b"~") or value.startswith(b"~/")]
+        for path in [*set_files, *(it + name for it in filter(None, folders) for name in (b"/ignore", b"/attributes"))]:
+            rows.write(os.path.join(start, path), b"x n=" + os.path.normpath(path).replace(top, b"/top") + b"\nx\n")
+        given = {b"HOME": home, b"XDG_CONFIG_HOME": config_home, b"GIT_CONFIG_NOSYSTEM": b"%d" % (b"/top/sys" not in sources), b"GIT_CONFIG_SYSTEM": top + b"/sys"}
+        environment = {b"PATH": os.fsencode(os.environ["PATH"]), **{key: value for key, value in given.items() if value is not None}}
+        options = [part for word in words.split(b"\n") if word for part in (b"-c", word)]
+        asked = lambda *its: subprocess.run(["git", *options, *its], cwd=start, env=environment, capture_output=True, check=False)
+        ran = asked("check-ignore", "-v", "-n", "A", "\u00e4", "x")
+        if fault := re.search(rb"^fatal: (.*)$", ran.stderr, re.M):
+            return [fault[1].replace(top, b"/top"), None, None, None]
+        folded, quoted, excluded = ran.stdout.split(b"\n")[:3]
+        named = asked("check-attr", "n", "x").stdout.removeprefix(b"x: n: ").rstrip(b"\n")
+        excludes = excluded.rsplit(b"\t", 1)[0].rsplit(b":", 2)[0].replace(top, b"/top")
+        return [*rows.told(folded.startswith(b".gitignore")), *rows.told(b"\\303" in quoted), excludes or None, None if named == b"unspecified" else named]
+
+
 def config_booleans(value):
     if not IS_GIT:
         return ()
@@ -283,5 +347,5 @@ def exclude_names(current, words, *fields):
 
 
 OF_PATTERNS = (matching, git_paths, trees, trees_told, git_told, git_attributes, attribute_states, all_states, attribute_streams, attribute_names)
-OF_CONFIGURATION = (config_files, config_includes, config_booleans)
+OF_CONFIGURATION = (config_files, config_includes, config_sources, core_settings, config_booleans)
 rows.answer({it.__name__: it for it in (*OF_PATTERNS, *OF_CONFIGURATION, repositories, work_trees, exclude_names)})

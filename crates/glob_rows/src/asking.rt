@@ -9,7 +9,8 @@ use crate::subjects::{
 };
 use crate::{
     as_git, attempts, attribute_files, attribute_states, bases, config_files, config_includes,
-    ignore_runs, index_files, lines, lists, matching, patterns, repositories, streams, trees,
+    config_sources, core_values, ignore_runs, index_files, lines, lists, matching, patterns,
+    repositories, streams, trees,
 };
 use std::alloc::Global;
 
@@ -147,6 +148,8 @@ fn ask_repositories(
         RepositorySubject::ConfigIncludes => config_includes::config_includes(
             alloc, question, answer,
         ),
+        RepositorySubject::ConfigSources => config_sources::config_sources(alloc, question, answer),
+        RepositorySubject::CoreSettings => core_values::core_settings(alloc, question, answer),
         RepositorySubject::ConfigBooleans => config_files::config_booleans(question, answer),
         RepositorySubject::Repositories => repositories::repositories(alloc, question, answer),
         RepositorySubject::WorkTrees => repositories::work_trees(alloc, question, answer),

@@ -13,9 +13,9 @@ use std::alloc::{AllocError, Global};
 
 /// A source that has its files in fields: a path and bytes each.
 #[derive(Drop)]
-struct Files<'a> {
-    alloc: Global,
-    fields: &'a [Field],
+pub(crate) struct Files<'a> {
+    pub(crate) alloc: Global,
+    pub(crate) fields: &'a [Field],
 }
 
 impl<'a> ConfigFiles for Files<'a> {
@@ -98,7 +98,7 @@ fn urls_of(alloc: Global, config: &Config) -> Result<Vec<Vec<u8>>, AllocError> {
 }
 
 /// The files of some lines, and then the words of others.
-fn sources_of<'a>(
+pub(crate) fn sources_of<'a>(
     alloc: Global,
     files: &'a [u8],
     words: &'a [u8],

@@ -10,6 +10,8 @@ mod attribute_states;
 mod bases;
 mod config_files;
 mod config_includes;
+mod config_sources;
+mod core_values;
 mod fault;
 mod file_table;
 mod ignore_runs;

@@ -102,6 +102,8 @@ pub(crate) enum RepositorySubject {
     IndexPaths,
     ConfigFiles,
     ConfigIncludes,
+    ConfigSources,
+    CoreSettings,
     ConfigBooleans,
     Repositories,
     WorkTrees,
@@ -129,7 +131,7 @@ impl Subject {
 }
 
 /// All files of rows, in the order in which they are asked: the name of each, how many fields are the answer, and what is asked.
-pub(crate) const FILES: [(&str, usize, Subject); 56] = [
+pub(crate) const FILES: [(&str, usize, Subject); 58] = [
     ("matching", 1, Subject::Pattern(PatternSubject::Matching)),
     ("starts", 1, Subject::Pattern(PatternSubject::Starts)),
     ("attempts", 1, Subject::Pattern(PatternSubject::Attempts)),
@@ -260,6 +262,16 @@ pub(crate) const FILES: [(&str, usize, Subject); 56] = [
         "config_includes",
         1,
         Subject::Repository(RepositorySubject::ConfigIncludes),
+    ),
+    (
+        "config_sources",
+        2,
+        Subject::Repository(RepositorySubject::ConfigSources),
+    ),
+    (
+        "core_settings",
+        4,
+        Subject::Repository(RepositorySubject::CoreSettings),
     ),
     (
         "config_booleans",

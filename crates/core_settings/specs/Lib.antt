@@ -1,0 +1,5 @@
+pub mod Private
+pub mod Sources
+pub mod UserFiles
+pub mod Values
+pub mod Views

@@ -1,0 +1,15 @@
+//! What Git's configuration says of matching and printing: which files and words are read, and what their section `core` sets.
+#![tactic(auto)]
+
+mod bytes;
+mod count;
+mod fault;
+mod paths;
+mod sources;
+mod user_files;
+mod values;
+
+pub use fault::{CoreFault, SourcesFault, WrongPairs};
+pub use paths::told_path;
+pub use sources::{ConfigPlaces, ConfigSource, ConfigSources, Pair, config_sources};
+pub use values::{CoreSettings, core_settings, key_of};

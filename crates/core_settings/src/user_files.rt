@@ -1,0 +1,82 @@
+//! Where the files of a user's settings lie.
+ghost use Rattle.std.specs.Prelude.{◌≡◌, ◌++◌, drop, not, option_map, position, IfOk};
+ghost use Rattle.std.specs.List.{position_or_len};
+ghost use Rattle.std.specs.Option.{option_copied};
+ghost use Rattle.std.specs.Vec.{vec_items};
+ghost use Rattle.git_config.specs.Paths.{is_slash};
+ghost use Rattle.core_settings.specs.UserFiles.{below_home, settings_file, settings_folder, without_dot};
+
+use crate::bytes::joined;
+use std::alloc::{AllocError, Global};
+
+/// A file in the folder of the user's settings.
+pub(crate) fn settings_file(
+    alloc: Global,
+    config_home: Option<&[u8]>,
+    home: Option<&[u8]>,
+    name: &[u8],
+) -> Result<Option<Vec<u8>>, AllocError>
+    ensures { IfOk result (λ file. option_map vec_items file ≡ settings_file (option_copied config_home.entry) (option_copied home.entry) name.now) }
+{
+    let Some(folder) = settings_folder(alloc, config_home, home)? else {
+        return Ok(None);
+    };
+    let front = joined(alloc, &folder, b"/git/")?;
+    let path = joined(alloc, &front, name)?;
+    Ok(Some(Vec::from_slice(alloc, without_dot(&path))?))
+}
+
+/// The folder of the user's settings.
+fn settings_folder(
+    alloc: Global,
+    config_home: Option<&[u8]>,
+    home: Option<&[u8]>,
+) -> Result<Option<Vec<u8>>, AllocError>
+    ensures { IfOk result (λ folder. option_map vec_items folder ≡ settings_folder (option_copied config_home.entry) (option_copied home.entry)) }
+{
+    match config_home {
+        Some(folder) if !folder.is_empty() => Ok(Some(Vec::from_slice(alloc, folder)?)),
+        _ => below_home(alloc, home, b"/.config"),
+    }
+}
+
+/// What follows the home folder, behind it.
+pub(crate) fn below_home(
+    alloc: Global,
+    home: Option<&[u8]>,
+    rest: &[u8],
+) -> Result<Option<Vec<u8>>, AllocError>
+    ensures { IfOk result (λ path. option_map vec_items path ≡ below_home (option_copied home.entry) rest.now) }
+{
+    match home {
+        Some(folder) => Ok(Some(joined(alloc, folder, rest)?)),
+        None => Ok(None),
+    }
+}
+
+/// A path without the current folder in front.
+fn without_dot(path: &[u8]) -> &[u8]
+    ensures { result.now ≡ without_dot path.now }
+{
+    match path.strip_prefix(b"./") {
+        Some(rest) => without_slashes(rest),
+        None => path,
+    }
+}
+
+/// A path without the slashes in front.
+fn without_slashes(path: &[u8]) -> &[u8]
+    ensures { result.now ≡ drop (position_or_len (λ b. not (is_slash b)) path.now) path.now }
+{
+    match first_other(path) {
+        Some(place) => &path[place..],
+        None => &[],
+    }
+}
+
+/// The place of the first byte that is no slash.
+fn first_other(path: &[u8]) -> Option<usize>
+    ensures { result ≡ position (λ b. not (is_slash b)) path.now }
+{
+    path.iter().position(|b| *b != b'/')
+}

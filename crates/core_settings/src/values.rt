@@ -1,0 +1,278 @@
+//! What the section `core` sets of matching and printing.
+ghost use Rattle.std.specs.Prelude.{◌≡◌, ◌⊎◌, ◌==◌, map, option_and_then, option_map, position, IfErr, IfOk};
+ghost use Rattle.std.specs.List.{list_any};
+ghost use Rattle.std.specs.Option.{option_copied};
+ghost use Rattle.std.specs.Str.{bytes_eq};
+ghost use Rattle.std.specs.Vec.{vec_items};
+ghost use Rattle.git_config.specs.Configuration.{key_of, seen_setting};
+ghost use Rattle.git_config.specs.Grammar.{before_zero};
+ghost use Rattle.core_settings.specs.Private.{Tells};
+ghost use Rattle.core_settings.specs.Values.{boolean_at, boolean_fault, core_of, fault_of, file_at, first_fault, if_path, is_boolean, is_path, last_value, path_fault, told_path};
+ghost use Rattle.core_settings.specs.UserFiles.{settings_file};
+ghost use Rattle.core_settings.specs.Views.{fault_with, seen_settings, settings_with};
+ghost use Rattle.core_settings.specs.declared.fault.CoreFault.TheVariants.{Memory};
+
+use crate::bytes::{joined, slice_of};
+use crate::fault::CoreFault;
+use crate::paths::told_path;
+use crate::user_files::settings_file;
+use git_config::{Config, ReadSetting, Surroundings, boolean};
+use std::alloc::{AllocError, Global};
+
+/// What the section `core` sets of matching and printing. `B` holds the bytes of a path; one that isn't absolute is told from the top
+/// of the work tree.
+#[derive(Debug, PartialEq, Eq, Drop)]
+pub struct CoreSettings<B> {
+    /// `ignoreCase`: ASCII letters match without case.
+    pub ignore_case: bool,
+    /// `quotePath`: bytes above 127 are a reason to quote a name that is printed.
+    pub quote_path: bool,
+    /// `excludesFile`: a file of patterns for each repository.
+    pub excludes: Option<B>,
+    /// `attributesFile`: a file of attributes for each repository.
+    pub attributes: Option<B>,
+}
+
+/// What a configuration sets. `config_home` is `XDG_CONFIG_HOME`, and `around.home` is `HOME`.
+///
+/// # Errors
+/// The first entry that is wrong, of all the keys of `core` that Git looks at, also where a later one is right: a boolean that is none,
+/// a path without a value, or one in a folder that isn't known. [`CoreFault::Memory`] where memory was refused.
+pub fn core_settings(
+    alloc: Global,
+    config: &Config,
+    around: &Surroundings,
+    config_home: Option<&[u8]>,
+) -> Result<CoreSettings<Vec<u8>>, CoreFault<Vec<u8>>>
+    ensures settings { IfOk result (λ core. core_of around.now (option_copied config_home.entry) (seen_settings config.now) ≡ Ok (settings_with vec_items core)) }
+    ensures fault { IfErr result (λ fault. (fault ≡ Memory) ⊎ (core_of around.now (option_copied config_home.entry) (seen_settings config.now) ≡ Err (fault_with vec_items fault))) }
+{
+    check_settings(alloc, config, around)?;
+    Ok(CoreSettings {
+        ignore_case: boolean_at(config, b"core.ignorecase", false),
+        quote_path: boolean_at(config, b"core.quotepath", true),
+        excludes: file_at(
+            alloc,
+            config,
+            around,
+            config_home,
+            b"core.excludesfile",
+            b"ignore",
+        )?,
+        attributes: file_at(
+            alloc,
+            config,
+            around,
+            config_home,
+            b"core.attributesfile",
+            b"attributes",
+        )?,
+    })
+}
+
+/// Looks at each entry.
+fn check_settings(
+    alloc: Global,
+    config: &Config,
+    around: &Surroundings,
+) -> Result<(), CoreFault<Vec<u8>>>
+    ensures { Tells (first_fault around.now (seen_settings config.now)) result }
+{
+    let mut rest = config.settings.as_slice();
+    'settings: while let Some((setting, more)) = rest.split_first() {
+        rest = more;
+        check_setting(alloc, around, setting)?;
+    }
+    Ok(())
+}
+
+/// Looks at an entry.
+fn check_setting(
+    alloc: Global,
+    around: &Surroundings,
+    setting: &ReadSetting,
+) -> Result<(), CoreFault<Vec<u8>>>
+    ensures { Tells (fault_of around.now (seen_setting setting.now)) result }
+{
+    let key = key_of(alloc, setting)?;
+    if is_boolean(&key) {
+        return check_boolean(alloc, key, &setting.entry.value);
+    }
+    if is_path(&key) {
+        return check_path(alloc, around, key, setting);
+    }
+    Ok(())
+}
+
+/// Looks at the value of a boolean.
+fn check_boolean(
+    alloc: Global,
+    key: Vec<u8>,
+    value: &Option<Vec<u8>>,
+) -> Result<(), CoreFault<Vec<u8>>>
+    ensures { Tells (boolean_fault key.items (option_map vec_items value.now)) result }
+{
+    match value {
+        Some(value) if boolean(Some(value)).is_none() => Err(CoreFault::Boolean {
+            key,
+            value: Vec::from_slice(alloc, value)?,
+        }),
+        _ => Ok(()),
+    }
+}
+
+/// Looks at the value of a path.
+fn check_path(
+    alloc: Global,
+    around: &Surroundings,
+    key: Vec<u8>,
+    setting: &ReadSetting,
+) -> Result<(), CoreFault<Vec<u8>>>
+    ensures { key.items ≡ key_of (seen_setting setting.now) → Tells (path_fault around.now (seen_setting setting.now) (option_map vec_items setting.now.entry.value)) result }
+{
+    let Some(value) = &setting.entry.value else {
+        return Err(CoreFault::NoPath {
+            key,
+            file: file_of(alloc, setting)?,
+            line: setting.entry.line,
+        });
+    };
+    if told_path(alloc, around, value)?.is_none() {
+        return Err(CoreFault::NoFolder(value.clone()?));
+    }
+    Ok(())
+}
+
+/// The file that a setting tells.
+fn file_of(alloc: Global, setting: &ReadSetting) -> Result<Option<Vec<u8>>, AllocError>
+    ensures { IfOk result (λ file. option_map vec_items file ≡ (seen_setting setting.now).file) }
+{
+    match &setting.file {
+        Some(path) => Ok(Some(Vec::from_slice(alloc, path)?)),
+        None => Ok(None),
+    }
+}
+
+/// The key of an entry: what stands before the first byte 0 of its section and name.
+///
+/// # Errors
+/// Only where memory was refused.
+pub fn key_of(alloc: Global, setting: &ReadSetting) -> Result<Vec<u8>, AllocError>
+    ensures { IfOk result (λ key. key.items ≡ key_of (seen_setting setting.now)) }
+{
+    let whole = joined(alloc, &setting.section, &setting.entry.name)?;
+    Vec::from_slice(alloc, until_zero(&whole))
+}
+
+/// What stands before the first byte 0.
+fn until_zero(bytes: &[u8]) -> &[u8]
+    ensures { result.now ≡ before_zero bytes.now }
+{
+    match first_zero(bytes) {
+        Some(place) => &bytes[..place],
+        None => bytes,
+    }
+}
+
+/// The place of the first byte 0.
+fn first_zero(bytes: &[u8]) -> Option<usize>
+    ensures { result ≡ position (λ b. b == 0) bytes.now }
+{
+    bytes.iter().position(|b| *b == 0)
+}
+
+/// The keys of booleans.
+const BOOLEANS: [&[u8]; 15] = [
+    b"core.filemode",
+    b"core.trustctime",
+    b"core.quotepath",
+    b"core.symlinks",
+    b"core.ignorecase",
+    b"core.bare",
+    b"core.ignorestat",
+    b"core.prefersymlinkrefs",
+    b"core.warnambiguousrefs",
+    b"core.precomposeunicode",
+    b"core.protecthfs",
+    b"core.protectntfs",
+    b"core.sparsecheckout",
+    b"core.sparsecheckoutcone",
+    b"core.usereplacerefs",
+];
+
+/// Whether Git looks for a boolean at a key.
+fn is_boolean(key: &[u8]) -> bool
+    ensures { result ≡ is_boolean key.now }
+{
+    is_among(key, &BOOLEANS)
+}
+
+/// The keys of paths.
+const PATHS: [&[u8]; 3] = [
+    b"core.excludesfile",
+    b"core.attributesfile",
+    b"core.hookspath",
+];
+
+/// Whether Git looks for a path at a key.
+fn is_path(key: &[u8]) -> bool
+    ensures { result ≡ is_path key.now }
+{
+    is_among(key, &PATHS)
+}
+
+/// Whether a key is among some.
+fn is_among(key: &[u8], keys: &[&[u8]]) -> bool
+    ensures { result ≡ list_any (bytes_eq key.now) (map (λ b. b.now) keys.now) }
+{
+    for other in keys {
+        if key == *other {
+            return true;
+        }
+    }
+    false
+}
+
+/// The boolean that counts of a key.
+fn boolean_at(config: &Config, key: &[u8], default: bool) -> bool
+    ensures { result ≡ boolean_at default (last_value key.now (seen_settings config.now)) }
+{
+    match config.last_of(key) {
+        Some(setting) => boolean(slice_of(&setting.entry.value)).unwrap_or(default),
+        None => default,
+    }
+}
+
+/// The file that counts of a key; by default that of a name among the user's settings.
+fn file_at(
+    alloc: Global,
+    config: &Config,
+    around: &Surroundings,
+    config_home: Option<&[u8]>,
+    key: &[u8],
+    name: &[u8],
+) -> Result<Option<Vec<u8>>, AllocError>
+    ensures { IfOk result (λ file. option_map vec_items file ≡ file_at around.now (settings_file (option_copied config_home.entry) (option_map vec_items around.now.home) name.now) (last_value key.now (seen_settings config.now))) }
+{
+    match config.last_of(key) {
+        Some(setting) => path_at(alloc, around, setting),
+        None => settings_file(alloc, config_home, slice_of(&around.home), name),
+    }
+}
+
+/// The file that an entry sets, if its path isn't empty.
+fn path_at(
+    alloc: Global,
+    around: &Surroundings,
+    setting: &ReadSetting,
+) -> Result<Option<Vec<u8>>, AllocError>
+    ensures { IfOk result (λ file. option_map vec_items file ≡ if_path (option_and_then (told_path around.now) (option_map vec_items setting.now.entry.value))) }
+{
+    let Some(value) = &setting.entry.value else {
+        return Ok(None);
+    };
+    match told_path(alloc, around, value)? {
+        Some(path) if !path.is_empty() => Ok(Some(path)),
+        _ => Ok(None),
+    }
+}

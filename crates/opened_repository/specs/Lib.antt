@@ -1,0 +1,9 @@
+pub mod Alone
+pub mod Answers
+pub mod Faults
+pub mod Heads
+pub mod Opening
+pub mod Private
+pub mod Readings
+pub mod Results
+pub mod Safe

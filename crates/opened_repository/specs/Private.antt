@@ -1,0 +1,14 @@
+-- Words that only private clauses cite.
+use Rattle.std.specs.Prelude.{Option, None, Result, Ok, Err}
+use Rattle.opened_repository.specs.Answers.{fault_of}
+use Rattle.opened_repository.specs.Safe.{setting_by}
+use Rattle.opened_repository.specs.declared.fault.OpenFault.{OpenFault}
+use Rattle.opened_repository.specs.declared.fault.OpenFault.TheVariants.{File, Memory, Told}
+use Rattle.opened_repository.specs.declared.trusted.SafeSetting.{SafeSetting}
+
+-- the setting that is asked after a call
+abbrev pub setting_asked : {X F : Type 0} → Result X (OpenFault F) → Option SafeSetting
+setting_asked (Ok found) = None
+setting_asked (Err Memory) = None
+setting_asked (Err (File fault)) = None
+setting_asked (Err (Told fault)) = setting_by (fault_of fault)

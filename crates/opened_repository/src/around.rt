@@ -1,0 +1,71 @@
+//! What the conditions of a configuration are told from.
+ghost use Rattle.std.specs.Prelude.{◌≡◌, map, option_map, IfOk};
+ghost use Rattle.std.specs.Vec.{vec_items};
+ghost use Rattle.opened_repository.specs.Readings.{IsAround, known_of, user_of};
+
+use git_config::{Surroundings, UserFolder};
+use std::alloc::{AllocError, Global};
+
+/// What is known of a repository while its configuration is read.
+#[derive(Debug, Drop)]
+pub(crate) struct KnownRepository {
+    /// The paths of the git folder; none outside a repository.
+    pub(crate) folders: Vec<Vec<u8>>,
+    /// The branch that `HEAD` names.
+    pub(crate) branch: Option<Vec<u8>>,
+}
+
+/// The surroundings of a reading: the user and the installation, and what is known of the repository.
+pub(crate) fn around_of(
+    alloc: Global,
+    start: &Surroundings,
+    known: &KnownRepository,
+    urls: Vec<Vec<u8>>,
+) -> Result<Surroundings, AllocError>
+    ensures { IfOk result (λ around. IsAround start.now (known_of known.now) (map vec_items urls.items) around) }
+{
+    Ok(Surroundings {
+        home: copy_of(alloc, &start.home)?,
+        real_home: copy_of(alloc, &start.real_home)?,
+        installed: copy_of(alloc, &start.installed)?,
+        users: users_of(alloc, &start.users)?,
+        git_folders: copies_of(alloc, &known.folders)?,
+        branch: copy_of(alloc, &known.branch)?,
+        urls,
+    })
+}
+
+/// A copy of bytes, where there are any.
+fn copy_of(alloc: Global, bytes: &Option<Vec<u8>>) -> Result<Option<Vec<u8>>, AllocError>
+    ensures { IfOk result (λ copy. option_map vec_items copy ≡ option_map vec_items bytes.now) }
+{
+    match bytes {
+        Some(bytes) => Ok(Some(Vec::from_slice(alloc, bytes)?)),
+        None => Ok(None),
+    }
+}
+
+/// Copies of texts.
+fn copies_of(alloc: Global, texts: &[Vec<u8>]) -> Result<Vec<Vec<u8>>, AllocError>
+    ensures { IfOk result (λ copies. map vec_items copies.items ≡ map vec_items texts.now) }
+{
+    let mut copies = Vec::new(alloc);
+    for text in texts {
+        copies.push(Vec::from_slice(alloc, text)?)?;
+    }
+    Ok(copies)
+}
+
+/// Copies of users.
+fn users_of(alloc: Global, users: &[UserFolder]) -> Result<Vec<UserFolder>, AllocError>
+    ensures { IfOk result (λ copies. map user_of copies.items ≡ map user_of users.now) }
+{
+    let mut copies = Vec::new(alloc);
+    for user in users {
+        copies.push(UserFolder {
+            name: Vec::from_slice(alloc, &user.name)?,
+            folder: Vec::from_slice(alloc, &user.folder)?,
+        })?;
+    }
+    Ok(copies)
+}

@@ -1,0 +1,47 @@
+//! The URLs of remotes that a configuration tells.
+ghost use Rattle.std.specs.Prelude.{◌≡◌, map, option_map, IfOk};
+ghost use Rattle.std.specs.Option.{option_copied};
+ghost use Rattle.std.specs.Vec.{vec_items};
+ghost use Rattle.git_config.specs.Configuration.{seen_setting};
+ghost use Rattle.core_settings.specs.Views.{seen_settings};
+ghost use Rattle.opened_repository.specs.Readings.{is_url, url_of, urls_of};
+
+use core_settings::key_of;
+use git_config::{Config, ReadSetting};
+use std::alloc::{AllocError, Global};
+
+/// The URLs of the remotes.
+pub(crate) fn urls_of(alloc: Global, config: &Config) -> Result<Vec<Vec<u8>>, AllocError>
+    ensures { IfOk result (λ urls. map vec_items urls.items ≡ urls_of (seen_settings config.now)) }
+{
+    let mut urls = Vec::new(alloc);
+    let mut rest = config.settings.as_slice();
+    'settings: while let Some((setting, more)) = rest.split_first() {
+        rest = more;
+        if let Some(url) = url_of(alloc, setting)? {
+            urls.push(url)?;
+        }
+    }
+    Ok(urls)
+}
+
+/// The URL that an entry tells.
+fn url_of(alloc: Global, setting: &ReadSetting) -> Result<Option<Vec<u8>>, AllocError>
+    ensures { IfOk result (λ url. option_map vec_items url ≡ url_of (seen_setting setting.now)) }
+{
+    let key = key_of(alloc, setting)?;
+    if !is_url(&key) {
+        return Ok(None);
+    }
+    match &setting.entry.value {
+        Some(url) => Ok(Some(Vec::from_slice(alloc, url)?)),
+        None => Ok(None),
+    }
+}
+
+/// Whether a key is that of a remote's URL.
+fn is_url(key: &[u8]) -> bool
+    ensures { result ≡ is_url key.now }
+{
+    key.starts_with(b"remote.") && key.ends_with(b".url") && key.len() >= b"remote..url".len()
+}

@@ -1,0 +1,4 @@
+pub mod Parts
+pub mod Sight
+pub mod User
+pub mod Variables

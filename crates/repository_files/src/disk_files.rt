@@ -1,0 +1,119 @@
+//! The files of the operating system, as the search for a repository asks for them.
+ghost use Rattle.git_repository.specs.FileTree.{unknown_tree};
+
+use crate::reading::{Unread, answered, read_front};
+use crate::real_path::real_path;
+use crate::user::User;
+use git_repository::FileSystem;
+use std::alloc::{AllocError, Global};
+use std::fs;
+use std::fs::Metadata;
+use std::io::ErrorKind;
+use std::os::unix::fs::MetadataExt;
+use std::rt::Files;
+
+/// The files of the operating system. What can't be looked at isn't there. The kit opens a file only by a text, so what has a path that is
+/// no UTF-8 isn't there, either.
+#[derive(Drop)]
+pub struct DiskFiles<'a, R> {
+    pub(crate) rt: &'a R,
+    pub(crate) alloc: Global,
+    user: User,
+}
+
+impl<'a, R> DiskFiles<'a, R> {
+    /// The files as this user sees them.
+    pub fn new(rt: &'a R, alloc: Global, user: User) -> DiskFiles<'a, R> {
+        DiskFiles { rt, alloc, user }
+    }
+}
+
+impl<'a, R: Files> DiskFiles<'a, R> {
+    /// What stands at a path, where links are followed.
+    fn found(&self, path: &[u8]) -> Result<Option<Metadata>, AllocError> {
+        match str::from_utf8(path) {
+            Ok(path) => answered(fs::metadata(self.rt, path)),
+            Err(_bad) => Ok(None),
+        }
+    }
+
+    /// What stands at a path. A link isn't followed.
+    fn standing(&self, path: &[u8]) -> Result<Option<Metadata>, AllocError> {
+        match str::from_utf8(path) {
+            Ok(path) => answered(fs::symlink_metadata(self.rt, path)),
+            Err(_bad) => Ok(None),
+        }
+    }
+
+    /// Whether what is told from a folder by `.` is found, which needs leave to enter it.
+    fn leads_into(&self, folder: &[u8]) -> Result<bool, AllocError> {
+        let mut inner = Vec::from_slice(self.alloc, folder)?;
+        inner.extend_from_slice(b"/.")?;
+        Ok(self.found(&inner)?.is_some())
+    }
+}
+
+/// The bits of a mode that let the owner, the group or others run a file.
+const RUN_BITS: u32 = 0o111;
+
+/// Nothing is known of real files, so nothing is claimed of them.
+impl<'a, R: Files> FileSystem for DiskFiles<'a, R> {
+    ghost tree = { λ _. unknown_tree };
+
+    ghost is_known = { λ _. ⊥ };
+
+    fn is_file(&self, path: &[u8]) -> Result<bool, AllocError> {
+        Ok(self.found(path)?.is_some_and(|there| there.is_file()))
+    }
+
+    fn is_there(&self, path: &[u8]) -> Result<bool, AllocError> {
+        Ok(self.standing(path)?.is_some())
+    }
+
+    /// The text of a link that is no UTF-8 can't be had: it is told as no link.
+    fn link(&self, path: &[u8]) -> Result<Option<Vec<u8>>, AllocError> {
+        let Ok(path) = str::from_utf8(path) else {
+            return Ok(None);
+        };
+        let link = answered(self.rt.read_link(self.alloc, path))?;
+        Ok(link.map(|text| text.into_string().into_bytes()))
+    }
+
+    fn bytes(&self, path: &[u8], limit: usize) -> Result<Option<Vec<u8>>, AllocError> {
+        let Ok(path) = str::from_utf8(path) else {
+            return Ok(None);
+        };
+        match read_front(self.rt, self.alloc, path, limit) {
+            Ok(bytes) => Ok(Some(bytes)),
+            Err(Unread::System(error)) if error.kind() == ErrorKind::OutOfMemory => Err(AllocError),
+            Err(_unread) => Ok(None),
+        }
+    }
+
+    /// The kit has no `access`: a folder can be entered where `.` is found in it. What is no folder is answered for by the bits of its
+    /// mode, whoever they let run it.
+    fn can_enter(&self, path: &[u8]) -> Result<bool, AllocError> {
+        match self.found(path)? {
+            Some(there) if there.is_dir() => self.leads_into(path),
+            Some(there) => Ok(there.mode() & RUN_BITS != 0),
+            None => Ok(false),
+        }
+    }
+
+    fn is_ours(&self, path: &[u8]) -> Result<bool, AllocError> {
+        let user = self.user;
+        Ok(
+            self.standing(path)?
+                .is_some_and(|there| user.owns(there.uid())),
+        )
+    }
+
+    /// 0 where nothing can be looked at.
+    fn device(&self, path: &[u8]) -> Result<u64, AllocError> {
+        Ok(self.found(path)?.map_or(0, |there| there.dev()))
+    }
+
+    fn real_path(&self, path: &[u8]) -> Result<Option<Vec<u8>>, AllocError> {
+        real_path(self.rt, self.alloc, path)
+    }
+}

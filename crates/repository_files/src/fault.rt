@@ -1,0 +1,105 @@
+//! Why a file of a configuration isn't read, or a variable of the environment.
+ghost use Rattle.std.specs.Prelude.{◌≡◌};
+
+use bstr::BStr;
+use std::alloc::AllocError;
+use std::error::Error;
+use std::fmt;
+
+/// Why the file at a path isn't read.
+#[derive(Debug, PartialEq, Eq, Drop)]
+pub enum WrongFile {
+    /// A folder stands there.
+    Folder,
+    /// A pipe, a socket or a device stands there, which isn't read.
+    NoFile,
+    /// Another file took its place while it was opened.
+    Replaced,
+    /// It has more than 100 MiB.
+    TooLarge,
+    /// The system's words, as `Permission denied`.
+    Refused(String),
+}
+
+/// Why a file of a configuration isn't read.
+#[derive(Debug, PartialEq, Eq, Drop)]
+pub enum ConfigFileFault {
+    /// Memory was refused.
+    Memory,
+    /// More than 10,000 files were asked for.
+    TooMany,
+    /// Something is wrong with the file at this path.
+    At(WrongFile, Vec<u8>),
+}
+
+impl From<AllocError> for ConfigFileFault {
+    ghost use Rattle.repository_files.specs.declared.fault.ConfigFileFault.TheVariants.{Memory};
+
+    ghost from_gives = { λ _ fault. fault ≡ Memory };
+
+    fn from(_refused: AllocError) -> ConfigFileFault {
+        ConfigFileFault::Memory
+    }
+}
+
+/// The words of Git, where it has any: of a folder it warns by these.
+impl fmt::Display for ConfigFileFault {
+    fn fmt<W: fmt::Write>(&self, f: &mut fmt::Formatter<W>) -> fmt::Result {
+        match self {
+            ConfigFileFault::Memory => write!(f, "no memory"),
+            ConfigFileFault::TooMany => write!(f, "more than 10000 files of configuration"),
+            ConfigFileFault::At(wrong, path) => {
+                let path = BStr::new(path);
+                let reason = words_of(wrong);
+                write!(f, "unable to access '{path}': {reason}")
+            }
+        }
+    }
+}
+
+impl Error for ConfigFileFault {}
+
+/// What is said behind a path.
+fn words_of(wrong: &WrongFile) -> &str {
+    match wrong {
+        WrongFile::Folder => "Is a directory",
+        WrongFile::NoFile => "it is no regular file",
+        WrongFile::Replaced => "another file took its place",
+        WrongFile::TooLarge => "it has more than 100 MiB",
+        WrongFile::Refused(text) => text.as_str(),
+    }
+}
+
+/// Why the variables of the environment aren't read.
+#[derive(Debug, PartialEq, Eq, Drop)]
+pub enum VariableFault {
+    /// Memory was refused.
+    Memory,
+    /// The variable of this name is set to this text, which is no boolean.
+    NoBoolean(&'static str, Vec<u8>),
+}
+
+impl From<AllocError> for VariableFault {
+    ghost use Rattle.repository_files.specs.declared.fault.VariableFault.TheVariants.{Memory};
+
+    ghost from_gives = { λ _ fault. fault ≡ Memory };
+
+    fn from(_refused: AllocError) -> VariableFault {
+        VariableFault::Memory
+    }
+}
+
+/// The words of Git.
+impl fmt::Display for VariableFault {
+    fn fmt<W: fmt::Write>(&self, f: &mut fmt::Formatter<W>) -> fmt::Result {
+        match self {
+            VariableFault::Memory => write!(f, "no memory"),
+            VariableFault::NoBoolean(name, value) => {
+                let value = BStr::new(value);
+                write!(f, "bad boolean config value '{value}' for '{name}'")
+            }
+        }
+    }
+}
+
+impl Error for VariableFault {}

@@ -1,0 +1,65 @@
+//! Reading a file, which is looked at before it is opened, and again when it is.
+
+use crate::sight::{FileKind, Sight, is_same_file};
+use std::alloc::{AllocError, Global};
+use std::fs::OpenFile;
+use std::io::{ErrorKind, Read};
+use std::rt::Files;
+use std::{fs, io};
+
+/// Why a file isn't read.
+#[derive(Drop)]
+pub(crate) enum Unread {
+    /// A folder stands there.
+    Folder,
+    /// What stands there might be waited for.
+    Other,
+    /// Another file took its place before it was opened.
+    Replaced,
+    /// The system's error, or that memory was refused.
+    System(io::Error),
+}
+
+impl From<io::Error> for Unread {
+    fn from(error: io::Error) -> Unread {
+        Unread::System(error)
+    }
+}
+
+/// The front of the regular file at a path, so many bytes of it at most. Links are followed, and `/dev/null` has no bytes.
+///
+/// # Errors
+/// Where it can't be read, be it that it isn't there.
+pub(crate) fn read_front<R: Files>(
+    rt: &R,
+    alloc: Global,
+    path: &str,
+    limit: usize,
+) -> Result<Vec<u8>, Unread> {
+    let seen = Sight::of(&fs::metadata(rt, path)?);
+    match seen.kind {
+        FileKind::Regular => {}
+        FileKind::Null => return Ok(Vec::new(alloc)),
+        FileKind::Folder => return Err(Unread::Folder),
+        FileKind::Other => return Err(Unread::Other),
+    }
+    let opened = fs::open(rt, path)?;
+    if !is_same_file(&seen, &Sight::of(&opened.metadata()?)) {
+        return Err(Unread::Replaced);
+    }
+    let mut bytes = Vec::new(alloc);
+    opened.take(limit as u64).read_to_end(&mut bytes)?;
+    Ok(bytes)
+}
+
+/// What the system answers; `None` where it answers an error.
+///
+/// # Errors
+/// Only where memory was refused.
+pub(crate) fn answered<T>(answer: io::Result<T>) -> Result<Option<T>, AllocError> {
+    match answer {
+        Ok(found) => Ok(Some(found)),
+        Err(error) if error.kind() == ErrorKind::OutOfMemory => Err(AllocError),
+        Err(_error) => Ok(None),
+    }
+}
