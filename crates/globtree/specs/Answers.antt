@@ -1,5 +1,5 @@
 -- What is answered for the words. Of real files nothing is known: a folder may have any file, and anything may stand at a path.
-use Rattle.std.specs.Prelude.{◌≡◌, ℕ, Bool, true, false, if◌then◌else◌, List, AllPairs, Option, Ok, drop, length, map, string_bytes, take}
+use Rattle.std.specs.Prelude.{◌≡◌, ◌||◌, ℕ, Bool, true, false, if◌then◌else◌, List, AllPairs, Option, Ok, drop, length, map, string_bytes, take}
 use Rattle.std.specs.Io.KnownBytes.{Appends}
 use Rattle.std.specs.List.{flat_map}
 use Rattle.gix_glob.specs.declared.pattern.Case.{Case}
@@ -10,6 +10,7 @@ use Rattle.glob_lists.specs.declared.rules.Rules.{Rules}
 use Rattle.glob_lists.specs.Rules.{by_git}
 use Rattle.glob_trees.specs.Ways.{Folder}
 use Rattle.record_streams.specs.Records.{AnswersAll}
+use Rattle.told_paths.specs.Standpoints.{led}
 use Rattle.told_paths.specs.declared.standpoint.Standpoint.{Standpoint}
 use Rattle.tree_answers.specs.Lines.{behind}
 use Rattle.tree_commands.specs.Answering.{TextOfNamed, TextOfPaths, Writes}
@@ -34,32 +35,37 @@ any_list folder list = Unit {0}
 abbrev pub any_file : Folder → Option (List ℕ) → Type 0
 any_file folder file = Unit {0}
 
--- whether the case of letters counts
-abbrev pub case_by : Options → Case
-case_by options = if options.ignore_case then Fold else Sensitive
+-- whether the case of letters counts, by the options and by what the configuration says
+abbrev pub case_by : Options → Bool → Case
+case_by options folds = if options.ignore_case || folds then Fold else Sensitive
 
--- The text about each path that the input names was written, and all of it was read. Patterns are matched by these rules.
-pub record ReadsIgnore (rules : Rules) (flags : IgnoreFlags) (is_any : Bool) (left rest old new : Option (List ℕ)) : Type 0 where
+-- The text about each path that the input names was written, and all of it was read. Paths are told from the standpoint, and patterns
+-- matched by these rules.
+pub record ReadsIgnore (standpoint : Standpoint) (rules : Rules) (flags : IgnoreFlags) (is_any : Bool) (left rest old new : Option (List ℕ)) : Type 0 where
   pub question : Question
+  pub from : question.leads ≡ led standpoint
   pub by_rules : question.rules ≡ rules
   pub asks : question.flags ≡ flags
   pub run : Run (ReadsWhole left rest)
       (AnswersAll (TextOfNamed (IsIgnoreAnswer question any_list) (IsStatus question any_list is_any) flags.form) (behind flags.form 10)) (Appends old new)
 
 -- the text about each of these paths was written
-pub record TellsIgnore (rules : Rules) (flags : IgnoreFlags) (paths : List (List ℕ)) (is_any : Bool) (old new : Option (List ℕ)) : Type 0 where
+pub record TellsIgnore (standpoint : Standpoint) (rules : Rules) (flags : IgnoreFlags) (paths : List (List ℕ)) (is_any : Bool) (old new : Option (List ℕ)) : Type 0 where
   pub question : Question
+  pub from : question.leads ≡ led standpoint
   pub by_rules : question.rules ≡ rules
   pub asks : question.flags ≡ flags
   pub writes : Writes (TextOfPaths (IsIgnoreAnswer question any_list) (IsStatus question any_list is_any) paths) (Appends old new)
 
--- The words behind `check-ignore` were answered: with `--stdin` the paths that are read, else those among the words. The status says
--- whether a line decides about one.
-pub record AnswersIgnore (case : Case) (flags : CheckIgnoreFlags) (words : List (List ℕ)) (status : ℕ) (left rest old new : Option (List ℕ)) : Type 0 where
+-- The words behind `check-ignore` were answered from some standpoint, whatever the configuration says: with `--stdin` the paths that are
+-- read, else those among the words. The status says whether a line decides about one.
+pub record AnswersIgnore (options : Options) (flags : CheckIgnoreFlags) (words : List (List ℕ)) (status : ℕ) (left rest old new : Option (List ℕ)) : Type 0 where
+  pub standpoint : Standpoint
+  pub folds : Bool
   pub is_any : Bool
   pub ends : status ≡ (if is_any then 0 else 1)
-  pub read : flags.stdin ≡ true → ReadsIgnore (by_git case) (asked_by_flags flags) is_any left rest old new
-  pub told : flags.stdin ≡ false → TellsIgnore (by_git case) (asked_by_flags flags) (operands_among words) is_any old new
+  pub read : flags.stdin ≡ true → ReadsIgnore standpoint (by_git (case_by options folds)) (asked_by_flags flags) is_any left rest old new
+  pub told : flags.stdin ≡ false → TellsIgnore standpoint (by_git (case_by options folds)) (asked_by_flags flags) (operands_among words) is_any old new
 
 -- the states for each path that the input names were written, and all of it was read
 abbrev pub ReadsStates : Query → Option (List ℕ) → Option (List ℕ) → Option (List ℕ) → Option (List ℕ) → Type 0
@@ -71,11 +77,12 @@ abbrev pub TellsStates : Query → List (List ℕ) → Option (List ℕ) → Opt
 TellsStates query paths old new = Writes (TextOfPaths (IsStatesText query any_file) (λ _. Unit {0}) paths) (Appends old new)
 
 -- The words behind `check-attr` were answered in the same way, by the states of all attributes, or of those that the first operands name.
-pub record AnswersAttr (case : Case) (flags : CheckAttrFlags) (words : List (List ℕ)) (left rest old new : Option (List ℕ)) : Type 0 where
+pub record AnswersAttr (options : Options) (flags : CheckAttrFlags) (words : List (List ℕ)) (left rest old new : Option (List ℕ)) : Type 0 where
   pub count : ℕ
   pub names : names_first flags (length (operands_among words)) (dashes_at words) ≡ Ok count
   pub query : Query
-  pub cased : query.case ≡ case
+  pub folds : Bool
+  pub cased : query.case ≡ case_by options folds
   pub form : query.form ≡ form_by flags.nul
   pub asks : query.asked ≡ (if flags.all then all else named (take count (operands_among words)))
   pub read : flags.stdin ≡ true → ReadsStates query left rest old new
@@ -89,16 +96,16 @@ pub record AnswersFiles (flags : FilesFlags) (old new : Option (List ℕ)) : Typ
   pub written : Appends old new (flat_map (path_line standpoint (form_by flags.nul)) paths)
 
 -- A command was answered. Of how the program is used, and which it is, some text was written.
-abbrev pub AnswersCommand : Case → Command → ℕ → Option (List ℕ) → Option (List ℕ) → Option (List ℕ) → Option (List ℕ) → Type 0
-AnswersCommand case command.Help status left rest old new = (text : List ℕ) × Appends old new text
-AnswersCommand case command.Version status left rest old new = (text : List ℕ) × Appends old new text
-AnswersCommand case (command.CheckIgnore flags words) status left rest old new = AnswersIgnore case flags (map string_bytes words.now) status left rest old new
-AnswersCommand case (command.CheckAttr flags words) status left rest old new = AnswersAttr case flags (map string_bytes words.now) left rest old new
-AnswersCommand case (command.Files flags folder) status left rest old new = AnswersFiles flags old new
+abbrev pub AnswersCommand : Options → Command → ℕ → Option (List ℕ) → Option (List ℕ) → Option (List ℕ) → Option (List ℕ) → Type 0
+AnswersCommand options command.Help status left rest old new = (text : List ℕ) × Appends old new text
+AnswersCommand options command.Version status left rest old new = (text : List ℕ) × Appends old new text
+AnswersCommand options (command.CheckIgnore flags words) status left rest old new = AnswersIgnore options flags (map string_bytes words.now) status left rest old new
+AnswersCommand options (command.CheckAttr flags words) status left rest old new = AnswersAttr options flags (map string_bytes words.now) left rest old new
+AnswersCommand options (command.Files flags folder) status left rest old new = AnswersFiles flags old new
 
 -- the words were answered with this status, by the command that they ask for
 pub record AnswersWords (words : List (List ℕ)) (status : ℕ) (left rest old new : Option (List ℕ)) : Type 0 where
   pub options : Options
   pub command : Command
   pub asks : Ask words options command
-  pub answers : AnswersCommand (case_by options) command status left rest old new
+  pub answers : AnswersCommand options command status left rest old new

@@ -1,5 +1,4 @@
 pub mod Answers
-pub mod ConfigKeys
 pub mod IndexHead
 pub mod Running
 pub mod SeenFiles

@@ -10,9 +10,9 @@ use crate::attribute_files::AttributeFiles;
 use crate::check_ignore::bytes_of;
 use crate::fault::CheckFault;
 use crate::outer_attributes::{OuterAttributes, outer_attributes};
+use crate::fronts::case_of;
 use crate::running::{ANSWERED, WRONG_WORDS};
 use crate::telling::{tell_line, tell_usage};
-use crate::work_tree::case_of;
 use anyhow::{Context, Result};
 use gix_glob::search::Watched;
 use glob_attributes::is_name;
@@ -50,7 +50,7 @@ pub(crate) fn check_attr<R: Files + Env + Eprint + AllocGlobal, I: Read, O: Writ
     requires readable { has_failed input.old ≡ false }
     requires writable { has_failed output.old ≡ false }
     ensures status { IfOk result (λ status. IsAnswered status ⊎ IsRefused status) }
-    ensures answered { IfOk result (λ status. IsAnswered status → AnswersAttr (case_by options.entry) flags (map string_bytes words.now) (I.remaining (inner input.old)) (I.remaining (inner input.new)) (O.contents (inner output.old)) (O.contents (inner output.new))) }
+    ensures answered { IfOk result (λ status. IsAnswered status → AnswersAttr options.entry flags (map string_bytes words.now) (I.remaining (inner input.old)) (I.remaining (inner input.new)) (O.contents (inner output.old)) (O.contents (inner output.new))) }
     ensures unread { IfOk result (λ status. IsRefused status → input.new ≡ input.old) }
     ensures unwritten { IfOk result (λ status. IsRefused status → output.new ≡ output.old) }
 {
@@ -130,7 +130,7 @@ fn question_of<'a>(
     options: Options<'_>,
     flags: CheckAttrFlags,
 ) -> AttributeQuestion<'a>
-    ensures case { result.case ≡ case_by options.entry }
+    ensures case { result.case ≡ case_by options.entry outer.now.folds }
     ensures form { result.form ≡ form_by flags.nul }
     ensures asks { result.asked ≡ (if flags.all then all else named (map (λ (name : Bor (List ℕ)). name.now) names.now)) }
 {
@@ -142,7 +142,7 @@ fn question_of<'a>(
     AttributeQuestion::new(
         outer.files(),
         asked,
-        case_of(options),
+        case_of(options, outer.folds),
         &outer.standpoint,
         Form::ended_by(flags.nul),
     )

@@ -2,16 +2,15 @@
 ghost use Rattle.std.specs.Prelude.{◌≡◌, ℕ, List, IfOk, false, if◌then◌else◌, map, string_bytes};
 ghost use Rattle.std.specs.Borrow.{Bor};
 ghost use Rattle.gix_glob.specs.Watched.{has_failed, inner};
-ghost use Rattle.glob_lists.specs.Rules.{by_git};
-ghost use Rattle.globtree.specs.Answers.{AnswersIgnore, ReadsIgnore, TellsIgnore, case_by};
+ghost use Rattle.globtree.specs.Answers.{AnswersIgnore, ReadsIgnore, TellsIgnore};
 ghost use Rattle.globtree.specs.Running.{IsAnswered, asked_by_flags};
 
 use crate::fault::CheckFault;
 use crate::file_kinds::FileKinds;
+use crate::fronts::{case_of, fronts_of, tree_behind};
 use crate::running::ANSWERED;
 use crate::signs::Concerns;
 use crate::sources::FolderFiles;
-use crate::work_tree::tree_of;
 use anyhow::{Context, Result, bail};
 use gix_glob::search::Watched;
 use record_streams::RecordFault;
@@ -42,13 +41,23 @@ pub(crate) fn check_ignore<R: Files + Env + Eprint + AllocGlobal, I: Read, O: Wr
     requires readable { has_failed input.old ≡ false }
     requires writable { has_failed output.old ≡ false }
     ensures status { IfOk result IsAnswered }
-    ensures answered { IfOk result (λ status. AnswersIgnore (case_by options.entry) flags (map string_bytes words.now) status (I.remaining (inner input.old)) (I.remaining (inner input.new)) (O.contents (inner output.old)) (O.contents (inner output.new))) }
+    ensures answered { IfOk result (λ status. AnswersIgnore options.entry flags (map string_bytes words.now) status (I.remaining (inner input.old)) (I.remaining (inner input.new)) (O.contents (inner output.old)) (O.contents (inner output.new))) }
 {
     let paths = operands_of(alloc, words).context("the paths")?.words;
     if let Some(message) = flags.disagreement(paths.len()) {
         bail!("{message}");
     }
-    let (standpoint, sources) = sources_of(rt, alloc, options, flags)?;
+    let concerns = Concerns {
+        are_attributes: false,
+        is_nul: flags.nul,
+        uses_index: !flags.no_index,
+    };
+    let fronts = fronts_of(rt, alloc, options, concerns)?;
+    let case = case_of(options, fronts.folds);
+    let tree = tree_behind(rt, alloc, fronts.lists, case)?;
+    let kinds = FileKinds { rt, alloc };
+    let sources = IgnoreSources { tree, kinds };
+    let standpoint = fronts.standpoint;
     let asked = asked_by_flags(flags);
     if flags.stdin {
         let is_any = answer_input(alloc, &standpoint, asked, sources, input, output)?;
@@ -77,7 +86,7 @@ fn answer_input<R: Files + Eprint, I: Read, O: Write>(
 ) -> Result<bool>
     requires readable { has_failed input.old ≡ false }
     requires writable { has_failed output.old ≡ false }
-    ensures { IfOk result (λ is_any. ReadsIgnore sources.entry.tree.rules asked is_any (I.remaining (inner input.old)) (I.remaining (inner input.new)) (O.contents (inner output.old)) (O.contents (inner output.new))) }
+    ensures { IfOk result (λ is_any. ReadsIgnore standpoint.now sources.entry.tree.rules asked is_any (I.remaining (inner input.old)) (I.remaining (inner input.new)) (O.contents (inner output.old)) (O.contents (inner output.new))) }
 {
     let (_sources, outcome) = run_check_ignore(alloc, standpoint, asked, sources, input, output);
     outcome.map_err(|fault| told_fault(alloc, fault))
@@ -93,7 +102,7 @@ fn answer_paths<R: Files + Eprint, O: Write>(
     output: &mut Watched<O>,
 ) -> Result<bool>
     requires { has_failed output.old ≡ false }
-    ensures { IfOk result (λ is_any. TellsIgnore sources.entry.tree.rules asked (map (λ (path : Bor (List ℕ)). path.now) paths.now) is_any (O.contents (inner output.old)) (O.contents (inner output.new))) }
+    ensures { IfOk result (λ is_any. TellsIgnore standpoint.now sources.entry.tree.rules asked (map (λ (path : Bor (List ℕ)). path.now) paths.now) is_any (O.contents (inner output.old)) (O.contents (inner output.new))) }
 {
     let (_sources, outcome) = check_ignore_paths(alloc, standpoint, asked, sources, paths, output);
     outcome.map_err(|fault| told_fault(alloc, fault))
@@ -117,30 +126,6 @@ fn asked_by_flags(flags: CheckIgnoreFlags) -> IgnoreFlags
         non_matching: flags.non_matching,
         quiet: flags.quiet,
     }
-}
-
-/// Where paths are told from, and where answers come from by the options.
-fn sources_of<'a, R: Files + Env + Eprint + AllocGlobal>(
-    rt: &'a R,
-    alloc: Global,
-    options: Options<'_>,
-    flags: CheckIgnoreFlags,
-) -> Result<
-    (
-        Standpoint,
-        IgnoreSources<FolderFiles<'a, R>, FileKinds<'a, R>>,
-    ),
->
-    ensures { IfOk result (λ both. both.1.tree.rules ≡ by_git (case_by options.entry)) }
-{
-    let concerns = Concerns {
-        are_attributes: false,
-        is_nul: flags.nul,
-        uses_index: !flags.no_index,
-    };
-    let (standpoint, tree) = tree_of(rt, alloc, options, concerns)?;
-    let kinds = FileKinds { rt, alloc };
-    Ok((standpoint, IgnoreSources { tree, kinds }))
 }
 
 /// The bytes of each of the words.

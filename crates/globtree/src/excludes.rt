@@ -1,54 +1,43 @@
-//! The files that count before those of all folders.
+//! Files of excludes, which count before those of all folders.
 use crate::seen_files::{file_list, named_list};
-use anyhow::{Context, Result};
+use anyhow::{Context, Result, bail};
 use gix_glob::search::pattern::List;
 use glob_lines::IgnoreLines;
-use glob_lists::{PreparedList, Reading};
+use glob_lists::Reading;
 use std::alloc::Global;
-use std::env;
 use std::env::VarError;
 use std::rt::{Env, Files};
+use std::{env, fs};
 
 /// The parser of each ignore file: Git's reading counts.
 pub(crate) const BY_GIT: IgnoreLines = IgnoreLines {
     reading: Reading::Git,
 };
 
-/// Pushes the list of the file of excludes: the one that was named, or the user's own, which may be missing.
-pub(crate) fn push_excludes<R: Files + Env + Eprint + AllocGlobal>(
+/// The list of a file of excludes that is named, and has to be there.
+pub(crate) fn named_excludes<R: Files>(
     rt: &R,
     alloc: Global,
-    named: Option<&str>,
-    lists: &mut Vec<PreparedList<IgnoreLines>>,
-) -> Result<()> {
+    name: &str,
+) -> Result<List<IgnoreLines>> {
     let mut bytes = Vec::new(alloc);
-    let list = match named {
-        Some(name) => {
-            let source = String::from_str(alloc, name)?;
-            named_list(rt, alloc, source, &mut bytes, BY_GIT)
-                .context(format_args!("'{name}'"))?
-                .context(format_args!("'{name}' is no file"))?
-        }
-        None => match users_file(rt, "ignore")? {
-            Some(source) => file_list(rt, alloc, source, &mut bytes, BY_GIT)?,
-            None => List::empty(alloc),
-        },
-    };
-    lists.push(PreparedList::new(alloc, list))?;
-    Ok(())
+    let source = String::from_str(alloc, name)?;
+    named_list(rt, alloc, source, &mut bytes, BY_GIT)
+        .context(format_args!("'{name}'"))?
+        .context(format_args!("'{name}' is no file"))
 }
 
-/// Pushes the list of the repository's own file of excludes.
-pub(crate) fn push_info<R: Files + Eprint>(
+/// The list of a file of excludes, which may be missing. A folder there is a fault, as it is to Git.
+pub(crate) fn excludes<R: Files + Eprint>(
     rt: &R,
     alloc: Global,
-    lists: &mut Vec<PreparedList<IgnoreLines>>,
-) -> Result<()> {
+    file: String,
+) -> Result<List<IgnoreLines>> {
+    if fs::metadata(rt, file.as_str()).is_ok_and(|found| found.is_dir()) {
+        bail!("cannot use {file} as an exclude file");
+    }
     let mut bytes = Vec::new(alloc);
-    let source = String::from_str(alloc, ".git/info/exclude")?;
-    let list = file_list(rt, alloc, source, &mut bytes, BY_GIT)?;
-    lists.push(PreparedList::new(alloc, list))?;
-    Ok(())
+    Ok(file_list(rt, alloc, file, &mut bytes, BY_GIT)?)
 }
 
 /// The name of a file in Git's part of the user's configuration folder, whether it is there or not; `None` where the user has no

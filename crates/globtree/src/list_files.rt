@@ -6,9 +6,9 @@ ghost use Rattle.globtree.specs.Running.{IsAnswered};
 
 use crate::fault::CheckFault;
 use crate::files::TreeFiles;
+use crate::fronts::{case_of, fronts_of};
 use crate::running::ANSWERED;
 use crate::signs::Concerns;
-use crate::work_tree::{case_of, fronts_of};
 use anyhow::{Context, Result};
 use gix_glob::search::Watched;
 use std::alloc::Global;
@@ -41,12 +41,12 @@ pub(crate) fn list_files<R: Files + Env + Eprint + AllocGlobal + Clone + Drop, O
         is_nul: flags.nul,
         uses_index: true,
     };
-    let (standpoint, fronts) = fronts_of(rt, alloc, options, concerns)?;
+    let fronts = fronts_of(rt, alloc, options, concerns)?;
     let listing = Listing {
-        standpoint,
+        standpoint: fronts.standpoint,
         form: Form::ended_by(flags.nul),
-        fronts,
-        case: case_of(options),
+        fronts: fronts.lists,
+        case: case_of(options, fronts.folds),
     };
     let mut source = TreeFiles::new(rt, alloc)?;
     match run_files(alloc, listing, &mut source, folder.as_bytes(), output) {

@@ -1,9 +1,9 @@
 //! The attribute files that don't depend on a path: the system's, the user's, the top's and the repository's own.
 
 use crate::attribute_files::AttributeFiles;
-use crate::excludes::users_file;
-use crate::places::{go_to_folders, go_to_top};
+use crate::moving::go_to_folders;
 use crate::signs::{Concerns, tell_signs};
+use crate::work_tree::{WorkTree, work_tree};
 use anyhow::Result;
 use std::alloc::{AllocError, Global};
 use std::rt::{Env, Files};
@@ -16,6 +16,8 @@ use tree_words::check_attr::CheckAttrFlags;
 #[derive(Drop)]
 pub(crate) struct OuterAttributes {
     pub(crate) standpoint: Standpoint,
+    /// Whether the configuration says that the case of letters doesn't count.
+    pub(crate) folds: bool,
     system: Vec<u8>,
     user: Vec<u8>,
     top: Vec<u8>,
@@ -41,25 +43,36 @@ pub(crate) fn outer_attributes<R: Files + Env + Eprint + AllocGlobal>(
     options: Options<'_>,
     flags: CheckAttrFlags,
 ) -> Result<OuterAttributes> {
-    go_to_folders(rt, options.words)?;
+    go_to_folders(rt, alloc, options)?;
     let reader = AttributeFiles { rt, alloc };
     let system = bytes_of_file(&reader, owned(alloc, options.system)?)?;
-    let user = match options.attributes {
-        Some(file) => Some(String::from_str(alloc, file)?),
-        None => users_file(rt, "attributes")?,
+    let named = match options.attributes {
+        Some(file) => Some(reader.file(String::from_str(alloc, file)?)?),
+        None => None,
     };
-    let user = bytes_of_file(&reader, user)?;
-    let standpoint = go_to_top(rt, alloc, options.top)?;
+    let tree = work_tree(rt, alloc, options)?;
     let concerns = Concerns {
         are_attributes: true,
         is_nul: flags.nul,
         uses_index: true,
     };
-    tell_signs(rt, alloc, options, concerns)?;
+    tell_signs(rt, alloc, &tree, concerns)?;
+    let WorkTree {
+        standpoint,
+        folds,
+        attributes,
+        own_attributes,
+        ..
+    } = tree;
+    let user = match named {
+        Some(bytes) => bytes,
+        None => bytes_of_file(&reader, attributes)?,
+    };
     let top = reader.top()?;
-    let info = reader.file(String::from_str(alloc, ".git/info/attributes")?)?;
+    let info = reader.file(own_attributes)?;
     Ok(OuterAttributes {
         standpoint,
+        folds,
         system,
         user,
         top,

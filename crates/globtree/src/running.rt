@@ -3,7 +3,7 @@ ghost use Rattle.std.specs.Prelude.{◌≡◌, ◌≢◌, ◌⊎◌, IfOk, OnOk,
 ghost use Rattle.std.specs.Io.KnownBytes.{Appends};
 ghost use Rattle.gix_glob.specs.Watched.{has_failed, inner};
 ghost use Rattle.tree_words.specs.Words.{AreWrong};
-ghost use Rattle.globtree.specs.Answers.{AnswersCommand, AnswersWords, case_by};
+ghost use Rattle.globtree.specs.Answers.{AnswersCommand, AnswersWords};
 ghost use Rattle.globtree.specs.Running.{IsAnswered, IsRefused, IsStatus};
 
 use crate::check_attr::check_attr;
@@ -36,11 +36,14 @@ usage: globtree [OPTION..] check-ignore [-v] [-n] [-z] PATH..
 
 options:
   -C DIR             go to DIR first
-  --top DIR          the top of the work tree; else the nearest folder upward that has .git
-  --excludes FILE    a file of excludes; else git/ignore in the user's configuration folder
+  -c KEY=VALUE       a value of the configuration
+  --git-dir DIR      the git folder; else it is looked for from the current folder upward
+  --work-tree DIR    the top of the work tree of that repository
+  --top DIR          the top of the work tree, without a repository or configuration
+  --excludes FILE    a file of excludes, in place of core.excludesFile
   --ignore-case      the case of letters doesn't count in patterns
   --system FILE      the system's attribute file; else there is none
-  --attributes FILE  the user's attribute file; else git/attributes in the user's configuration folder
+  --attributes FILE  the user's attribute file, in place of core.attributesFile
 ";
 
 const VERSION: &str = "globtree 0.1.0\n";
@@ -83,7 +86,7 @@ fn answer_command<R: Files + Env + Eprint + AllocGlobal + Clone + Drop, I: Read,
     requires readable { has_failed input.old ≡ false }
     requires writable { has_failed output.old ≡ false }
     ensures status { IfOk result (λ status. IsAnswered status ⊎ IsRefused status) }
-    ensures answered { IfOk result (λ status. IsAnswered status → AnswersCommand (case_by options.entry) command.entry status (I.remaining (inner input.old)) (I.remaining (inner input.new)) (O.contents (inner output.old)) (O.contents (inner output.new))) }
+    ensures answered { IfOk result (λ status. IsAnswered status → AnswersCommand options.entry command.entry status (I.remaining (inner input.old)) (I.remaining (inner input.new)) (O.contents (inner output.old)) (O.contents (inner output.new))) }
     ensures unread { IfOk result (λ status. IsRefused status → input.new ≡ input.old) }
     ensures unwritten { IfOk result (λ status. IsRefused status → output.new ≡ output.old) }
 {

@@ -1,65 +1,149 @@
-//! The work tree that the options before a command tell of, with the files of patterns that count in all of it.
-ghost use Rattle.std.specs.Prelude.{◌≡◌, IfOk};
-ghost use Rattle.glob_lists.specs.Rules.{by_git};
-ghost use Rattle.globtree.specs.Answers.{case_by};
+//! The work tree that a command is called in: where paths are told from, and the files that count in all of it.
 
-use crate::excludes::{push_excludes, push_info};
-use crate::places::{go_to_folders, go_to_top};
-use crate::signs::{Concerns, tell_signs};
-use crate::sources::FolderFiles;
+use crate::excludes::users_file;
+use crate::moving::{current_folder, go_to_top};
+use crate::opening::open_here;
+use crate::standing::folder_text;
 use anyhow::{Context, Result};
-use gix_glob::pattern::Case;
-use glob_lines::IgnoreLines;
-use glob_lists::{PreparedList, Rules};
-use glob_trees::Tree;
+use git_config::Config;
+use opened_repository::{Opened, told_from};
 use std::alloc::Global;
 use std::rt::{Env, Files};
-use told_paths::Standpoint;
+use told_paths::{Standpoint, below_folder};
 use tree_words::Options;
 
-/// About how many bytes are kept of folders and their patterns.
-const MOST_BYTES: usize = 24 << 20;
-
-/// Goes to the top by the options: where paths are told from, and the work tree.
-pub(crate) fn tree_of<'a, R: Files + Env + Eprint + AllocGlobal>(
-    rt: &'a R,
-    alloc: Global,
-    options: Options<'_>,
-    concerns: Concerns,
-) -> Result<(Standpoint, Tree<IgnoreLines, FolderFiles<'a, R>>)>
-    ensures { IfOk result (λ both. both.1.rules ≡ by_git (case_by options.entry)) }
-{
-    let (standpoint, fronts) = fronts_of(rt, alloc, options, concerns)?;
-    let source = FolderFiles::new(rt, alloc);
-    let rules = Rules::by_git(case_of(options));
-    let mut tree = Tree::new(alloc, source, fronts, rules).context("the bases of lists")?;
-    tree.keep_at_most(MOST_BYTES);
-    Ok((standpoint, tree))
+/// What counts for all paths of a work tree, whose top is the current folder.
+#[derive(Drop)]
+pub(crate) struct WorkTree {
+    /// Where paths are told from.
+    pub(crate) standpoint: Standpoint,
+    /// Whether the configuration says that the case of letters doesn't count.
+    pub(crate) folds: bool,
+    /// Whether bytes above 127 are a reason to quote a name, by the configuration.
+    pub(crate) quotes: bool,
+    /// The file of excludes for all repositories.
+    pub(crate) excludes: Option<String>,
+    /// The file of attributes for all repositories.
+    pub(crate) attributes: Option<String>,
+    /// The repository's own file of excludes.
+    pub(crate) own_excludes: String,
+    /// The repository's own file of attributes.
+    pub(crate) own_attributes: String,
+    /// The index.
+    pub(crate) index: String,
 }
 
-/// Goes to the top by the options: where paths are told from, and the lists before those of all folders.
-pub(crate) fn fronts_of<R: Files + Env + Eprint + AllocGlobal>(
+/// Goes to the top of the work tree: the folder that is named, or that of the repository of the current folder.
+pub(crate) fn work_tree<R: Files + Env + AllocGlobal>(
     rt: &R,
     alloc: Global,
     options: Options<'_>,
-    concerns: Concerns,
-) -> Result<(Standpoint, Vec<PreparedList<IgnoreLines>>)> {
-    go_to_folders(rt, options.words)?;
-    let mut fronts = Vec::new(alloc);
-    push_excludes(rt, alloc, options.excludes, &mut fronts)?;
-    let standpoint = go_to_top(rt, alloc, options.top)?;
-    tell_signs(rt, alloc, options, concerns)?;
-    push_info(rt, alloc, &mut fronts)?;
-    Ok((standpoint, fronts))
+) -> Result<WorkTree> {
+    match options.top {
+        Some(top) => named_tree(rt, alloc, top),
+        None => tree_of_repository(rt, alloc, options),
+    }
 }
 
-/// Whether the case of letters counts by the options.
-pub(crate) fn case_of(options: Options<'_>) -> Case
-    ensures { result ≡ case_by options.entry }
-{
-    if options.ignore_case {
-        Case::Fold
-    } else {
-        Case::Sensitive
+/// The work tree with a top that is named: no repository is looked for, and no configuration is read.
+fn named_tree<R: Files + Env + AllocGlobal>(
+    rt: &R,
+    alloc: Global,
+    top: &str,
+) -> Result<WorkTree> {
+    let here = current_folder(rt, alloc)?;
+    let top = go_to_top(rt, alloc, top)?;
+    let standpoint = match copied_below(alloc, &here, &top)? {
+        Some(below) => Standpoint {
+            top,
+            here: below,
+            is_inside: true,
+        },
+        None => Standpoint {
+            top,
+            here,
+            is_inside: false,
+        },
+    };
+    Ok(WorkTree {
+        standpoint,
+        folds: false,
+        quotes: true,
+        excludes: users_file(rt, "ignore")?,
+        attributes: users_file(rt, "attributes")?,
+        own_excludes: String::from_str(alloc, ".git/info/exclude")?,
+        own_attributes: String::from_str(alloc, ".git/info/attributes")?,
+        index: String::from_str(alloc, ".git/index")?,
+    })
+}
+
+/// The work tree of the repository of the current folder. From a folder outside of it, paths are told from its top.
+fn tree_of_repository<R: Files + Env + AllocGlobal>(
+    rt: &R,
+    alloc: Global,
+    options: Options<'_>,
+) -> Result<WorkTree> {
+    let here = current_folder(rt, alloc)?;
+    let current = from_root(alloc, &here)?;
+    let opened = open_here(rt, alloc, options, &current)?;
+    let top = opened.top.as_deref().context("there is no work tree")?;
+    let top = folder_text(alloc, &told_from(alloc, &current, top)?)?;
+    let top = go_to_top(rt, alloc, top.as_str())?;
+    let standpoint = Standpoint {
+        here: match copied_below(alloc, &here, &top)? {
+            Some(below) => below,
+            None => Vec::new(alloc),
+        },
+        top,
+        is_inside: true,
+    };
+    tree_at(alloc, standpoint, &current, opened)
+}
+
+/// The work tree of an opened repository, of which the configuration tells files from the top, and all else from this folder.
+fn tree_at(
+    alloc: Global,
+    standpoint: Standpoint,
+    current: &[u8],
+    opened: Opened<Vec<u8>, Config>,
+) -> Result<WorkTree> {
+    let own_excludes = opened.exclude_name.context("there is no work tree")?;
+    let own_attributes = told_from(alloc, current, &opened.attributes_file)?;
+    let index = told_from(alloc, current, &opened.index_file)?;
+    Ok(WorkTree {
+        standpoint,
+        folds: opened.core.ignore_case,
+        quotes: opened.core.quote_path,
+        excludes: text_of(alloc, &opened.core.excludes)?,
+        attributes: text_of(alloc, &opened.core.attributes)?,
+        own_excludes: folder_text(alloc, &own_excludes)?,
+        own_attributes: folder_text(alloc, &own_attributes)?,
+        index: folder_text(alloc, &index)?,
+    })
+}
+
+/// A path as text, where there is one.
+fn text_of(alloc: Global, path: &Option<Vec<u8>>) -> Result<Option<String>> {
+    match path {
+        Some(path) => Ok(Some(folder_text(alloc, path)?)),
+        None => Ok(None),
     }
+}
+
+/// The path of a folder from the top, where it lies in the work tree.
+fn copied_below(alloc: Global, here: &[u8], top: &[u8]) -> Result<Option<Vec<u8>>> {
+    match below_folder(here, top) {
+        Some(below) => Ok(Some(Vec::from_slice(alloc, below)?)),
+        None => Ok(None),
+    }
+}
+
+/// A path with the slash at its front; that of the root has no bytes.
+fn from_root(alloc: Global, path: &[u8]) -> Result<Vec<u8>> {
+    let mut whole = Vec::new(alloc);
+    if !path.is_empty() {
+        whole.push(b'/')?;
+        whole.extend_from_slice(path)?;
+    }
+    Ok(whole)
 }

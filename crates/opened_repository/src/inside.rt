@@ -89,8 +89,11 @@ fn real_path_of<S: FileSystem>(
     }
 }
 
-/// A path that a folder tells.
-pub(crate) fn told_from(alloc: Global, folder: &[u8], path: &[u8]) -> Result<Vec<u8>, AllocError>
+/// A path that is told from a folder: one that isn't absolute goes on behind it.
+///
+/// # Errors
+/// Only where memory was refused.
+pub fn told_from(alloc: Global, folder: &[u8], path: &[u8]) -> Result<Vec<u8>, AllocError>
     ensures { IfOk result (λ found. found.items ≡ told_from folder.now path.now) }
 {
     if path.starts_with(b"/") {

@@ -19,6 +19,7 @@ mod values;
 mod words;
 
 pub use fault::{OpenFault, RepositoryFault};
+pub use inside::told_from;
 pub use opened::Opened;
 pub use order::open;
 pub use told::Told;

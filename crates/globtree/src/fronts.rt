@@ -1,0 +1,107 @@
+//! The lists of patterns that count before those of all folders, and the tree that they begin.
+ghost use Rattle.std.specs.Prelude.{◌≡◌, IfOk};
+ghost use Rattle.glob_lists.specs.Rules.{by_git};
+ghost use Rattle.globtree.specs.Answers.{case_by};
+
+use crate::excludes::{excludes, named_excludes};
+use crate::moving::go_to_folders;
+use crate::signs::{Concerns, tell_signs};
+use crate::sources::FolderFiles;
+use crate::work_tree::{WorkTree, work_tree};
+use anyhow::{Context, Result};
+use gix_glob::pattern::Case;
+use gix_glob::search::pattern::List;
+use glob_lines::IgnoreLines;
+use glob_lists::{PreparedList, Rules};
+use glob_trees::Tree;
+use std::alloc::Global;
+use std::rt::{Env, Files};
+use told_paths::Standpoint;
+use tree_words::Options;
+
+/// About how many bytes are kept of folders and their patterns.
+const MOST_BYTES: usize = 24 << 20;
+
+/// Where paths are told from, the lists before those of all folders, the weakest first, and whether the configuration says that the case
+/// of letters doesn't count.
+#[derive(Drop)]
+pub(crate) struct Fronts {
+    pub(crate) standpoint: Standpoint,
+    pub(crate) lists: Vec<PreparedList<IgnoreLines>>,
+    pub(crate) folds: bool,
+}
+
+/// Goes to the top of the work tree, and reads the files that count before those of all folders.
+pub(crate) fn fronts_of<R: Files + Env + Eprint + AllocGlobal>(
+    rt: &R,
+    alloc: Global,
+    options: Options<'_>,
+    concerns: Concerns,
+) -> Result<Fronts> {
+    go_to_folders(rt, alloc, options)?;
+    let named = match options.excludes {
+        Some(name) => Some(named_excludes(rt, alloc, name)?),
+        None => None,
+    };
+    let tree = work_tree(rt, alloc, options)?;
+    tell_signs(rt, alloc, &tree, concerns)?;
+    let WorkTree {
+        standpoint,
+        folds,
+        excludes: file,
+        own_excludes,
+        ..
+    } = tree;
+    let outer = match named {
+        Some(list) => list,
+        None => usual_excludes(rt, alloc, file)?,
+    };
+    let mut lists = Vec::new(alloc);
+    lists.push(PreparedList::new(alloc, outer))?;
+    let own = excludes(rt, alloc, own_excludes)?;
+    lists.push(PreparedList::new(alloc, own))?;
+    Ok(Fronts {
+        standpoint,
+        lists,
+        folds,
+    })
+}
+
+/// The list of the file of excludes for all repositories, where there is one.
+fn usual_excludes<R: Files + Eprint>(
+    rt: &R,
+    alloc: Global,
+    file: Option<String>,
+) -> Result<List<IgnoreLines>> {
+    match file {
+        Some(file) => excludes(rt, alloc, file),
+        None => Ok(List::empty(alloc)),
+    }
+}
+
+/// The tree whose folders' files stand behind these lists.
+pub(crate) fn tree_behind<'a, R: Files + Eprint>(
+    rt: &'a R,
+    alloc: Global,
+    lists: Vec<PreparedList<IgnoreLines>>,
+    case: Case,
+) -> Result<Tree<IgnoreLines, FolderFiles<'a, R>>>
+    ensures { IfOk result (λ tree. tree.rules ≡ by_git case) }
+{
+    let source = FolderFiles::new(rt, alloc);
+    let mut tree =
+        Tree::new(alloc, source, lists, Rules::by_git(case)).context("the bases of lists")?;
+    tree.keep_at_most(MOST_BYTES);
+    Ok(tree)
+}
+
+/// Whether the case of letters counts, by the options and by what the configuration says.
+pub(crate) fn case_of(options: Options<'_>, folds: bool) -> Case
+    ensures { result ≡ case_by options.entry folds }
+{
+    if options.ignore_case || folds {
+        Case::Fold
+    } else {
+        Case::Sensitive
+    }
+}

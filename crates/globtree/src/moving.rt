@@ -1,0 +1,40 @@
+//! Going to the folders that the words name, and to the top of the work tree.
+
+use anyhow::{Context, Result};
+use std::alloc::Global;
+use std::env;
+use std::rt::{Env, Files};
+use tree_words::{Options, values_of};
+
+/// Goes to each folder that `-C` names, from the one before it. One without a name is the current one.
+pub(crate) fn go_to_folders<R: Files + Env>(
+    rt: &R,
+    alloc: Global,
+    options: Options<'_>,
+) -> Result<()> {
+    for folder in &values_of(alloc, options.words, "-C")? {
+        if !folder.is_empty() {
+            env::set_current_dir(rt, *folder)
+                .context(format_args!("cannot change to '{folder}'"))?;
+        }
+    }
+    Ok(())
+}
+
+/// Goes to the top of a work tree, and answers its path, as [`current_folder`] does.
+pub(crate) fn go_to_top<R: Files + Env + AllocGlobal>(
+    rt: &R,
+    alloc: Global,
+    top: &str,
+) -> Result<Vec<u8>> {
+    env::set_current_dir(rt, top).context(format_args!("the top {top}"))?;
+    current_folder(rt, alloc)
+}
+
+/// The path of the current folder from the root, without links and without the slash at its front.
+pub(crate) fn current_folder<R: Env + AllocGlobal>(rt: &R, alloc: Global) -> Result<Vec<u8>> {
+    let folder = env::current_dir(rt).context("the current folder")?;
+    let path = folder.as_str().as_bytes();
+    let left = path.strip_prefix(b"/").unwrap_or(path);
+    Ok(Vec::from_slice(alloc, left)?)
+}

@@ -1,0 +1,56 @@
+//! Opening the repository of the current folder, as Git does.
+
+use crate::check_ignore::bytes_of;
+use anyhow::{Result, bail};
+use git_config::Config;
+use git_repository::Environment;
+use opened_repository::{Opened, Told, open};
+use repository_files::{ConfigurationVariables, DiskFiles, RepositoryVariables, User};
+use std::alloc::{AllocError, Global};
+use std::rt::{Env, Files};
+use tree_words::{Options, values_of};
+
+/// Opens the repository of the current folder, whose path this is, by the variables of the environment and the words.
+pub(crate) fn open_here<R: Files + Env>(
+    rt: &R,
+    alloc: Global,
+    options: Options<'_>,
+    current: &[u8],
+) -> Result<Opened<Vec<u8>, Config>> {
+    let files = DiskFiles::new(rt, alloc, User::of_process(rt, alloc)?);
+    let variables = RepositoryVariables::read(rt, alloc)?;
+    let configuration = ConfigurationVariables::read(rt, alloc)?;
+    let pairs = configuration.pairs(alloc)?;
+    let words = bytes_of(alloc, &values_of(alloc, options.words, "-c")?)?;
+    let around = configuration.surroundings(alloc, &files)?;
+    let told = Told {
+        current,
+        environment: with_options(variables.environment(), options),
+        places: configuration.places(),
+        pairs: &pairs,
+        words: &words,
+        around: &around,
+        needs_work_tree: true,
+    };
+    match open(alloc, &files, &told) {
+        Ok(opened) => Ok(opened),
+        Err(fault) => bail!("{fault}"),
+    }
+}
+
+/// What the variables say of a repository, where no option stands for one.
+fn with_options<'a>(variables: Environment<&'a [u8]>, options: Options<'a>) -> Environment<&'a [u8]> {
+    Environment {
+        git_dir: told_or(options.git_dir, variables.git_dir),
+        work_tree: told_or(options.work_tree, variables.work_tree),
+        ..variables
+    }
+}
+
+/// The value of an option, or else that of a variable.
+fn told_or<'a>(option: Option<&'a str>, variable: Option<&'a [u8]>) -> Option<&'a [u8]> {
+    match option {
+        Some(told) => Some(told.as_bytes()),
+        None => variable,
+    }
+}
