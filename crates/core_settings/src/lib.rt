@@ -12,4 +12,5 @@ mod values;
 pub use fault::{CoreFault, SourcesFault, WrongPairs};
 pub use paths::told_path;
 pub use sources::{ConfigPlaces, ConfigSource, ConfigSources, Pair, config_sources};
+pub use user_files::settings_file;
 pub use values::{CoreSettings, core_settings, key_of};

@@ -9,8 +9,12 @@ ghost use Rattle.core_settings.specs.UserFiles.{below_home, settings_file, setti
 use crate::bytes::joined;
 use std::alloc::{AllocError, Global};
 
-/// A file in the folder of the user's settings.
-pub(crate) fn settings_file(
+/// A file of this name in the folder `git` of the user's settings: that is in `config_home`, which is `XDG_CONFIG_HOME`, or else in `.config` of
+/// `home`; `None` where neither is known.
+///
+/// # Errors
+/// Only where memory was refused.
+pub fn settings_file(
     alloc: Global,
     config_home: Option<&[u8]>,
     home: Option<&[u8]>,

@@ -5,9 +5,8 @@ use gix_glob::search::pattern::List;
 use glob_lines::IgnoreLines;
 use glob_lists::Reading;
 use std::alloc::Global;
-use std::env::VarError;
-use std::rt::{Env, Files};
-use std::{env, fs};
+use std::fs;
+use std::rt::Files;
 
 /// The parser of each ignore file: Git's reading counts.
 pub(crate) const BY_GIT: IgnoreLines = IgnoreLines {
@@ -38,30 +37,4 @@ pub(crate) fn excludes<R: Files + Eprint>(
     }
     let mut bytes = Vec::new(alloc);
     Ok(file_list(rt, alloc, file, &mut bytes, BY_GIT)?)
-}
-
-/// The name of a file in Git's part of the user's configuration folder, whether it is there or not; `None` where the user has no
-/// such folder.
-pub(crate) fn users_file<R: Env + AllocGlobal>(rt: &R, file: &str) -> Result<Option<String>> {
-    if let Some(mut folder) = variable(rt, "XDG_CONFIG_HOME")? {
-        folder.push_str("/git/")?;
-        folder.push_str(file)?;
-        return Ok(Some(folder));
-    }
-    let Some(mut home) = variable(rt, "HOME")? else {
-        return Ok(None);
-    };
-    home.push_str("/.config/git/")?;
-    home.push_str(file)?;
-    Ok(Some(home))
-}
-
-/// The text of a variable of the environment; none where it is empty.
-fn variable<R: Env + AllocGlobal>(rt: &R, name: &str) -> Result<Option<String>> {
-    match env::var(rt, name) {
-        Ok(text) if text.is_empty() => Ok(None),
-        Ok(text) => Ok(Some(text)),
-        Err(VarError::NotPresent) => Ok(None),
-        Err(fault) => Err(fault).context(format_args!("the variable {name}")),
-    }
 }

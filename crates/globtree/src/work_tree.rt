@@ -1,12 +1,13 @@
 //! The work tree that a command is called in: where paths are told from, and the files that count in all of it.
 
-use crate::excludes::users_file;
 use crate::moving::{current_folder, go_to_top};
 use crate::opening::open_here;
 use crate::standing::folder_text;
 use anyhow::{Context, Result};
+use core_settings::settings_file;
 use git_config::Config;
 use opened_repository::{Opened, told_from};
+use repository_files::variable;
 use std::alloc::Global;
 use std::rt::{Env, Files};
 use told_paths::{Standpoint, below_folder};
@@ -69,12 +70,20 @@ fn named_tree<R: Files + Env + AllocGlobal>(
         standpoint,
         folds: false,
         quotes: true,
-        excludes: users_file(rt, "ignore")?,
-        attributes: users_file(rt, "attributes")?,
+        excludes: users_file(rt, alloc, b"ignore")?,
+        attributes: users_file(rt, alloc, b"attributes")?,
         own_excludes: String::from_str(alloc, ".git/info/exclude")?,
         own_attributes: String::from_str(alloc, ".git/info/attributes")?,
         index: String::from_str(alloc, ".git/index")?,
     })
+}
+
+/// The name of a file in Git's part of the user's folder of settings, whether it is there or not.
+fn users_file<R: Env>(rt: &R, alloc: Global, name: &[u8]) -> Result<Option<String>> {
+    let home = variable(rt, alloc, "HOME")?;
+    let settings = variable(rt, alloc, "XDG_CONFIG_HOME")?;
+    let file = settings_file(alloc, settings.as_deref(), home.as_deref(), name)?;
+    text_of(alloc, &file)
 }
 
 /// The work tree of the repository of the current folder. From a folder outside of it, paths are told from its top.
