@@ -1,3 +1,4 @@
 pub mod CommandLemmas
 pub mod OperandsLemmas
 pub mod OptionsLemmas
+pub mod ValuesLemmas

@@ -1,5 +1,5 @@
 -- What the words of the command line ask for.
-use Rattle.std.specs.Prelude.{◌≡◌, ◌⊎◌, ℕ, Bool, ◌||◌, IsTrue, List, ◌∷◌, ◌++◌, map, reverse, find, Option, None, Some, MatchOption, codes, string_bytes}
+use Rattle.std.specs.Prelude.{◌≡◌, ◌⊎◌, ℕ, Bool, ◌||◌, IsTrue, List, ◌∷◌, ◌++◌, map, filter, reverse, find, Option, None, Some, MatchOption, codes, string_bytes}
 use Rattle.std.specs.List.{AllByRecursion, flat_map, list_any}
 use Rattle.std.specs.Option.{option_and_then, option_copied, option_to_list}
 use Rattle.std.specs.Str.{bytes_eq}
@@ -16,7 +16,8 @@ use Rattle.tree_words.specs.declared.options.Options.{Options}
 -- whether a value follows an option
 abbrev pub takes_value : List ℕ → Bool
 takes_value option =
-    (((bytes_eq option (codes "-C") || bytes_eq option (codes "--top")) || bytes_eq option (codes "--excludes"))
+    ((((((bytes_eq option (codes "-C") || bytes_eq option (codes "-c")) || bytes_eq option (codes "--git-dir"))
+    || bytes_eq option (codes "--work-tree")) || bytes_eq option (codes "--top")) || bytes_eq option (codes "--excludes"))
     || bytes_eq option (codes "--system")) || bytes_eq option (codes "--attributes")
 
 -- an option, with its value where it takes one
@@ -34,8 +35,14 @@ written told = told.option ∷ option_to_list told.value
 abbrev pub last_value : List ℕ → List Told → Option (List ℕ)
 last_value name tolds = option_and_then (λ told. told.value) (find (λ told. bytes_eq told.option name) (reverse tolds))
 
+-- the values of all of a name, in order
+abbrev pub values_among : List ℕ → List Told → List (List ℕ)
+values_among name tolds = flat_map (λ told. option_to_list told.value) (filter (λ told. bytes_eq told.option name) tolds)
+
 -- what they say, told in this order
 pub record HasValues (tolds : List Told) (options : Options) : Type 0 where
+  pub git_dir : option_copied options.git_dir ≡ last_value (codes "--git-dir") tolds
+  pub work_tree : option_copied options.work_tree ≡ last_value (codes "--work-tree") tolds
   pub top : option_copied options.top ≡ last_value (codes "--top") tolds
   pub excludes : option_copied options.excludes ≡ last_value (codes "--excludes") tolds
   pub system : option_copied options.system ≡ last_value (codes "--system") tolds

@@ -1,13 +1,22 @@
 //! The options before the command.
-ghost use Rattle.std.specs.Prelude.{◌≡◌, true, MatchOption, map, string_bytes};
-ghost use Rattle.tree_words.specs.Words.{takes_value};
+ghost use Rattle.std.specs.Prelude.{◌≡◌, ℕ, true, List, IfOk, MatchOption, map, string_bytes};
+ghost use Rattle.std.specs.Borrow.{Bor};
+ghost use Rattle.std.specs.List.{AllByRecursion, flat_map};
+ghost use Rattle.tree_words.specs.Words.{IsTold, Told, takes_value, values_among, written};
 ghost use Rattle.tree_words.specs.Private.Options.{AreTold, LacksValue, Sets};
+
+use std::alloc::{AllocError, Global};
 
 /// What is asked for before the command. Where an option stands there twice, the last one counts.
 #[derive(Clone, Copy, Drop)]
 pub struct Options<'a> {
-    /// The words before the command: each `-C DIR` among them is a folder to go to, from the one before it.
+    /// The words before the command: `-C DIR` and `-c KEY=VALUE` are read from there. Each counts, in order: a folder is gone to from
+    /// the one before it.
     pub words: &'a [String],
+    /// `--git-dir DIR`: the git folder.
+    pub git_dir: Option<&'a str>,
+    /// `--work-tree DIR`: the top of the work tree of the repository that was found.
+    pub work_tree: Option<&'a str>,
     /// `--top DIR`: the top of the work tree.
     pub top: Option<&'a str>,
     /// `--excludes FILE`: the file of excludes.
@@ -26,6 +35,8 @@ pub(crate) fn options_of(words: &[String]) -> Option<(Options<'_>, &[String])>
 {
     let mut options = Options {
         words: &[],
+        git_dir: None,
+        work_tree: None,
         top: None,
         excludes: None,
         ignore_case: false,
@@ -57,11 +68,43 @@ pub(crate) fn options_of(words: &[String]) -> Option<(Options<'_>, &[String])>
     Some((options, left))
 }
 
+/// The values of an option, in order, among the words before a command, as `Options::words` has them.
+///
+/// # Errors
+/// Where memory is refused.
+pub fn values_of<'a>(
+    alloc: Global,
+    words: &'a [String],
+    option: &str,
+) -> Result<Vec<&'a str>, AllocError>
+    ensures { IfOk result (λ values. (tolds : List Told) → AllByRecursion IsTold tolds → map string_bytes words.now ≡ flat_map written tolds → map (λ (value : Bor (List ℕ)). value.now) values.items ≡ values_among option.now tolds) }
+{
+    let mut values = Vec::new(alloc);
+    let mut pending = None;
+    'words: for word in words {
+        let word = word.as_str();
+        match pending {
+            Some(name) => {
+                if name == option {
+                    values.push(word)?;
+                }
+                pending = None;
+            }
+            None if takes_value(word) => pending = Some(word),
+            None => {}
+        }
+    }
+    Ok(values)
+}
+
 /// Whether a value follows an option.
 pub fn takes_value(option: &str) -> bool
     ensures { result ≡ takes_value option.now }
 {
     option == "-C"
+        || option == "-c"
+        || option == "--git-dir"
+        || option == "--work-tree"
         || option == "--top"
         || option == "--excludes"
         || option == "--system"
@@ -75,8 +118,10 @@ fn with_value<'a>(options: Options<'a>, option: &str, value: &'a str) -> Options
 {
     let mut options = options;
     match option {
-        // the folders are gone to in turn, once all words are known to be right
-        "-C" => {}
+        // each of these counts, and they are read in turn once all words are known to be right
+        "-C" | "-c" => {}
+        "--git-dir" => options.git_dir = Some(value),
+        "--work-tree" => options.work_tree = Some(value),
         "--top" => options.top = Some(value),
         "--system" => options.system = Some(value),
         "--attributes" => options.attributes = Some(value),

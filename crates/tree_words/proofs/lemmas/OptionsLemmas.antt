@@ -35,6 +35,8 @@ module _ (option value : List ℕ) (tolds : List Told) (old new : Options) (befo
 
   pub values_more : IsTrue (takes_value option) → HasValues with_it new
   values_more takes = record {
+    git_dir = same_value (codes "--git-dir") _ _ _ refl before.git_dir sets.git_dir;
+    work_tree = same_value (codes "--work-tree") _ _ _ refl before.work_tree sets.work_tree;
     top = same_value (codes "--top") _ _ _ refl before.top sets.top;
     excludes = same_value (codes "--excludes") _ _ _ refl before.excludes sets.excludes;
     system = same_value (codes "--system") _ _ _ refl before.system sets.system;
@@ -64,6 +66,8 @@ module _ (tolds : List Told) (old new : Options) (before : HasValues tolds old) 
 
   pub ignoring_more : (is_so : Bool) → is_so ≡ true → HasValues (tolds ++ ignoring ∷ []) (record old { ignore_case = is_so })
   ignoring_more is_so is = record {
+    git_dir = before.git_dir ∙ stays (codes "--git-dir") refl;
+    work_tree = before.work_tree ∙ stays (codes "--work-tree") refl;
     top = before.top ∙ stays (codes "--top") refl;
     excludes = before.excludes ∙ stays (codes "--excludes") refl;
     system = before.system ∙ stays (codes "--system") refl;

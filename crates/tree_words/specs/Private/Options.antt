@@ -33,6 +33,8 @@ abbrev pub value_or : List ℕ → List ℕ → List ℕ → Option (List ℕ) �
 value_or name option value before = if bytes_eq option name then Some value else before
 
 pub record Sets (option value : List ℕ) (old new : Options) : Type 0 where
+  pub git_dir : option_copied new.git_dir ≡ value_or (codes "--git-dir") option value (option_copied old.git_dir)
+  pub work_tree : option_copied new.work_tree ≡ value_or (codes "--work-tree") option value (option_copied old.work_tree)
   pub top : option_copied new.top ≡ value_or (codes "--top") option value (option_copied old.top)
   pub excludes : option_copied new.excludes ≡ value_or (codes "--excludes") option value (option_copied old.excludes)
   pub system : option_copied new.system ≡ value_or (codes "--system") option value (option_copied old.system)

@@ -52,6 +52,6 @@ returns c =
       are = c.words.invariant.1;
       each = c.words.invariant.2;
       before = front_of c.args.words.now c.words.left.now _ c.words.invariant.1;
-      values = record { top = values.top; excludes = values.excludes; system = values.system; attributes = values.attributes; ignore_case = values.ignore_case };
+      values = record { git_dir = values.git_dir; work_tree = values.work_tree; top = values.top; excludes = values.excludes; system = values.system; attributes = values.attributes; ignore_case = values.ignore_case };
       behind = behind;
     }
