@@ -11,4 +11,4 @@ mod options;
 
 pub use command::{Command, asked_by};
 pub use operands::{Operands, operands_of};
-pub use options::{Options, takes_value, values_of};
+pub use options::{Options, values_of};

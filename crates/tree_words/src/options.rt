@@ -98,7 +98,7 @@ pub fn values_of<'a>(
 }
 
 /// Whether a value follows an option.
-pub fn takes_value(option: &str) -> bool
+pub(crate) fn takes_value(option: &str) -> bool
     ensures { result ≡ takes_value option.now }
 {
     option == "-C"
