@@ -1,5 +1,6 @@
 pub mod Answers
 pub mod IndexHead
+pub mod Places
 pub mod Running
 pub mod SeenFiles
 pub mod Telling

@@ -17,6 +17,7 @@ mod list_files;
 mod moving;
 mod opening;
 mod outer_attributes;
+mod places;
 mod running;
 mod seen_files;
 mod signs;

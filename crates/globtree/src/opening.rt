@@ -1,4 +1,8 @@
 //! Opening the repository of the current folder, as Git does.
+ghost use Rattle.std.specs.Prelude.{◌≡◌};
+ghost use Rattle.std.specs.Option.{option_copied, option_or};
+ghost use Rattle.git_repository.specs.Environments.{environment_with};
+ghost use Rattle.globtree.specs.Places.{with_options};
 
 use crate::check_ignore::bytes_of;
 use anyhow::{Result, bail};
@@ -39,7 +43,12 @@ pub(crate) fn open_here<R: Files + Env>(
 }
 
 /// What the variables say of a repository, where no option stands for one.
-fn with_options<'a>(variables: Environment<&'a [u8]>, options: Options<'a>) -> Environment<&'a [u8]> {
+fn with_options<'a>(
+    variables: Environment<&'a [u8]>,
+    options: Options<'a>,
+) -> Environment<&'a [u8]>
+    ensures { environment_with (λ b. b.now) result ≡ with_options options.entry (environment_with (λ b. b.now) variables.entry) }
+{
     Environment {
         git_dir: told_or(options.git_dir, variables.git_dir),
         work_tree: told_or(options.work_tree, variables.work_tree),
@@ -48,7 +57,9 @@ fn with_options<'a>(variables: Environment<&'a [u8]>, options: Options<'a>) -> E
 }
 
 /// The value of an option, or else that of a variable.
-fn told_or<'a>(option: Option<&'a str>, variable: Option<&'a [u8]>) -> Option<&'a [u8]> {
+fn told_or<'a>(option: Option<&'a str>, variable: Option<&'a [u8]>) -> Option<&'a [u8]>
+    ensures { option_copied result ≡ option_or (option_copied option.entry) (option_copied variable.entry) }
+{
     match option {
         Some(told) => Some(told.as_bytes()),
         None => variable,

@@ -2,6 +2,7 @@
 
 use crate::moving::{current_folder, go_to_top};
 use crate::opening::open_here;
+use crate::places::{from_root, standpoint_at, standpoint_in};
 use crate::standing::folder_text;
 use anyhow::{Context, Result};
 use core_settings::settings_file;
@@ -10,7 +11,7 @@ use opened_repository::{Opened, told_from};
 use repository_files::variable;
 use std::alloc::Global;
 use std::rt::{Env, Files};
-use told_paths::{Standpoint, below_folder};
+use told_paths::Standpoint;
 use tree_words::Options;
 
 /// What counts for all paths of a work tree, whose top is the current folder.
@@ -54,20 +55,8 @@ fn named_tree<R: Files + Env + AllocGlobal>(
 ) -> Result<WorkTree> {
     let here = current_folder(rt, alloc)?;
     let top = go_to_top(rt, alloc, top)?;
-    let standpoint = match copied_below(alloc, &here, &top)? {
-        Some(below) => Standpoint {
-            top,
-            here: below,
-            is_inside: true,
-        },
-        None => Standpoint {
-            top,
-            here,
-            is_inside: false,
-        },
-    };
     Ok(WorkTree {
-        standpoint,
+        standpoint: standpoint_at(alloc, &here, top)?,
         folds: false,
         quotes: true,
         excludes: users_file(rt, alloc, b"ignore")?,
@@ -98,14 +87,7 @@ fn tree_of_repository<R: Files + Env + AllocGlobal>(
     let top = opened.top.as_deref().context("there is no work tree")?;
     let top = folder_text(alloc, &told_from(alloc, &current, top)?)?;
     let top = go_to_top(rt, alloc, top.as_str())?;
-    let standpoint = Standpoint {
-        here: match copied_below(alloc, &here, &top)? {
-            Some(below) => below,
-            None => Vec::new(alloc),
-        },
-        top,
-        is_inside: true,
-    };
+    let standpoint = standpoint_in(alloc, &here, top)?;
     tree_at(alloc, standpoint, &current, opened)
 }
 
@@ -137,22 +119,4 @@ fn text_of(alloc: Global, path: &Option<Vec<u8>>) -> Result<Option<String>> {
         Some(path) => Ok(Some(folder_text(alloc, path)?)),
         None => Ok(None),
     }
-}
-
-/// The path of a folder from the top, where it lies in the work tree.
-fn copied_below(alloc: Global, here: &[u8], top: &[u8]) -> Result<Option<Vec<u8>>> {
-    match below_folder(here, top) {
-        Some(below) => Ok(Some(Vec::from_slice(alloc, below)?)),
-        None => Ok(None),
-    }
-}
-
-/// A path with the slash at its front; that of the root has no bytes.
-fn from_root(alloc: Global, path: &[u8]) -> Result<Vec<u8>> {
-    let mut whole = Vec::new(alloc);
-    if !path.is_empty() {
-        whole.push(b'/')?;
-        whole.extend_from_slice(path)?;
-    }
-    Ok(whole)
 }

@@ -1,0 +1,32 @@
+-- Where a command stands: by the paths of the top and of the current folder, without the slash at their front, and by the words.
+use Rattle.std.specs.Prelude.{◌≡◌, ℕ, true, List, [], ◌∷◌, is_some}
+use Rattle.std.specs.Option.{option_copied, option_or, unwrap_or}
+use Rattle.git_repository.specs.declared.environment.Environment.{Environment}
+use Rattle.gix_glob.specs.Bytes.{slash}
+use Rattle.told_paths.specs.declared.standpoint.Standpoint.{Standpoint}
+use Rattle.told_paths.specs.Paths.{left_below}
+use Rattle.tree_words.specs.declared.options.Options.{Options}
+
+-- from the current folder where it lies in the work tree, and else from the top
+pub record StandsIn (top here : List ℕ) (standpoint : Standpoint) : Type 0 where
+  pub top : standpoint.top.items ≡ top
+  pub here : standpoint.here.items ≡ unwrap_or (left_below top here) []
+  pub inside : standpoint.is_inside ≡ true
+
+-- from the current folder, wherever it lies
+pub record StandsAt (top here : List ℕ) (standpoint : Standpoint) : Type 0 where
+  pub top : standpoint.top.items ≡ top
+  pub here : standpoint.here.items ≡ unwrap_or (left_below top here) here
+  pub inside : standpoint.is_inside ≡ is_some (left_below top here)
+
+-- a path with the slash at its front; that of the root has no bytes
+abbrev pub from_root : List ℕ → List ℕ
+from_root [] = []
+from_root (b ∷ path) = slash ∷ b ∷ path
+
+-- what is told of a repository: an option stands for its variable
+abbrev pub with_options : Options → Environment (List ℕ) → Environment (List ℕ)
+with_options options variables = record variables {
+  git_dir = option_or (option_copied options.git_dir) variables.git_dir;
+  work_tree = option_or (option_copied options.work_tree) variables.work_tree;
+}

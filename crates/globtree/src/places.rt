@@ -1,0 +1,55 @@
+//! Where paths are told from, by the paths of the current folder and of the top, both without the slash at their front.
+ghost use Rattle.std.specs.Prelude.{◌≡◌, IfOk};
+ghost use Rattle.globtree.specs.Places.{StandsAt, StandsIn, from_root};
+
+use std::alloc::{AllocError, Global};
+use told_paths::{Standpoint, below_folder};
+
+/// From the current folder, where it lies in the work tree, and else from the top.
+pub(crate) fn standpoint_in(
+    alloc: Global,
+    here: &[u8],
+    top: Vec<u8>,
+) -> Result<Standpoint, AllocError>
+    ensures { IfOk result (StandsIn top.items here.now) }
+{
+    let here = match below_folder(here, &top) {
+        Some(below) => Vec::from_slice(alloc, below)?,
+        None => Vec::new(alloc),
+    };
+    Ok(Standpoint {
+        top,
+        here,
+        is_inside: true,
+    })
+}
+
+/// From the current folder, wherever it lies.
+pub(crate) fn standpoint_at(
+    alloc: Global,
+    here: &[u8],
+    top: Vec<u8>,
+) -> Result<Standpoint, AllocError>
+    ensures { IfOk result (StandsAt top.items here.now) }
+{
+    let below = below_folder(here, &top);
+    let is_inside = below.is_some();
+    let here = Vec::from_slice(alloc, below.unwrap_or(here))?;
+    Ok(Standpoint {
+        top,
+        here,
+        is_inside,
+    })
+}
+
+/// A path with the slash at its front; that of the root has no bytes.
+pub(crate) fn from_root(alloc: Global, path: &[u8]) -> Result<Vec<u8>, AllocError>
+    ensures { IfOk result (λ whole. whole.items ≡ from_root path.now) }
+{
+    let mut whole = Vec::new(alloc);
+    if !path.is_empty() {
+        whole.push(b'/')?;
+        whole.extend_from_slice(path)?;
+    }
+    Ok(whole)
+}
