@@ -7,6 +7,7 @@ use crate::excludes::{excludes, named_excludes};
 use crate::moving::go_to_folders;
 use crate::signs::{Concerns, tell_signs};
 use crate::sources::FolderFiles;
+use crate::standing::folder_text;
 use crate::work_tree::{WorkTree, work_tree};
 use anyhow::{Context, Result};
 use gix_glob::pattern::Case;
@@ -71,10 +72,10 @@ pub(crate) fn fronts_of<R: Files + Env + Eprint + AllocGlobal>(
 fn usual_excludes<R: Files + Eprint>(
     rt: &R,
     alloc: Global,
-    file: Option<String>,
+    file: Option<Vec<u8>>,
 ) -> Result<List<IgnoreLines>> {
     match file {
-        Some(file) => excludes(rt, alloc, file),
+        Some(file) => excludes(rt, alloc, folder_text(alloc, &file)?),
         None => Ok(List::empty(alloc)),
     }
 }

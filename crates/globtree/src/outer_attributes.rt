@@ -3,9 +3,10 @@
 use crate::attribute_files::AttributeFiles;
 use crate::moving::go_to_folders;
 use crate::signs::{Concerns, tell_signs};
+use crate::standing::folder_text;
 use crate::work_tree::{WorkTree, work_tree};
 use anyhow::Result;
-use std::alloc::{AllocError, Global};
+use std::alloc::Global;
 use std::rt::{Env, Files};
 use told_paths::Standpoint;
 use tree_commands::check_attr::OuterFiles;
@@ -45,11 +46,8 @@ pub(crate) fn outer_attributes<R: Files + Env + Eprint + AllocGlobal>(
 ) -> Result<OuterAttributes> {
     go_to_folders(rt, alloc, options)?;
     let reader = AttributeFiles { rt, alloc };
-    let system = bytes_of_file(&reader, owned(alloc, options.system)?)?;
-    let named = match options.attributes {
-        Some(file) => Some(reader.file(String::from_str(alloc, file)?)?),
-        None => None,
-    };
+    let system = named_file(&reader, options.system)?;
+    let named = named_file(&reader, options.attributes)?;
     let tree = work_tree(rt, alloc, options)?;
     let concerns = Concerns {
         are_attributes: true,
@@ -66,35 +64,40 @@ pub(crate) fn outer_attributes<R: Files + Env + Eprint + AllocGlobal>(
     } = tree;
     let user = match named {
         Some(bytes) => bytes,
-        None => bytes_of_file(&reader, attributes)?,
+        None => usual_file(&reader, attributes)?,
     };
     let top = reader.top()?;
     let info = reader.file(own_attributes)?;
     Ok(OuterAttributes {
         standpoint,
         folds,
-        system,
+        system: system.unwrap_or(Vec::new(alloc)),
         user,
         top,
         info,
     })
 }
 
-/// The name of a file, where one is given.
-fn owned(alloc: Global, file: Option<&str>) -> Result<Option<String>, AllocError> {
+/// The bytes of a file that is named.
+fn named_file<R: Files + Eprint>(
+    reader: &AttributeFiles<'_, R>,
+    file: Option<&str>,
+) -> Result<Option<Vec<u8>>> {
     match file {
-        Some(file) => Ok(Some(String::from_str(alloc, file)?)),
+        Some(file) => Ok(Some(
+            reader.file(String::from_str(reader.alloc, file)?)?,
+        )),
         None => Ok(None),
     }
 }
 
-/// The bytes of a file, or none where none is named.
-fn bytes_of_file<R: Files + Eprint>(
+/// The bytes of the file for all repositories; none where there is no such file.
+fn usual_file<R: Files + Eprint>(
     reader: &AttributeFiles<'_, R>,
-    file: Option<String>,
+    file: Option<Vec<u8>>,
 ) -> Result<Vec<u8>> {
     match file {
-        Some(file) => Ok(reader.file(file)?),
+        Some(file) => Ok(reader.file(folder_text(reader.alloc, &file)?)?),
         None => Ok(Vec::new(reader.alloc)),
     }
 }

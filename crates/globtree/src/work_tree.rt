@@ -24,9 +24,9 @@ pub(crate) struct WorkTree {
     /// Whether bytes above 127 are a reason to quote a name, by the configuration.
     pub(crate) quotes: bool,
     /// The file of excludes for all repositories.
-    pub(crate) excludes: Option<String>,
+    pub(crate) excludes: Option<Vec<u8>>,
     /// The file of attributes for all repositories.
-    pub(crate) attributes: Option<String>,
+    pub(crate) attributes: Option<Vec<u8>>,
     /// The repository's own file of excludes.
     pub(crate) own_excludes: String,
     /// The repository's own file of attributes.
@@ -68,11 +68,10 @@ fn named_tree<R: Files + Env + AllocGlobal>(
 }
 
 /// The name of a file in Git's part of the user's folder of settings, whether it is there or not.
-fn users_file<R: Env>(rt: &R, alloc: Global, name: &[u8]) -> Result<Option<String>> {
+fn users_file<R: Env>(rt: &R, alloc: Global, name: &[u8]) -> Result<Option<Vec<u8>>> {
     let home = variable(rt, alloc, "HOME")?;
     let settings = variable(rt, alloc, "XDG_CONFIG_HOME")?;
-    let file = settings_file(alloc, settings.as_deref(), home.as_deref(), name)?;
-    text_of(alloc, &file)
+    Ok(settings_file(alloc, settings.as_deref(), home.as_deref(), name)?)
 }
 
 /// The work tree of the repository of the current folder. From a folder outside of it, paths are told from its top.
@@ -105,18 +104,10 @@ fn tree_at(
         standpoint,
         folds: opened.core.ignore_case,
         quotes: opened.core.quote_path,
-        excludes: text_of(alloc, &opened.core.excludes)?,
-        attributes: text_of(alloc, &opened.core.attributes)?,
+        excludes: opened.core.excludes,
+        attributes: opened.core.attributes,
         own_excludes: folder_text(alloc, &own_excludes)?,
         own_attributes: folder_text(alloc, &own_attributes)?,
         index: folder_text(alloc, &index)?,
     })
-}
-
-/// A path as text, where there is one.
-fn text_of(alloc: Global, path: &Option<Vec<u8>>) -> Result<Option<String>> {
-    match path {
-        Some(path) => Ok(Some(folder_text(alloc, path)?)),
-        None => Ok(None),
-    }
 }
