@@ -2,5 +2,3 @@ pub mod Answers
 pub mod IndexHead
 pub mod Places
 pub mod Running
-pub mod SeenFiles
-pub mod Telling

@@ -6,13 +6,10 @@ ghost use Rattle.tree_commands.specs.CheckAttr.{all, named};
 ghost use Rattle.globtree.specs.Answers.{AnswersAttr, ReadsStates, TellsStates, case_by};
 ghost use Rattle.globtree.specs.Running.{IsAnswered, IsRefused, form_by};
 
-use crate::attribute_files::AttributeFiles;
 use crate::check_ignore::bytes_of;
-use crate::fault::CheckFault;
-use crate::outer_attributes::{OuterAttributes, outer_attributes};
 use crate::fronts::case_of;
-use crate::running::{ANSWERED, WRONG_WORDS};
-use crate::telling::{tell_line, tell_usage};
+use crate::outer_attributes::{OuterAttributes, outer_attributes};
+use crate::running::{ANSWERED, WRONG_WORDS, tell_usage};
 use anyhow::{Context, Result};
 use gix_glob::search::Watched;
 use glob_attributes::is_name;
@@ -24,6 +21,7 @@ use tree_answers::Form;
 use tree_commands::check_attr::{
     AskedAttributes, AttributeFault, AttributeQuestion, check_attr_paths, run_check_attr,
 };
+use tree_files::{AttributeFiles, CheckFault, tell_line};
 use tree_words::check_attr::CheckAttrFlags;
 use tree_words::{Options, operands_of};
 
@@ -74,7 +72,7 @@ pub(crate) fn check_attr<R: Files + Env + Eprint + AllocGlobal, I: Read, O: Writ
     }
     let asked_names = bytes_of(alloc, names)?;
     let question = question_of(&outer, &asked_names, options, flags);
-    let source = AttributeFiles { rt, alloc };
+    let source = AttributeFiles::new(rt, alloc);
     if flags.stdin {
         answer_input(alloc, &question, source, input, output)?;
         return Ok(ANSWERED);

@@ -5,12 +5,9 @@ ghost use Rattle.gix_glob.specs.Watched.{has_failed, inner};
 ghost use Rattle.globtree.specs.Answers.{AnswersIgnore, ReadsIgnore, TellsIgnore};
 ghost use Rattle.globtree.specs.Running.{IsAnswered, asked_by_flags};
 
-use crate::fault::CheckFault;
-use crate::file_kinds::FileKinds;
 use crate::fronts::{case_of, fronts_of, tree_behind};
 use crate::running::ANSWERED;
 use crate::signs::Concerns;
-use crate::sources::FolderFiles;
 use anyhow::{Context, Result, bail};
 use gix_glob::search::Watched;
 use record_streams::RecordFault;
@@ -22,6 +19,7 @@ use tree_answers::Form;
 use tree_commands::check_ignore::{
     IgnoreFault, IgnoreFlags, IgnoreSources, check_ignore_paths, run_check_ignore,
 };
+use tree_files::{CheckFault, FileKinds, FolderFiles};
 use tree_words::check_ignore::CheckIgnoreFlags;
 use tree_words::{Options, operands_of};
 
@@ -55,7 +53,7 @@ pub(crate) fn check_ignore<R: Files + Env + Eprint + AllocGlobal, I: Read, O: Wr
     let fronts = fronts_of(rt, alloc, options, concerns)?;
     let case = case_of(options, fronts.folds);
     let tree = tree_behind(rt, alloc, fronts.lists, case)?;
-    let kinds = FileKinds { rt, alloc };
+    let kinds = FileKinds::new(rt, alloc);
     let sources = IgnoreSources { tree, kinds };
     let standpoint = fronts.standpoint;
     let asked = asked_by_flags(flags);

@@ -1,17 +1,11 @@
 //! Files of excludes, which count before those of all folders.
-use crate::seen_files::{file_list, named_list};
 use anyhow::{Context, Result, bail};
 use gix_glob::search::pattern::List;
 use glob_lines::IgnoreLines;
-use glob_lists::Reading;
 use std::alloc::Global;
 use std::fs;
 use std::rt::Files;
-
-/// The parser of each ignore file: Git's reading counts.
-pub(crate) const BY_GIT: IgnoreLines = IgnoreLines {
-    reading: Reading::Git,
-};
+use tree_files::{BY_GIT, file_list, named_list};
 
 /// The list of a file of excludes that is named, and has to be there.
 pub(crate) fn named_excludes<R: Files>(

@@ -6,8 +6,6 @@ ghost use Rattle.globtree.specs.Answers.{case_by};
 use crate::excludes::{excludes, named_excludes};
 use crate::moving::go_to_folders;
 use crate::signs::{Concerns, tell_signs};
-use crate::sources::FolderFiles;
-use crate::standing::folder_text;
 use crate::work_tree::{WorkTree, work_tree};
 use anyhow::{Context, Result};
 use gix_glob::pattern::Case;
@@ -18,6 +16,7 @@ use glob_trees::Tree;
 use std::alloc::Global;
 use std::rt::{Env, Files};
 use told_paths::Standpoint;
+use tree_files::{FolderFiles, path_text};
 use tree_words::Options;
 
 /// About how many bytes are kept of folders and their patterns.
@@ -75,7 +74,7 @@ fn usual_excludes<R: Files + Eprint>(
     file: Option<Vec<u8>>,
 ) -> Result<List<IgnoreLines>> {
     match file {
-        Some(file) => excludes(rt, alloc, folder_text(alloc, &file)?),
+        Some(file) => excludes(rt, alloc, path_text(alloc, &file)?),
         None => Ok(List::empty(alloc)),
     }
 }

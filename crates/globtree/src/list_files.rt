@@ -4,8 +4,6 @@ ghost use Rattle.gix_glob.specs.Watched.{inner};
 ghost use Rattle.globtree.specs.Answers.{AnswersFiles};
 ghost use Rattle.globtree.specs.Running.{IsAnswered};
 
-use crate::fault::CheckFault;
-use crate::files::TreeFiles;
 use crate::fronts::{case_of, fronts_of};
 use crate::running::ANSWERED;
 use crate::signs::Concerns;
@@ -18,6 +16,7 @@ use told_paths::LeadFault;
 use tree_answers::Form;
 use tree_commands::files::fault::FilesFault;
 use tree_commands::files::{Listing, run_files};
+use tree_files::{CheckFault, TreeFiles};
 use tree_words::Options;
 use tree_words::files::FilesFlags;
 

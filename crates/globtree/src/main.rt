@@ -2,15 +2,9 @@
 //! states attributes have for paths.
 #![tactic(auto)]
 
-mod attribute_files;
 mod check_attr;
 mod check_ignore;
-mod closed_folders;
 mod excludes;
-mod fault;
-mod file_kinds;
-mod files;
-mod folder_names;
 mod fronts;
 mod index_head;
 mod list_files;
@@ -19,12 +13,7 @@ mod opening;
 mod outer_attributes;
 mod places;
 mod running;
-mod seen_files;
 mod signs;
-mod sources;
-mod standing;
-mod telling;
-mod unparsed;
 mod work_tree;
 
 use gix_glob::search::Watched;

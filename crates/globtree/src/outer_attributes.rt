@@ -1,15 +1,14 @@
 //! The attribute files that don't depend on a path: the system's, the user's, the top's and the repository's own.
 
-use crate::attribute_files::AttributeFiles;
 use crate::moving::go_to_folders;
 use crate::signs::{Concerns, tell_signs};
-use crate::standing::folder_text;
 use crate::work_tree::{WorkTree, work_tree};
 use anyhow::Result;
 use std::alloc::Global;
 use std::rt::{Env, Files};
 use told_paths::Standpoint;
 use tree_commands::check_attr::OuterFiles;
+use tree_files::{AttributeFiles, path_text};
 use tree_words::Options;
 use tree_words::check_attr::CheckAttrFlags;
 
@@ -45,9 +44,9 @@ pub(crate) fn outer_attributes<R: Files + Env + Eprint + AllocGlobal>(
     flags: CheckAttrFlags,
 ) -> Result<OuterAttributes> {
     go_to_folders(rt, alloc, options)?;
-    let reader = AttributeFiles { rt, alloc };
-    let system = named_file(&reader, options.system)?;
-    let named = named_file(&reader, options.attributes)?;
+    let reader = AttributeFiles::new(rt, alloc);
+    let system = named_file(alloc, &reader, options.system)?;
+    let named = named_file(alloc, &reader, options.attributes)?;
     let tree = work_tree(rt, alloc, options)?;
     let concerns = Concerns {
         are_attributes: true,
@@ -64,7 +63,7 @@ pub(crate) fn outer_attributes<R: Files + Env + Eprint + AllocGlobal>(
     } = tree;
     let user = match named {
         Some(bytes) => bytes,
-        None => usual_file(&reader, attributes)?,
+        None => usual_file(alloc, &reader, attributes)?,
     };
     let top = reader.top()?;
     let info = reader.file(own_attributes)?;
@@ -80,24 +79,24 @@ pub(crate) fn outer_attributes<R: Files + Env + Eprint + AllocGlobal>(
 
 /// The bytes of a file that is named.
 fn named_file<R: Files + Eprint>(
+    alloc: Global,
     reader: &AttributeFiles<'_, R>,
     file: Option<&str>,
 ) -> Result<Option<Vec<u8>>> {
     match file {
-        Some(file) => Ok(Some(
-            reader.file(String::from_str(reader.alloc, file)?)?,
-        )),
+        Some(file) => Ok(Some(reader.file(String::from_str(alloc, file)?)?)),
         None => Ok(None),
     }
 }
 
 /// The bytes of the file for all repositories; none where there is no such file.
 fn usual_file<R: Files + Eprint>(
+    alloc: Global,
     reader: &AttributeFiles<'_, R>,
     file: Option<Vec<u8>>,
 ) -> Result<Vec<u8>> {
     match file {
-        Some(file) => Ok(reader.file(folder_text(reader.alloc, &file)?)?),
-        None => Ok(Vec::new(reader.alloc)),
+        Some(file) => Ok(reader.file(path_text(alloc, &file)?)?),
+        None => Ok(Vec::new(alloc)),
     }
 }

@@ -9,12 +9,12 @@ ghost use Rattle.globtree.specs.Running.{IsAnswered, IsRefused, IsStatus};
 use crate::check_attr::check_attr;
 use crate::check_ignore::check_ignore;
 use crate::list_files::list_files;
-use crate::telling::{tell_line, tell_no_memory, tell_usage};
 use anyhow::{Context, Result};
 use gix_glob::search::Watched;
 use std::alloc::Global;
 use std::io::{ErrorKind, Read, Write};
 use std::rt::{Env, Files};
+use tree_files::tell_line;
 use tree_words::{Command, Options, asked_by};
 
 /// What the program ends with.
@@ -148,4 +148,14 @@ fn write_text<O: Write>(output: &mut Watched<O>, text: &str) -> Result<u8>
     output.write_all(text.as_bytes()).context("writing")?;
     output.flush().context("writing")?;
     Ok(ANSWERED)
+}
+
+/// Tells that memory was refused.
+fn tell_no_memory<R: Eprint>(rt: &R) {
+    let _ = eprintln!(rt; "fatal: no memory");
+}
+
+/// Tells what is wrong with the words, and how the program is used.
+pub(crate) fn tell_usage<R: Eprint>(rt: &R, wrong: &'static str, usage: &'static str) {
+    let _ = eprint!(rt; "error: {wrong}\n{usage}");
 }

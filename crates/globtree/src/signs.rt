@@ -1,13 +1,13 @@
 //! Signs that Git may answer otherwise, since the program doesn't read what it reads: they are looked for, and told in one line.
 
 use crate::index_head::entry_count;
-use crate::telling::tell_line;
 use crate::work_tree::WorkTree;
 use std::alloc::{AllocError, Global};
 use std::env::VarError;
 use std::io::{ErrorKind, Read};
 use std::rt::{Env, Files};
 use std::{env, fs, io};
+use tree_files::tell_line;
 
 /// How many bytes of the index are looked at: the name of its first extension stands behind the number of its entries.
 const INDEX_FRONT: usize = 16;

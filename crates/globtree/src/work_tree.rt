@@ -3,7 +3,6 @@
 use crate::moving::{current_folder, go_to_top};
 use crate::opening::open_here;
 use crate::places::{from_root, standpoint_at, standpoint_in};
-use crate::standing::folder_text;
 use anyhow::{Context, Result};
 use core_settings::settings_file;
 use git_config::Config;
@@ -12,6 +11,7 @@ use repository_files::variable;
 use std::alloc::Global;
 use std::rt::{Env, Files};
 use told_paths::Standpoint;
+use tree_files::path_text;
 use tree_words::Options;
 
 /// What counts for all paths of a work tree, whose top is the current folder.
@@ -84,7 +84,7 @@ fn tree_of_repository<R: Files + Env + AllocGlobal>(
     let current = from_root(alloc, &here)?;
     let opened = open_here(rt, alloc, options, &current)?;
     let top = opened.top.as_deref().context("there is no work tree")?;
-    let top = folder_text(alloc, &told_from(alloc, &current, top)?)?;
+    let top = path_text(alloc, &told_from(alloc, &current, top)?)?;
     let top = go_to_top(rt, alloc, top.as_str())?;
     let standpoint = standpoint_in(alloc, &here, top)?;
     tree_at(alloc, standpoint, &current, opened)
@@ -106,8 +106,8 @@ fn tree_at(
         quotes: opened.core.quote_path,
         excludes: opened.core.excludes,
         attributes: opened.core.attributes,
-        own_excludes: folder_text(alloc, &own_excludes)?,
-        own_attributes: folder_text(alloc, &own_attributes)?,
-        index: folder_text(alloc, &index)?,
+        own_excludes: path_text(alloc, &own_excludes)?,
+        own_attributes: path_text(alloc, &own_attributes)?,
+        index: path_text(alloc, &index)?,
     })
 }

@@ -1,7 +1,7 @@
 //! What stands at the paths of the work tree.
 
 use crate::fault::CheckFault;
-use crate::standing::folder_text;
+use crate::standing::path_text;
 use std::alloc::Global;
 use std::fs;
 use std::rt::Files;
@@ -9,9 +9,16 @@ use tree_commands::check_ignore::PathKinds;
 
 /// What stands at the paths below the folder that the program stands in.
 #[derive(Drop)]
-pub(crate) struct FileKinds<'a, R> {
-    pub(crate) rt: &'a R,
-    pub(crate) alloc: Global,
+pub struct FileKinds<'a, R> {
+    rt: &'a R,
+    alloc: Global,
+}
+
+impl<'a, R> FileKinds<'a, R> {
+    /// Nothing was looked at yet.
+    pub fn new(rt: &'a R, alloc: Global) -> FileKinds<'a, R> {
+        FileKinds { rt, alloc }
+    }
 }
 
 impl<'a, R: Files> PathKinds for FileKinds<'a, R> {
@@ -22,7 +29,7 @@ impl<'a, R: Files> PathKinds for FileKinds<'a, R> {
     ghost kind_of = { λ _ _. None };
 
     fn is_folder(&mut self, path: &[u8]) -> Result<bool, CheckFault> {
-        let name = folder_text(self.alloc, path)?;
+        let name = path_text(self.alloc, path)?;
         match fs::symlink_metadata(self.rt, name.as_str()) {
             Ok(found) => Ok(found.is_dir()),
             Err(_missing) => Ok(false),
@@ -30,7 +37,7 @@ impl<'a, R: Files> PathKinds for FileKinds<'a, R> {
     }
 
     fn check_folder(&mut self, folder: &[u8]) -> Result<bool, CheckFault> {
-        let name = folder_text(self.alloc, folder)?;
+        let name = path_text(self.alloc, folder)?;
         match fs::symlink_metadata(self.rt, name.as_str()) {
             Ok(found) if found.is_symlink() => Err(CheckFault::BeyondLink(name)),
             Ok(found) => Ok(found.is_dir()),

@@ -1,10 +1,9 @@
 //! What a real work tree tells `files`: the names in its folders, what stands there, and their ignore files. What can't be looked at is told.
 
-use crate::excludes::BY_GIT;
 use crate::fault::CheckFault;
 use crate::folder_names::NameReader;
 use crate::seen_files::{Sight, seen_file_list};
-use crate::sources::FolderFiles;
+use crate::sources::{BY_GIT, FolderFiles};
 use crate::standing::{OwnFile, file_in, own_file};
 use crate::telling::tell_line;
 use gix_glob::search::pattern::List;
@@ -21,7 +20,7 @@ use tree_commands::files::source::{EntryKind, FileSource, FolderNames};
 
 /// The folders below the one that the program stands in.
 #[derive(Drop)]
-pub(crate) struct TreeFiles<'a, R: Files + Eprint> {
+pub struct TreeFiles<'a, R: Files + Eprint> {
     rt: &'a R,
     alloc: Global,
     reader: NameReader,
@@ -37,7 +36,7 @@ pub(crate) struct TreeFiles<'a, R: Files + Eprint> {
 
 impl<'a, R: Files + Eprint> TreeFiles<'a, R> {
     /// Nothing was looked at yet.
-    pub(crate) fn new(rt: &'a R, alloc: Global) -> Result<TreeFiles<'a, R>, AllocError> {
+    pub fn new(rt: &'a R, alloc: Global) -> Result<TreeFiles<'a, R>, AllocError> {
         Ok(TreeFiles {
             rt,
             alloc,
@@ -50,7 +49,7 @@ impl<'a, R: Files + Eprint> TreeFiles<'a, R> {
     }
 
     /// Whether something couldn't be read.
-    pub(crate) fn is_short(&self) -> bool {
+    pub fn is_short(&self) -> bool {
         self.is_short
     }
 

@@ -1,7 +1,7 @@
 -- Files that are looked at twice.
 use Rattle.std.specs.Prelude.{◌≡◌}
-use Rattle.globtree.specs.declared.seen_files.FileKind.TheVariants.{Regular}
-use Rattle.globtree.specs.declared.seen_files.Sight.{Sight}
+use Rattle.tree_files.specs.declared.seen_files.FileKind.TheVariants.{Regular}
+use Rattle.tree_files.specs.declared.seen_files.Sight.{Sight}
 
 -- what was seen at two looks is one regular file: of one number on one device
 pub record IsSameFile (seen again : Sight) : Type 0 where

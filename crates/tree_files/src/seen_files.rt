@@ -1,7 +1,7 @@
 //! Files of patterns, each opened as it was looked at: what stands under its name at the second look has to be what stood there at the
 //! first.
 ghost use Rattle.std.specs.Prelude.{◌≡◌, ◌↔◌, IsTrue};
-ghost use Rattle.globtree.specs.SeenFiles.{IsSameFile};
+ghost use Rattle.tree_files.specs.SeenFiles.{IsSameFile};
 
 use crate::fault::CheckFault;
 use crate::standing::tell_unread;
@@ -75,7 +75,7 @@ fn is_same_file(seen: &Sight, again: &Sight) -> bool
 ///
 /// # Errors
 /// Where memory was refused, or the file can't be read.
-pub(crate) fn named_list<T: search::Pattern, R: Files>(
+pub fn named_list<T: search::Pattern, R: Files>(
     rt: &R,
     alloc: Global,
     file: String,
@@ -142,7 +142,7 @@ fn not_opened<L>(error: io::Error) -> Result<Option<L>, LoadFault> {
 
 /// The list of a file that lies outside all folders, whose bytes are put into `bytes`; no patterns and no bytes where there is none. A link
 /// is followed. One that can't be read is told, and passed over; but not one that could be read the next time.
-pub(crate) fn file_list<T: search::Pattern, R: Files + Eprint>(
+pub fn file_list<T: search::Pattern, R: Files + Eprint>(
     rt: &R,
     alloc: Global,
     file: String,

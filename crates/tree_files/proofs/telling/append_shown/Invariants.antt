@@ -1,6 +1,6 @@
 use Rattle.std.proofs.Common.{◌≡◌, ◌++◌, take, map}
-use Rattle.globtree.specs.Telling.{shown}
-use Rattle.globtree.proofs.telling.append_shown.Given as goal
+use Rattle.tree_files.specs.Telling.{shown}
+use Rattle.tree_files.proofs.telling.append_shown.Given as goal
 
 -- the bytes so far were appended
 abbrev pub invariant-bytes : goal.invariant-bytes

@@ -1,19 +1,24 @@
 //! The ignore files of folders.
 
 use crate::closed_folders::ClosedFolders;
-use crate::excludes::BY_GIT;
 use crate::fault::CheckFault;
 use crate::seen_files::{Sight, seen_file_list};
-use crate::standing::{OwnFile, Standing, file_in, folder_text, own_file, what_stands};
+use crate::standing::{OwnFile, Standing, file_in, path_text, own_file, what_stands};
 use gix_glob::search::pattern::List;
 use glob_lines::IgnoreLines;
+use glob_lists::Reading;
 use glob_trees::{FolderLists, list_in_folder};
 use std::alloc::Global;
 use std::rt::Files;
 
+/// The parser of each ignore file: Git's reading counts.
+pub const BY_GIT: IgnoreLines = IgnoreLines {
+    reading: Reading::Git,
+};
+
 /// The ignore files of the folders below the one that the program stands in.
 #[derive(Drop)]
-pub(crate) struct FolderFiles<'a, R> {
+pub struct FolderFiles<'a, R> {
     rt: &'a R,
     alloc: Global,
     /// The bytes of the file that was read last.
@@ -23,7 +28,7 @@ pub(crate) struct FolderFiles<'a, R> {
 
 impl<'a, R> FolderFiles<'a, R> {
     /// None was read yet.
-    pub(crate) fn new(rt: &'a R, alloc: Global) -> FolderFiles<'a, R> {
+    pub fn new(rt: &'a R, alloc: Global) -> FolderFiles<'a, R> {
         FolderFiles {
             rt,
             alloc,
@@ -36,7 +41,7 @@ impl<'a, R> FolderFiles<'a, R> {
 impl<'a, R: Files + Eprint> FolderFiles<'a, R> {
     /// The list of a folder that isn't known to be missing, without its base.
     fn own_list(&mut self, folder: &[u8]) -> Result<List<IgnoreLines>, CheckFault> {
-        let name = folder_text(self.alloc, folder)?;
+        let name = path_text(self.alloc, folder)?;
         match what_stands(self.rt, self.alloc, name.as_str())? {
             Standing::Link => Err(CheckFault::BeyondLink(name)),
             Standing::Nothing => {

@@ -54,7 +54,7 @@ pub(crate) fn what_stands<R: Files + Eprint>(
 }
 
 /// The name of a folder as text, which is what files are opened by.
-pub(crate) fn folder_text(alloc: Global, folder: &[u8]) -> Result<String, CheckFault> {
+pub fn path_text(alloc: Global, folder: &[u8]) -> Result<String, CheckFault> {
     match str::from_utf8(folder) {
         Ok(text) => Ok(String::from_str(alloc, text)?),
         Err(_bad) => Err(CheckFault::NotText(String::from_utf8_lossy(alloc, folder)?)),

@@ -1,12 +1,12 @@
 //! What is told on the standard error: all of it goes through here, so that no name brings a control character to a terminal.
 ghost use Rattle.std.specs.Prelude.{◌≡◌, ◌++◌, map, OnOk};
-ghost use Rattle.globtree.specs.Telling.{is_shown, shown};
+ghost use Rattle.tree_files.specs.Telling.{is_shown, shown};
 
 use std::alloc::{AllocError, Global};
 use std::fmt::Display;
 
 /// Tells one line. It may have names in it: what of them no line shows is told as a question mark.
-pub(crate) fn tell_line<R: Eprint, D: Display + Drop>(
+pub fn tell_line<R: Eprint, D: Display + Drop>(
     rt: &R,
     alloc: Global,
     line: D,
@@ -17,16 +17,6 @@ pub(crate) fn tell_line<R: Eprint, D: Display + Drop>(
     let text = String::from_utf8_lossy(alloc, &bytes)?;
     let _ = eprintln!(rt; "{text}");
     Ok(())
-}
-
-/// Tells that memory was refused.
-pub(crate) fn tell_no_memory<R: Eprint>(rt: &R) {
-    let _ = eprintln!(rt; "fatal: no memory");
-}
-
-/// Tells what is wrong with the words, and how the program is used.
-pub(crate) fn tell_usage<R: Eprint>(rt: &R, wrong: &'static str, usage: &'static str) {
-    let _ = eprint!(rt; "error: {wrong}\n{usage}");
 }
 
 /// Appends each byte of a line as it is shown.

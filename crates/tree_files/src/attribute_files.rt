@@ -2,7 +2,7 @@
 
 use crate::fault::CheckFault;
 use crate::seen_files::{Sight, file_list, seen_file_list};
-use crate::standing::{OwnFile, Standing, file_in, folder_text, own_file, what_stands};
+use crate::standing::{OwnFile, Standing, file_in, path_text, own_file, what_stands};
 use crate::telling::tell_line;
 use crate::unparsed::Unparsed;
 use glob_attributes::{Silence, SilentLine, silent_lines};
@@ -17,14 +17,21 @@ const FILE_LIMIT: u64 = 104_857_600;
 
 /// The attribute files below the folder that the program stands in, and those that lie elsewhere. It tells what is passed over.
 #[derive(Drop)]
-pub(crate) struct AttributeFiles<'a, R> {
-    pub(crate) rt: &'a R,
-    pub(crate) alloc: Global,
+pub struct AttributeFiles<'a, R> {
+    rt: &'a R,
+    alloc: Global,
+}
+
+impl<'a, R> AttributeFiles<'a, R> {
+    /// None was read yet.
+    pub fn new(rt: &'a R, alloc: Global) -> AttributeFiles<'a, R> {
+        AttributeFiles { rt, alloc }
+    }
 }
 
 impl<'a, R: Files + Eprint> AttributeFiles<'a, R> {
     /// The bytes of a file that lies outside all folders; none where there is no file. A link is followed.
-    pub(crate) fn file(&self, file: String) -> Result<Vec<u8>, CheckFault> {
+    pub fn file(&self, file: String) -> Result<Vec<u8>, CheckFault> {
         let mut bytes = Vec::new(self.alloc);
         let name = file.clone()?;
         match fs::metadata(self.rt, name.as_str()) {
@@ -39,7 +46,7 @@ impl<'a, R: Files + Eprint> AttributeFiles<'a, R> {
     }
 
     /// The bytes of the file of the top.
-    pub(crate) fn top(&self) -> Result<Vec<u8>, CheckFault> {
+    pub fn top(&self) -> Result<Vec<u8>, CheckFault> {
         let mut bytes = Vec::new(self.alloc);
         let file = String::from_str(self.alloc, ".gitattributes")?;
         self.read_own(file, &mut bytes, true)?;
@@ -108,7 +115,7 @@ impl<'a, R: Files + Eprint> AttributeFolders for AttributeFiles<'a, R> {
     ghost shows = { λ _ _ _. Unit {0} };
 
     fn read_file(&mut self, folder: &[u8], bytes: &mut Vec<u8>) -> Result<bool, CheckFault> {
-        let name = folder_text(self.alloc, folder)?;
+        let name = path_text(self.alloc, folder)?;
         match what_stands(self.rt, self.alloc, name.as_str())? {
             Standing::Nothing | Standing::Unseen => return Ok(false),
             Standing::Folder | Standing::Link => {}

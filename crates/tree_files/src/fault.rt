@@ -1,6 +1,6 @@
 //! Why a path got no answer.
 ghost use Rattle.std.specs.Prelude.{◌≡◌};
-ghost use Rattle.globtree.specs.declared.fault.CheckFault.TheVariants.{Memory};
+ghost use Rattle.tree_files.specs.declared.fault.CheckFault.TheVariants.{Memory};
 
 use std::alloc::{AllocError, Global};
 use thiserror::Error;
@@ -11,7 +11,7 @@ use tree_commands::check_ignore::IgnoreFault;
 
 /// Why a path got no answer.
 #[derive(Debug, Drop, Error)]
-pub(crate) enum CheckFault {
+pub enum CheckFault {
     /// Memory was refused.
     #[error("no memory")]
     Memory,
@@ -60,7 +60,7 @@ impl From<NameFault> for CheckFault {
 
 impl CheckFault {
     /// The fault of a told path that leads nowhere.
-    pub(crate) fn of_lead(alloc: Global, told: &[u8], fault: LeadFault) -> CheckFault {
+    pub fn of_lead(alloc: Global, told: &[u8], fault: LeadFault) -> CheckFault {
         match fault {
             LeadFault::Memory => CheckFault::Memory,
             LeadFault::Empty => CheckFault::Empty,
@@ -69,7 +69,7 @@ impl CheckFault {
     }
 
     /// The fault of a path that `check-ignore` has no answer for.
-    pub(crate) fn of_ignore(alloc: Global, fault: IgnoreFault<CheckFault>) -> CheckFault {
+    pub fn of_ignore(alloc: Global, fault: IgnoreFault<CheckFault>) -> CheckFault {
         match fault {
             IgnoreFault::Memory => CheckFault::Memory,
             IgnoreFault::Empty => CheckFault::Empty,
@@ -80,7 +80,7 @@ impl CheckFault {
     }
 
     /// The fault of a path that `check-attr` has no answer for.
-    pub(crate) fn of_attributes(alloc: Global, fault: AttributeFault<CheckFault>) -> CheckFault {
+    pub fn of_attributes(alloc: Global, fault: AttributeFault<CheckFault>) -> CheckFault {
         match fault {
             AttributeFault::Memory | AttributeFault::Spent => CheckFault::Memory,
             AttributeFault::BadlyQuoted => CheckFault::BadlyQuoted,

@@ -1,0 +1,23 @@
+//! The files of the operating system, as the commands over a work tree ask for them. What can't be read is told on the standard error.
+#![tactic(auto)]
+
+mod attribute_files;
+mod closed_folders;
+mod fault;
+mod file_kinds;
+mod files;
+mod folder_names;
+mod seen_files;
+mod sources;
+mod standing;
+mod telling;
+mod unparsed;
+
+pub use attribute_files::AttributeFiles;
+pub use fault::CheckFault;
+pub use file_kinds::FileKinds;
+pub use files::TreeFiles;
+pub use seen_files::{file_list, named_list};
+pub use sources::{BY_GIT, FolderFiles};
+pub use standing::path_text;
+pub use telling::tell_line;
