@@ -1,11 +1,16 @@
 -- Where a command stands: by the paths of the top and of the current folder, without the slash at their front, and by the words.
-use Rattle.std.specs.Prelude.{◌≡◌, ℕ, true, List, [], ◌∷◌, is_some}
+use Rattle.std.specs.Prelude.{◌≡◌, ℕ, true, List, [], ◌∷◌, Some, is_some, option_map, string_bytes}
 use Rattle.std.specs.Option.{option_copied, option_or, unwrap_or}
 use Rattle.git_repository.specs.declared.environment.Environment.{Environment}
+use Rattle.std.specs.Vec.{vec_items}
 use Rattle.gix_glob.specs.Bytes.{slash}
+use Rattle.git_config.specs.Configuration.{Seen}
+use Rattle.git_repository.specs.GitFolders.{told_from}
+use Rattle.opened_repository.specs.declared.opened.Opened.{Opened}
 use Rattle.told_paths.specs.declared.standpoint.Standpoint.{Standpoint}
 use Rattle.told_paths.specs.Paths.{left_below}
 use Rattle.tree_words.specs.declared.options.Options.{Options}
+use Rattle.globtree.specs.declared.work_tree.WorkTree.{WorkTree}
 
 -- from the current folder where it lies in the work tree, and else from the top
 pub record StandsIn (top here : List ℕ) (standpoint : Standpoint) : Type 0 where
@@ -30,3 +35,15 @@ with_options options variables = record variables {
   git_dir = option_or (option_copied options.git_dir) variables.git_dir;
   work_tree = option_or (option_copied options.work_tree) variables.work_tree;
 }
+
+-- What counts for all paths of the work tree of an opened repository: its configuration tells files from the top, and all else is told
+-- from the folder that was the current one.
+pub record IsTreeOf (standpoint : Standpoint) (current : List ℕ) (opened : Opened (List ℕ) (List Seen)) (tree : WorkTree) : Type 0 where
+  pub standpoint : tree.standpoint ≡ standpoint
+  pub folds : tree.folds ≡ opened.core.ignore_case
+  pub quotes : tree.quotes ≡ opened.core.quote_path
+  pub excludes : option_map vec_items tree.excludes ≡ opened.core.excludes
+  pub attributes : option_map vec_items tree.attributes ≡ opened.core.attributes
+  pub own_excludes : opened.exclude_name ≡ Some (string_bytes tree.own_excludes)
+  pub own_attributes : string_bytes tree.own_attributes ≡ told_from current opened.attributes_file
+  pub index : string_bytes tree.index ≡ told_from current opened.index_file

@@ -1,7 +1,9 @@
 //! Telling which state attributes have for paths.
-ghost use Rattle.std.specs.Prelude.{◌≡◌, ◌⊎◌, ℕ, List, if◌then◌else◌, IfOk, OnOk, false, map, string_bytes};
+ghost use Rattle.std.specs.Prelude.{◌≡◌, ◌⊎◌, ℕ, List, if◌then◌else◌, IfOk, MatchOption, OnOk, false, map, string_bytes};
 ghost use Rattle.std.specs.Borrow.{Bor};
+ghost use Rattle.std.specs.List.{AllByRecursion};
 ghost use Rattle.gix_glob.specs.Watched.{has_failed, inner};
+ghost use Rattle.glob_attributes.specs.Names.{is_name};
 ghost use Rattle.tree_commands.specs.CheckAttr.{all, named};
 ghost use Rattle.globtree.specs.Answers.{AnswersAttr, ReadsStates, TellsStates, case_by};
 ghost use Rattle.globtree.specs.Running.{IsAnswered, IsRefused, form_by};
@@ -147,8 +149,10 @@ fn question_of<'a>(
 }
 
 /// The first name that no attribute can have.
-fn wrong_name<'a>(names: &[&'a str]) -> Option<&'a str> {
-    for name in names {
+fn wrong_name<'a>(names: &[&'a str]) -> Option<&'a str>
+    ensures { MatchOption result (AllByRecursion (λ (name : Bor (List ℕ)). is_name name.now ≡ true) names.now) (λ name. is_name name.now ≡ false) }
+{
+    'names: for name in names {
         if !is_name(name.as_bytes()) {
             return Some(*name);
         }

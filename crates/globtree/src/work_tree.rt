@@ -1,4 +1,7 @@
 //! The work tree that a command is called in: where paths are told from, and the files that count in all of it.
+ghost use Rattle.std.specs.Prelude.{IfOk};
+ghost use Rattle.opened_repository.specs.Results.{opened_of};
+ghost use Rattle.globtree.specs.Places.{IsTreeOf};
 
 use crate::moving::{current_folder, go_to_top};
 use crate::opening::open_here;
@@ -96,7 +99,9 @@ fn tree_at(
     standpoint: Standpoint,
     current: &[u8],
     opened: Opened<Vec<u8>, Config>,
-) -> Result<WorkTree> {
+) -> Result<WorkTree>
+    ensures { IfOk result (IsTreeOf standpoint current.now (opened_of opened)) }
+{
     let own_excludes = opened.exclude_name.context("there is no work tree")?;
     let own_attributes = told_from(alloc, current, &opened.attributes_file)?;
     let index = told_from(alloc, current, &opened.index_file)?;

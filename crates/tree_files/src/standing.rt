@@ -1,4 +1,6 @@
 //! What stands in the file system under a name.
+ghost use Rattle.std.specs.Prelude.{◌≡◌, IfOk, string_bytes};
+ghost use Rattle.told_paths.specs.Paths.{below};
 
 use crate::fault::CheckFault;
 use crate::telling::tell_line;
@@ -53,16 +55,23 @@ pub(crate) fn what_stands<R: Files + Eprint>(
     }
 }
 
-/// The name of a folder as text, which is what files are opened by.
-pub fn path_text(alloc: Global, folder: &[u8]) -> Result<String, CheckFault> {
-    match str::from_utf8(folder) {
+/// A path as text, which is what files are opened by.
+///
+/// # Errors
+/// [`CheckFault::NotText`] for what is no UTF-8, and [`CheckFault::Memory`].
+pub fn path_text(alloc: Global, path: &[u8]) -> Result<String, CheckFault>
+    ensures { IfOk result (λ text. string_bytes text ≡ path.now) }
+{
+    match str::from_utf8(path) {
         Ok(text) => Ok(String::from_str(alloc, text)?),
-        Err(_bad) => Err(CheckFault::NotText(String::from_utf8_lossy(alloc, folder)?)),
+        Err(_bad) => Err(CheckFault::NotText(String::from_utf8_lossy(alloc, path)?)),
     }
 }
 
 /// The name of a file in a folder.
-pub(crate) fn file_in(alloc: Global, folder: &str, file: &str) -> Result<String, AllocError> {
+pub(crate) fn file_in(alloc: Global, folder: &str, file: &str) -> Result<String, AllocError>
+    ensures { IfOk result (λ name. string_bytes name ≡ below folder.now file.now) }
+{
     let mut name = String::from_str(alloc, folder)?;
     if !folder.is_empty() {
         name.push_str("/")?;
