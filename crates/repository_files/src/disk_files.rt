@@ -1,4 +1,4 @@
-//! The files of the operating system, as the search for a repository asks for them.
+//! The files of the operating system, and what the search for a repository asks of them.
 ghost use Rattle.git_repository.specs.FileTree.{unknown_tree};
 
 use crate::reading::{Unread, answered, read_front};
@@ -6,6 +6,7 @@ use crate::real_path::real_path;
 use crate::user::User;
 use git_repository::FileSystem;
 use std::alloc::{AllocError, Global};
+use std::cell::Cell;
 use std::fs;
 use std::fs::Metadata;
 use std::io::ErrorKind;
@@ -13,18 +14,26 @@ use std::os::unix::fs::MetadataExt;
 use std::rt::Files;
 
 /// The files of the operating system. What can't be looked at isn't there. The kit opens a file only by a text, so what has a path that is
-/// no UTF-8 isn't there, either.
+/// no UTF-8 isn't there, either. Of a configuration so many files are given at most, since files that include one another could ask for
+/// very many: 10,000.
 #[derive(Drop)]
 pub struct DiskFiles<'a, R> {
     pub(crate) rt: &'a R,
     pub(crate) alloc: Global,
     user: User,
+    /// How many files of a configuration were asked for.
+    pub(crate) asked: Cell<usize>,
 }
 
 impl<'a, R> DiskFiles<'a, R> {
-    /// The files as this user sees them.
+    /// The files as this user sees them, of which none was asked for.
     pub fn new(rt: &'a R, alloc: Global, user: User) -> DiskFiles<'a, R> {
-        DiskFiles { rt, alloc, user }
+        DiskFiles {
+            rt,
+            alloc,
+            user,
+            asked: Cell::new(0),
+        }
     }
 }
 

@@ -1,7 +1,7 @@
 //! The files and the environment of the operating system, as `git_repository` and `git_config` ask for them.
 #![tactic(auto)]
 
-mod disk_config_files;
+mod config_files;
 mod disk_files;
 mod environment;
 mod fault;
@@ -14,7 +14,6 @@ mod tests;
 mod user;
 mod variables;
 
-pub use disk_config_files::DiskConfigFiles;
 pub use disk_files::DiskFiles;
 pub use environment::RepositoryVariables;
 pub use fault::{ConfigFileFault, VariableFault, WrongFile};

@@ -1,6 +1,6 @@
 //! Files of a configuration, and those that are none.
 use super::{files_of, new_folder, path_in, same};
-use crate::{ConfigFileFault, DiskConfigFiles};
+use crate::ConfigFileFault;
 use git_config::{ConfigFiles, FoundFile};
 use std::fs;
 use std::os::unix::fs::{PermissionsExt, symlink};
@@ -53,8 +53,7 @@ fn files_are_found_or_a_fault(rt: HostRuntime) -> Result<(), Fail> {
             "unable to access 'TOP/large': it has more than 100 MiB",
         ),
     ];
-    let files = files_of(&rt)?;
-    let source = DiskConfigFiles::new(&files);
+    let source = files_of(&rt)?;
     for (row, (name, answer)) in rows.into_iter().enumerate() {
         let path = path_in(rt.alloc(), top.as_str(), name)?;
         let told = words_of(&rt, source.find(path.as_bytes()))?;
@@ -81,32 +80,24 @@ fn files_are_found_or_a_fault(rt: HostRuntime) -> Result<(), Fail> {
     Ok(())
 }
 
-/// Whoever may read every file is shut out of none.
+/// Whoever may read every file reads this one too.
 #[test]
-fn a_file_without_permission_is_shut(rt: HostRuntime) -> Result<(), Fail> {
+fn a_file_without_permission_is_a_fault(rt: HostRuntime) -> Result<(), Fail> {
     let top = new_folder(&rt, "shut")?;
     let path = path_in(rt.alloc(), top.as_str(), "file")?;
     fs::write(&rt, path.as_str(), "[a]")?;
-    let files = files_of(&rt)?;
-    let source = DiskConfigFiles::new(&files);
-    same(&rt, !source.is_shut(path.as_bytes())?, "an open file", 0);
-    same(&rt, !source.is_shut(top.as_bytes())?, "a folder", 0);
     fs::set_permissions(&rt, path.as_str(), fs::Permissions::from_mode(0))?;
     let is_open = fs::open(&rt, path.as_str()).is_ok();
-    let is_shut = source.is_shut(path.as_bytes())?;
-    let told = words_of(&rt, source.find(path.as_bytes()))?;
+    let told = words_of(&rt, files_of(&rt)?.find(path.as_bytes()))?;
     fs::remove_dir_all(&rt, top.as_str())?;
-    same(&rt, is_shut != is_open, "a shut file", 0);
     let ends = told.as_str().ends_with("/file': Permission denied");
     same(&rt, ends != is_open, "the words", 0);
-    same(&rt, !source.is_shut(path.as_bytes())?, "no file", 0);
     Ok(())
 }
 
 #[test]
 fn ten_thousand_files_are_given(rt: HostRuntime) -> Result<(), Fail> {
-    let files = files_of(&rt)?;
-    let source = DiskConfigFiles::new(&files);
+    let source = files_of(&rt)?;
     for count in 0..10_000 {
         same(
             &rt,

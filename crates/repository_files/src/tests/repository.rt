@@ -1,6 +1,5 @@
 //! A repository that is found in real folders, and its configuration.
 use super::{files_of, new_folder, path_in, same};
-use crate::DiskConfigFiles;
 use git_config::{Config, Source, Surroundings};
 use git_repository::{
     Environment, FileSystem, FoundBy, RepositoryFile, Safety, file_path, find, folders_of,
@@ -81,9 +80,8 @@ fn a_repository_is_found_and_its_configuration_is_read(rt: HostRuntime) -> Resul
     let current = path_in(rt.alloc(), top.as_str(), "link")?;
     let path = config_path(&rt, top.as_str(), current.as_bytes())?;
     let files = files_of(&rt)?;
-    let source = DiskConfigFiles::new(&files);
     let around = nothing_around(rt.alloc());
-    let config = Config::read(rt.alloc(), &source, &around, &[Source::File(&path)]);
+    let config = Config::read(rt.alloc(), &files, &around, &[Source::File(&path)]);
     fs::remove_dir_all(&rt, top.as_str())?;
     let config = config.ok().ok_or("no configuration")?;
     same(

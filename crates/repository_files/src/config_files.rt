@@ -1,4 +1,4 @@
-//! The files of the operating system, as a configuration asks for them.
+//! What a configuration asks of the files of the operating system.
 ghost use Rattle.std.specs.Prelude.{◌≡◌, ◌+◌, ◌<◌, ◌≤◌, None, Some};
 
 use crate::disk_files::DiskFiles;
@@ -18,30 +18,41 @@ const MOST_BYTES: usize = 100 << 20;
 /// So many files are given at most: files that include one another could ask for very many.
 const MOST_FILES: usize = 10_000;
 
-/// The files of the operating system that a configuration consists of. They are counted.
-#[derive(Drop)]
-pub struct DiskConfigFiles<'a, R> {
-    files: &'a DiskFiles<'a, R>,
-    asked: Cell<usize>,
-}
+/// Nothing is known of real files, so nothing is claimed of them.
+impl<'a, R: Files> ConfigFiles for DiskFiles<'a, R> {
+    type Fault = ConfigFileFault;
 
-impl<'a, R> DiskConfigFiles<'a, R> {
-    /// The files of the operating system, of which none was asked for.
-    pub fn new(files: &'a DiskFiles<'a, R>) -> DiskConfigFiles<'a, R> {
-        DiskConfigFiles {
-            files,
-            asked: Cell::new(0),
+    ghost shows = { λ _ _ _. Unit {0} };
+
+    fn find(&self, path: &[u8]) -> Result<Option<FoundFile<Vec<u8>>>, ConfigFileFault> {
+        count(&self.asked)?;
+        let Ok(name) = str::from_utf8(path) else {
+            return Ok(None);
+        };
+        let alloc = self.alloc;
+        let bytes = match read_front(self.rt, alloc, name, MOST_BYTES + 1) {
+            Ok(bytes) if bytes.len() > MOST_BYTES => return wrong(alloc, WrongFile::TooLarge, path),
+            Ok(bytes) => bytes,
+            Err(Unread::Folder) => return wrong(alloc, WrongFile::Folder, path),
+            Err(Unread::Other) => return wrong(alloc, WrongFile::NoFile, path),
+            Err(Unread::Replaced) => return wrong(alloc, WrongFile::Replaced, path),
+            Err(Unread::System(error)) => return refused(alloc, &error, path),
+        };
+        match self.real_path(path)? {
+            Some(real_path) => Ok(Some(FoundFile { bytes, real_path })),
+            // (it was removed since)
+            None => Ok(None),
         }
     }
+}
 
-    /// Counts a file that is asked for.
-    fn count(&self) -> Result<(), ConfigFileFault> {
-        let Some(asked) = one_more(self.asked.get()) else {
-            return Err(ConfigFileFault::TooMany);
-        };
-        self.asked.set(asked);
-        Ok(())
-    }
+/// Counts a file that is asked for.
+fn count(asked: &Cell<usize>) -> Result<(), ConfigFileFault> {
+    let Some(more) = one_more(asked.get()) else {
+        return Err(ConfigFileFault::TooMany);
+    };
+    asked.set(more);
+    Ok(())
 }
 
 /// The number of files with one more that is asked for; `None` where that is too many.
@@ -53,54 +64,6 @@ fn one_more(asked: usize) -> Option<usize>
         Some(asked + 1)
     } else {
         None
-    }
-}
-
-impl<'a, R: Files> DiskConfigFiles<'a, R> {
-    /// Whether the user may not read the file at a path. Git passes over a file of the user's own, as `~/.gitconfig`, that is shut; one of
-    /// the system, of the repository or one that is included is a fault. It isn't counted.
-    ///
-    /// # Errors
-    /// Only where memory was refused.
-    pub fn is_shut(&self, path: &[u8]) -> Result<bool, AllocError> {
-        let Ok(name) = str::from_utf8(path) else {
-            return Ok(false);
-        };
-        match read_front(self.files.rt, self.files.alloc, name, 0) {
-            Err(Unread::System(error)) => match error.kind() {
-                ErrorKind::OutOfMemory => Err(AllocError),
-                kind => Ok(kind == ErrorKind::PermissionDenied),
-            },
-            _ => Ok(false),
-        }
-    }
-}
-
-impl<'a, R: Files> ConfigFiles for DiskConfigFiles<'a, R> {
-    type Fault = ConfigFileFault;
-
-    // nothing is known of real files
-    ghost shows = { λ _ _ _. Unit {0} };
-
-    fn find(&self, path: &[u8]) -> Result<Option<FoundFile<Vec<u8>>>, ConfigFileFault> {
-        self.count()?;
-        let Ok(name) = str::from_utf8(path) else {
-            return Ok(None);
-        };
-        let alloc = self.files.alloc;
-        let bytes = match read_front(self.files.rt, alloc, name, MOST_BYTES + 1) {
-            Ok(bytes) if bytes.len() > MOST_BYTES => return wrong(alloc, WrongFile::TooLarge, path),
-            Ok(bytes) => bytes,
-            Err(Unread::Folder) => return wrong(alloc, WrongFile::Folder, path),
-            Err(Unread::Other) => return wrong(alloc, WrongFile::NoFile, path),
-            Err(Unread::Replaced) => return wrong(alloc, WrongFile::Replaced, path),
-            Err(Unread::System(error)) => return refused(alloc, &error, path),
-        };
-        match self.files.real_path(path)? {
-            Some(real_path) => Ok(Some(FoundFile { bytes, real_path })),
-            // (it was removed since)
-            None => Ok(None),
-        }
     }
 }
 
