@@ -10,7 +10,7 @@ ghost use Rattle.core_settings.specs.Sources.{counted, number_of, pair_count};
 use crate::fault::WrongPairs;
 
 /// The number of pairs that `GIT_CONFIG_COUNT` tells: none where it isn't set.
-pub(crate) fn pair_count(count: Option<&[u8]>) -> Result<u64, WrongPairs>
+pub fn pair_count(count: Option<&[u8]>) -> Result<u64, WrongPairs>
     ensures count { result ≡ pair_count (option_copied count.entry) }
     ensures few { IfOk result (λ n. n < 2 ^ 31) }
 {

@@ -9,6 +9,7 @@ mod sources;
 mod user_files;
 mod values;
 
+pub use count::pair_count;
 pub use fault::{CoreFault, SourcesFault, WrongPairs};
 pub use paths::told_path;
 pub use sources::{ConfigPlaces, ConfigSource, ConfigSources, Pair, config_sources};
