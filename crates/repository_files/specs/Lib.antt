@@ -1,3 +1,4 @@
+pub mod Configuration
 pub mod Parts
 pub mod Sight
 pub mod User

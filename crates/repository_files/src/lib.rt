@@ -2,6 +2,7 @@
 #![tactic(auto)]
 
 mod config_files;
+mod configuration;
 mod disk_files;
 mod environment;
 mod fault;
@@ -14,6 +15,7 @@ mod tests;
 mod user;
 mod variables;
 
+pub use configuration::{ConfigurationPair, ConfigurationVariables};
 pub use disk_files::DiskFiles;
 pub use environment::RepositoryVariables;
 pub use fault::{ConfigFileFault, VariableFault, WrongFile};
