@@ -89,8 +89,9 @@ pub(crate) fn tree_behind<'a, R: Files + Eprint>(
     ensures { IfOk result (λ tree. tree.rules ≡ by_git case) }
 {
     let source = FolderFiles::new(rt, alloc);
-    let mut tree =
-        Tree::new(alloc, source, lists, Rules::by_git(case)).context("the bases of lists")?;
+    let mut tree = Tree::new(alloc, source, lists, Rules::by_git(case)).context(
+        "the bases of lists",
+    )?;
     tree.keep_at_most(MOST_BYTES);
     Ok(tree)
 }

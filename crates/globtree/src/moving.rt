@@ -14,8 +14,7 @@ pub(crate) fn go_to_folders<R: Files + Env>(
 ) -> Result<()> {
     for folder in &values_of(alloc, options.words, "-C")? {
         if !folder.is_empty() {
-            env::set_current_dir(rt, *folder)
-                .context(format_args!("cannot change to '{folder}'"))?;
+            env::set_current_dir(rt, *folder).context(format_args!("cannot change to '{folder}'"))?;
         }
     }
     Ok(())

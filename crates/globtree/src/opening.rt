@@ -43,10 +43,7 @@ pub(crate) fn open_here<R: Files + Env>(
 }
 
 /// What the variables say of a repository, where no option stands for one.
-fn with_options<'a>(
-    variables: Environment<&'a [u8]>,
-    options: Options<'a>,
-) -> Environment<&'a [u8]>
+fn with_options<'a>(variables: Environment<&'a [u8]>, options: Options<'a>) -> Environment<&'a [u8]>
     ensures { environment_with (λ b. b.now) result ≡ with_options options.entry (environment_with (λ b. b.now) variables.entry) }
 {
     Environment {

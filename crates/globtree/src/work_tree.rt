@@ -51,11 +51,7 @@ pub(crate) fn work_tree<R: Files + Env + AllocGlobal>(
 }
 
 /// The work tree with a top that is named: no repository is looked for, and no configuration is read.
-fn named_tree<R: Files + Env + AllocGlobal>(
-    rt: &R,
-    alloc: Global,
-    top: &str,
-) -> Result<WorkTree> {
+fn named_tree<R: Files + Env + AllocGlobal>(rt: &R, alloc: Global, top: &str) -> Result<WorkTree> {
     let here = current_folder(rt, alloc)?;
     let top = go_to_top(rt, alloc, top)?;
     Ok(WorkTree {

@@ -2,7 +2,7 @@
 
 use crate::fault::CheckFault;
 use crate::seen_files::{Sight, file_list, seen_file_list};
-use crate::standing::{OwnFile, Standing, file_in, path_text, own_file, what_stands};
+use crate::standing::{OwnFile, Standing, file_in, own_file, path_text, what_stands};
 use crate::telling::tell_line;
 use crate::unparsed::Unparsed;
 use glob_attributes::{Silence, SilentLine, silent_lines};

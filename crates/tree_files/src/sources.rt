@@ -3,7 +3,7 @@
 use crate::closed_folders::ClosedFolders;
 use crate::fault::CheckFault;
 use crate::seen_files::{Sight, seen_file_list};
-use crate::standing::{OwnFile, Standing, file_in, path_text, own_file, what_stands};
+use crate::standing::{OwnFile, Standing, file_in, own_file, path_text, what_stands};
 use gix_glob::search::pattern::List;
 use glob_lines::IgnoreLines;
 use glob_lists::Reading;
