@@ -7,9 +7,9 @@ from trees import write
 
 # how a repository is found, and how often
 SHAPES = {
-    "a folder": 10, "a link to a folder": 3, "a file": 4, "a link to a file": 3, "a broken one below": 4, "a nested repository": 3,
-    "a linked work tree": 6, "a submodule": 4, "a bare folder": 4, "a variable": 6, "a common folder told": 3,
-}  # (50, and each third number has faults)
+    "a folder": 10, "a link to a folder": 3, "a file": 5, "a link to a file": 3, "a broken one below": 5, "a nested repository": 3,
+    "a linked work tree": 6, "a submodule": 4, "a bare folder": 4, "a variable": 7, "a common folder told": 3,
+}  # (53, and each third number has faults)
 HEADS = {
     "a branch": b"ref: refs/heads/main\n", "a branch of parts": b"ref: refs/heads/f/x/y\n", "no blank": b"ref:refs/x", "many blanks": b"ref: \t\r\n refs/heads/main",
     "a commit": b"0123456789abcdefABCD" * 2 + b"\n", "a commit and more": b"a" * 40 + b" and more",
@@ -112,7 +112,10 @@ class Repository:
         if shape not in ("a bare folder", "a variable", "a common folder told") and self.marked(0.12, "GIT_WORK_TREE"):
             self.variables[b"GIT_WORK_TREE"] = self.one_of(b"@/t", b"@/r", b"../t", b"@/l", b"@")
             self.outside.append(b"t")
-        if self.marked(0.1, "ceilings that hide nothing"):
+        if shape == "a folder" and self.marked(0.2, "a ceiling that hides"):
+            self.fault_of_a_ceiling()
+            self.inside, self.outside = [b"r"], [b"r/d"]
+        elif self.marked(0.1, "ceilings that hide nothing"):
             self.variables[b"GIT_CEILING_DIRECTORIES"] = self.one_of(b"@", b"", b"::@/l", b"r:../r", b"@/x:@/home/", b"@/r/d/e/f:.", b"/")
 
     def git_folder(self, path, version=True):
@@ -311,12 +314,13 @@ class Repository:
             self.files.pop(self.top + b"/d/.gitignore", None)
             self.links[self.top + b"/d/.gitignore"] = b"a"
         for folder in (b"home", b"t", b"t/d", self.top, self.top + b"/d"):
-            self.files[folder + b"/ig"] = self.ignore_text(folder)
+            self.files[folder + b"/ig"] = self.ignore_text(folder + b"/ig")
             self.files[folder + b"/at"] = self.attribute_text(folder + b"/at")
         self.links[b"home/ig-link"], self.links[b"home/at-link"] = b"ig", b"at"
 
-    def ignore_text(self, _):
-        lines = self.random.sample(IGNORE_LINES, self.one_of(1, 2, 2, 3, 4))
+    def ignore_text(self, name):
+        is_in_tree = name in (self.top, self.top + b"/d")
+        lines = self.random.sample(IGNORE_LINES, self.one_of(1, 1, 2) if is_in_tree else self.one_of(2, 3, 4, 5))
         return b"\n".join(lines) + self.one_of(b"\n", b"\n", b"\n", b"", b"\r\n")
 
     def attribute_text(self, name):
@@ -328,10 +332,10 @@ class Repository:
 
     def draw_sources(self):
         """Which files the system and the user have, and which variables name others."""
-        for path, part in ((USER, 0.6), (SETTINGS, 0.35), (SYSTEM, 0.3)):
+        for path, part in ((USER, 0.6), (SETTINGS, 0.4), (SYSTEM, 0.4)):
             if self.marked(part, "configuration: " + path.decode()):
                 self.entries.setdefault(path, [])
-        if self.chance(0.35):
+        if self.chance(0.45):
             del self.variables[b"GIT_CONFIG_NOSYSTEM"]
             self.variables[b"GIT_CONFIG_SYSTEM"] = self.kind_of({"a file": b"@/sys", "a file again": b"@/sys", "nowhere": b"@/nowhere", "with dots": b"@/x/.././sys"}, "GIT_CONFIG_SYSTEM")
             if self.marked(0.4, "GIT_CONFIG_NOSYSTEM and GIT_CONFIG_SYSTEM"):
@@ -342,8 +346,8 @@ class Repository:
             self.variables[b"XDG_CONFIG_HOME"] = b""
         if self.chance(0.4):
             self.entries[OTHER_SETTINGS] = []
-        if self.chance(0.15):
-            self.variables[b"GIT_CONFIG_GLOBAL"] = self.kind_of({"a file": b"@/global", "nowhere": b"@/nowhere", "empty": b""}, "GIT_CONFIG_GLOBAL")
+        if self.chance(0.25):
+            self.variables[b"GIT_CONFIG_GLOBAL"] = self.kind_of({"a file": b"@/global", "a file again": b"@/global", "nowhere": b"@/nowhere", "empty": b""}, "GIT_CONFIG_GLOBAL")
             self.entries[GLOBAL] = []
         for folder in (b"home/.config/git/", b"xdg/git/"):
             for name, text in ((b"ignore", self.ignore_text), (b"attributes", self.attribute_text)):
@@ -359,22 +363,23 @@ class Repository:
             self.own().append(entry(b"extensions." + self.random.choice(KNOWN_EXTENSIONS), self.one_of(b"true", b"x", None)))
 
     def draw_settings(self):
-        """Settings in all files, the same ones in several."""
+        """Settings in all files, the same ones in several, and others in none."""
+        kept = [key for key, _, _ in self.settings() if self.chance(0.65)]
         for path, entries in self.entries.items():
             for key, part, value in self.settings():
-                if self.chance(part):
+                if key in kept and self.chance(part):
                     entries.append(entry(key, value()))
         if self.marked(0.12, "a remote's URL"):
             self.random.choice(list(self.entries.values())).append(entry(b"remote.o.url", self.one_of(b"https://h/x", b"https://h/x/y", b"z")))
 
     def settings(self):
         return [
-            (b"core.excludesFile", 0.3, lambda: self.path_value(b"ig")),
-            (b"core.attributesFile", 0.25, lambda: self.path_value(b"at")),
-            (b"core.ignoreCase", 0.25, self.boolean),
-            (b"core.quotePath", 0.03, self.boolean),
+            (b"core.excludesFile", 0.35, lambda: self.path_value(b"ig")),
+            (b"core.attributesFile", 0.35, lambda: self.path_value(b"at")),
+            (b"core.ignoreCase", 0.35, self.boolean),
+            (b"core.quotePath", 0.05, self.boolean),
             (b"core." + self.random.choice(OTHER_BOOLEANS), 0.15, self.boolean),
-            (b"core.hooksPath", 0.05, lambda: b"~/hooks"),
+            (b"core.hooksPath", 0.05, lambda: b"@/hooks"),
         ]
 
     def path_value(self, name):
@@ -482,7 +487,7 @@ class Repository:
 
     def draw_faults(self):
         faults = [name for name in sorted(dir(self)) if name.startswith("fault_")]
-        drawn = [faults[self.seed // 3 % len(faults)], *self.random.sample(faults, self.one_of(0, 0, 1, 1, 2, 3))]
+        drawn = [faults[self.seed // 3 % len(faults)], *self.random.sample(faults, self.one_of(0, 1, 1, 2, 3))]
         self.random.shuffle(drawn)
         for name in drawn:
             getattr(self, name)()
