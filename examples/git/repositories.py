@@ -61,7 +61,7 @@ class Repository:
         self.constructs = set()
         self.writer = Writer(self.random, self.mark)
         self.seed, self.is_sound = seed, seed % 3 != 0
-        self.has_stranger = os.geteuid() == 0 and self.chance(0.15)
+        self.has_stranger = os.geteuid() == 0 and self.chance(0.18)
         if self.marked(0.06, "no HOME"):
             del self.variables[b"HOME"]
         self.draw_shape()
@@ -256,6 +256,8 @@ class Repository:
         if self.marked(0.8, "a bare folder with GIT_WORK_TREE"):
             self.variables[b"GIT_WORK_TREE"] = self.one_of(b"@/t", b"@/t", b"@/r", b"../t")
             self.inside, self.outside = [b"g", b"g/objects"], [b"home"]
+        if self.marked(0.25, "a bare folder and safe.bareRepository"):
+            self.entries.setdefault(USER, []).append(entry(b"safe.bareRepository", self.one_of(b"explicit", b"all", b"all")))
         if self.marked(0.5, "a bare folder with core.worktree"):
             self.own().append(entry(b"core.worktree", b"../t"))
         if self.marked(0.3, "core.bare: true"):
@@ -295,6 +297,9 @@ class Repository:
         self.information(b"r/.git")
         self.entries[b"r/.git/config"] = [entry(b"core.ignoreCase", b"true")]
         self.variables[b"GIT_COMMON_DIR"] = b"@/c"
+        if self.marked(0.25, "GIT_COMMON_DIR: relative"):
+            self.variables[b"GIT_COMMON_DIR"] = b"../c"
+            self.inside, self.outside = [b"r"], [b"r/d", b"t"]
         if self.marked(0.5, "a common folder told twice"):
             self.files[b"r/.git/commondir"] = b"nowhere\n"
 
@@ -332,33 +337,42 @@ class Repository:
 
     def draw_sources(self):
         """Which files the system and the user have, and which variables name others."""
-        for path, part in ((USER, 0.6), (SETTINGS, 0.4), (SYSTEM, 0.4)):
+        for path, part in ((USER, 0.6), (SETTINGS, 0.4), (SYSTEM, 0.4), (OTHER_SETTINGS, 0.4)):
             if self.marked(part, "configuration: " + path.decode()):
                 self.entries.setdefault(path, [])
         if self.chance(0.45):
-            del self.variables[b"GIT_CONFIG_NOSYSTEM"]
-            self.variables[b"GIT_CONFIG_SYSTEM"] = self.kind_of({"a file": b"@/sys", "a file again": b"@/sys", "nowhere": b"@/nowhere", "with dots": b"@/x/.././sys"}, "GIT_CONFIG_SYSTEM")
-            if self.marked(0.4, "GIT_CONFIG_NOSYSTEM and GIT_CONFIG_SYSTEM"):
-                self.variables[b"GIT_CONFIG_NOSYSTEM"] = self.one_of(b"true", b"YES", b"3", b"no", b"0", b"", b"off")
-        if self.marked(0.3, "XDG_CONFIG_HOME"):
-            self.variables[b"XDG_CONFIG_HOME"] = b"@/xdg"
+            self.draw_system()
+        if self.chance(0.35):
+            kinds = {"absolute": b"@/xdg", "absolute again": b"@/xdg", "with a slash": b"@/xdg/", "relative": b"../xdg"}
+            self.variables[b"XDG_CONFIG_HOME"] = self.kind_of(kinds, "XDG_CONFIG_HOME")
         elif self.marked(0.1, "XDG_CONFIG_HOME: empty"):
             self.variables[b"XDG_CONFIG_HOME"] = b""
-        if self.chance(0.4):
-            self.entries[OTHER_SETTINGS] = []
         if self.chance(0.25):
-            self.variables[b"GIT_CONFIG_GLOBAL"] = self.kind_of({"a file": b"@/global", "a file again": b"@/global", "nowhere": b"@/nowhere", "empty": b""}, "GIT_CONFIG_GLOBAL")
+            kinds = {"a file": b"@/global", "a file again": b"@/global", "relative": b"../global", "nowhere": b"@/nowhere", "empty": b""}
+            self.variables[b"GIT_CONFIG_GLOBAL"] = self.kind_of(kinds, "GIT_CONFIG_GLOBAL")
             self.entries[GLOBAL] = []
         for folder in (b"home/.config/git/", b"xdg/git/"):
             for name, text in ((b"ignore", self.ignore_text), (b"attributes", self.attribute_text)):
                 if self.marked(0.5, "default " + name.decode()):
                     self.files[folder + name] = text(folder + name)
+        self.draw_extensions()
+
+    def draw_system(self):
+        """The system's file, and whether it is left out."""
+        del self.variables[b"GIT_CONFIG_NOSYSTEM"]
+        kinds = {"a file": b"@/sys", "a file again": b"@/sys", "nowhere": b"@/nowhere", "with dots": b"@/x/.././sys"}
+        self.variables[b"GIT_CONFIG_SYSTEM"] = self.kind_of(kinds, "GIT_CONFIG_SYSTEM")
+        if self.marked(0.4, "GIT_CONFIG_NOSYSTEM and GIT_CONFIG_SYSTEM"):
+            self.variables[b"GIT_CONFIG_NOSYSTEM"] = self.one_of(b"true", b"YES", b"3", b"no", b"0", b"", b"off")
+
+    def draw_extensions(self):
+        """Extensions of the format, and the file that one of them asks for."""
         if self.marked(0.25, "config.worktree"):
-            self.entries[self.git + b"/config.worktree"] = []
+            self.entries[self.git + b"/config.worktree"] = own = []
             if self.marked(0.7, "extensions.worktreeConfig"):
                 self.own().append(entry(b"extensions.worktreeConfig", self.one_of(b"true", b"true", b"yes", None, b"false", b"0")))
             if self.marked(0.15, "core.worktree in config.worktree"):
-                self.entries[self.git + b"/config.worktree"].append(self.one_of(entry(b"core.worktree", b"@/t"), entry(b"core.bare", b"true"), entry(b"core.bare", b"no")))
+                own.append(self.one_of(entry(b"core.worktree", b"@/t"), entry(b"core.bare", b"true"), entry(b"core.bare", b"no")))
         if self.marked(0.15, "a known extension"):
             self.own().append(entry(b"extensions." + self.random.choice(KNOWN_EXTENSIONS), self.one_of(b"true", b"x", None)))
 
@@ -467,21 +481,28 @@ class Repository:
         """Another user's repository, which is safe or isn't."""
         if not self.has_stranger:
             return
-        theirs = self.random.choice([self.top, self.git, self.top + b"/.git"])
-        self.strangers.add(theirs if theirs in self.files or theirs in self.folders or any(path.startswith(theirs + b"/") for path in self.files) else self.top)
-        self.mark("another user's")
-        kind = self.random.choice(["any", "its path", "its path behind an empty one", "the superuser's user"] + ([] if self.is_sound else ["none", "an empty one behind", "in its own file", "another path"]))
+        theirs = [path for path in (self.top, self.git, self.top + b"/.git") if self.is_there(path)]
+        self.strangers.add(self.random.choice(theirs))
+        top = b"@/" + self.top
+        safe = {"any": [b"*"], "its path": [top], "its path behind an empty one": [b"", top], "the superuser's user": []}
+        unsafe = {"none": [], "an empty one behind": [b"*", b""], "another path": [top + b"/", b"@/x"], "in its own file": [b"*"]}
+        kind = self.random.choice([*safe, *([] if self.is_sound else unsafe)])
         self.mark("another user's: " + kind)
-        values = {"any": [b"*"], "its path": [b"@/" + self.top], "its path behind an empty one": [b"", b"@/" + self.top], "an empty one behind": [b"*", b""], "another path": [b"@/" + self.top + b"/", b"@/x"]}
-        told = [entry(b"safe.directory", value) for value in values.get(kind, [b"*"] if kind == "in its own file" else [])]
-        if kind == "in its own file":
+        if kind == "the superuser's user":
+            self.variables[b"SUDO_UID"] = b"%d" % STRANGER
+        self.tell_safe([entry(b"safe.directory", value) for value in {**safe, **unsafe}[kind]], kind == "in its own file")
+
+    def is_there(self, path):
+        return any(it == path or it.startswith(path + b"/") for it in [*self.files, *self.folders])
+
+    def tell_safe(self, told, is_own):
+        """Tells what is safe in a file that counts for it, by words, or in the repository's own file."""
+        if is_own:
             self.own().extend(told)
         elif b"HOME" in self.variables and b"GIT_CONFIG_GLOBAL" not in self.variables and self.chance(0.6):
             self.entries.setdefault(USER, []).extend(told)
         else:
             self.options += [part for it in told for part in (b"-c", key_of(it) + b"=" + it.value)]
-        if kind == "the superuser's user":
-            self.variables[b"SUDO_UID"] = b"%d" % STRANGER
 
     # ---- faults
 
