@@ -4,6 +4,10 @@ import re
 
 from trees import BYTE_ORDER_MARK
 
+# the files of configuration of the system and the user
+SYSTEM, USER, SETTINGS, OTHER_SETTINGS, GLOBAL = b"sys", b"home/.gitconfig", b"home/.config/git/config", b"xdg/git/config", b"global"
+TRUE = [None, b"true", b"TRUE", b"yes", b"On", b"1", b"-1", b"2k", b" 1", b"010", b"0x1f", b"2147483647", b"1M"]
+FALSE = [b"", b"false", b"No", b"oFF", b"0", b"00", b"0x0k", b"-0", b"+0"]
 Entry = collections.namedtuple("Entry", "section subsection name value")
 ESCAPED = {9: b"\\t", 8: b"\\b", 10: b"\\n", 34: b'\\"', 92: b"\\\\"}
 NEEDS_QUOTES = re.compile(rb"^[ \t]|[ \t]$|[#;]|[ \t]{2}")
@@ -11,12 +15,13 @@ OLD_FORM = re.compile(rb"[a-z0-9.-]+")
 # lines that say nothing of interest
 COMMENTS = [b"", b" ", b"\t", b"# a comment", b"; c = 1 \\", b"  # \"", b" \r"]
 OTHERS = [
-    b'[a "S.t"]\n\tb = 1', b'[A-1 "x\\"\\]"]\nb', b"[user]\nname = \"n # m\"", b"[core]\npager = less", b"[x]\n\ty\nz = C:\\\\x\\t\\n\\b", b'[ "s"]\nb = 4',
-    b"[a.S]b=3", b"[alias] st = status", b'[core "x"] ignoreCase = wrong', b'[core "ignoreCase"]\nx=y', b"[a]\nb = \"v \\\nw\"", b"[a]\nb=v\tw  \t# c",
+    b'[a "S.t"]\n\tb = 1', b'[A-1 "x\\"\\]"]\nb', b'[ "s"]\nb = 4', b'[user]\nname = "n # m"', b"[core]\npager = less", b"[x]\n\ty\nz = C:\\\\x\\t\\n\\b",
+    b"[a.S]b=3", b"[alias] st = status", b'[core "x"] ignoreCase = wrong', b'[core "ignoreCase"]\nx=y', b'[a]\nb = "v \\\nw"',
+    b"[a]\nb=v\tw  \t# c",
 ]
 WRONG_LINES = [
-    b"[a", b"[a ]", b"[]", b'[a "s" ]', b'[a "s', b'[a "s"', b"[a_b]", b"[a]\nb # c", b"[a]\nb_c = 1", b"[a]\n1 = 2", b"[a]\nb = C:\\Users", b'[a]\nb = "v',
-    b"[a]\nc d", b"= v", b"core.excludesFile=~/ig", b"\xef\xbb", b"[a]\nb\0=1", b"[a]\nb = v \\x", b"]",
+    b"[a", b"[a ]", b"[]", b'[a "s" ]', b'[a "s', b'[a "s"', b"[a_b]", b"[a]\nb # c", b"[a]\nb_c = 1", b"[a]\n1 = 2", b"[a]\nb = C:\\Users",
+    b'[a]\nb = "v', b"[a]\nc d", b"= v", b"core.excludesFile=~/ig", b"\xef\xbb", b"[a]\nb\0=1", b"[a]\nb = v \\x", b"]",
 ]
 
 
@@ -32,21 +37,39 @@ def key_of(it):
     return b".".join(part for part in it[:3] if part is not None)
 
 
-class Writer:
-    """Writes entries. `mark` is called with each construct that it uses."""
+class Chances:
+    """Draws from a number, and keeps in a set which constructs were drawn."""
 
-    def __init__(self, random, mark):
-        self.random, self.mark, self.is_odd = random, mark, True
+    def __init__(self, random, constructs):
+        self.random, self.constructs = random, constructs
+
+    def mark(self, construct):
+        self.constructs.add(construct)
 
     def chance(self, part):
         return self.random.random() < part
 
     def marked(self, part, construct):
-        """Whether a construct is used, which has this chance."""
+        """Whether a construct is there, which has this chance."""
         if not self.chance(part):
             return False
-        self.mark("grammar: " + construct)
+        self.mark(construct)
         return True
+
+    def kind_of(self, kinds, of):
+        """The value of one of these kinds."""
+        kind = self.random.choice(list(kinds))
+        self.mark("%s: %s" % (of, kind))
+        return kinds[kind]
+
+    def one_of(self, *values):
+        return self.random.choice(values)
+
+
+class Writer(Chances):
+    """Writes entries, half of the files with constructs of all kinds."""
+
+    is_odd = True
 
     def text(self, entries):
         """The text of a file with these entries."""
@@ -70,7 +93,7 @@ class Writer:
         return BYTE_ORDER_MARK + text if self.odd(0.2, "a byte order mark") else text
 
     def odd(self, part, construct):
-        return self.is_odd and self.marked(part, construct)
+        return self.is_odd and self.marked(part, "grammar: " + construct)
 
     def cased(self, word):
         if not self.odd(0.15, "other case"):
@@ -81,7 +104,7 @@ class Writer:
         section = self.cased(it.section)
         if it.subsection is None:
             return b"[" + section + b"]"
-        if OLD_FORM.fullmatch(it.subsection) and self.marked(0.3, "the old form of a subsection"):
+        if OLD_FORM.fullmatch(it.subsection) and self.odd(0.4, "the old form of a subsection"):
             return b"[" + section + b"." + it.subsection + b"]"
         name = it.subsection.replace(b"\\", b"\\\\").replace(b'"', b'\\"')
         if self.odd(0.15, "a backslash in a subsection"):

@@ -44,7 +44,8 @@ class Pair:
         folder = os.path.join(self.room, question.folder)
         options = [self.made.placed(self.room, word) if isinstance(word, bytes) else word for word in self.made.options + standing]
         front = program if is_there else [*program, "-C", folder]
-        ran = subprocess.run([*front, *options, *words], cwd=folder if is_there else self.room, input=question.asked, env=self.environment, capture_output=True)
+        at = folder if is_there else self.room
+        ran = subprocess.run([*front, *options, *words], cwd=at, input=question.asked, env=self.environment, capture_output=True)
         return Told(ran.returncode, ran.stdout, ran.stderr)
 
 
@@ -153,15 +154,16 @@ class Comparison:
     def kind(self, text):
         """A fault's text without what is its own."""
         text = re.sub(rb"'[^']*'", b"'..'", self.in_room(text))
-        text = re.sub(rb"(?<=in file )\S+|@\S*|(?<=: )\S*/\S*", b"..", text)
+        text = re.sub(rb"(?<=in file )(?!directly).*?(?= at line|$)|@\S*|(?<=: )\S*/.*", b"..", text)
         return os.fsdecode(re.sub(rb"\b\d+\b", b"N", text)).encode("ascii", "backslashreplace").decode() or "no text"
 
     # ---- what is printed
 
     def where(self, seed, question):
         """A question as a line."""
+        words = " ".join(shown(word)[1:-1] or "''" for word in question.words)
         asked = " <%s" % shown(question.asked) if question.asked else ""
-        return "--repositories --seed %d --count 1, in %s: %s%s" % (seed, shown(question.folder), " ".join(shown(word)[1:-1] or "''" for word in question.words), asked)
+        return "--repositories --seed %d --count 1, in %s: %s%s" % (seed, shown(question.folder), words, asked)
 
     def tell(self, question, expected, found):
         print(self.where(self.seed, question))
@@ -180,7 +182,8 @@ class Comparison:
 
     def summary(self, count):
         part = 100 * self.answered // max(1, self.asked)
-        print("%d repositories, %d runs of git: %d answers (%d %%, %d of them with status 0), %d faults" % (count, self.asked, self.answered, part, self.decided, self.asked - self.answered))
+        print("%d repositories, %d runs of git: %d answers (%d %%), of which %d with status 0, and %d faults:" % (
+            count, self.asked, self.answered, part, self.decided, self.asked - self.answered))
         for kind, number in self.faults.most_common():
             print("    %4d  %s" % (number, kind))
         rare = ["%s: %d" % it for it in sorted(self.constructs.items()) if it[1] < count // 40]
