@@ -27,7 +27,7 @@ class Repository(Shapes, Settings, Faults):
         self.entries, self.texts, self.options, self.standing = {}, {}, [], ([], [])
         self.writer = Writer(self.random, self.constructs)
         self.seed, self.is_sound = seed, seed % 3 != 0
-        self.has_stranger = os.geteuid() == 0 and self.chance(0.18)
+        self.has_stranger = self.chance(0.18) and os.geteuid() == 0
         if self.marked(0.06, "no HOME"):
             del self.variables[b"HOME"]
         self.draw_shape()
