@@ -8,7 +8,7 @@ import tempfile
 
 from attribute_trees import ATTRIBUTE_FILE, ATTRIBUTES_INFO, BYTE_ORDER_MARK, NAMES, AttributeTree
 from of_globtree import DOTTED, GLOBTREE, NO_TEXT, Told, lines_with_zeros, quoted, shown
-from trees import OF_GIT, is_text, write
+from trees import ALONE, is_text, write
 
 FROM_INPUT = ["--stdin a b c m n", "-z --stdin a text eol", "--stdin -a", "-a -z --stdin", "--all --stdin -z --", "--stdin binary diff --", "-az --stdin"]
 # words that paths follow
@@ -31,7 +31,7 @@ class Pair:
         self.is_named, self.is_folding = tree.is_named, tree.is_folding
         home = os.path.join(room, b"home")
         kept = {name: value for name, value in os.environ.items() if not name.startswith("GIT_")}
-        self.environment = {**kept, "HOME": home, "XDG_CONFIG_HOME": home, "LC_ALL": "C"}
+        self.environment = {**kept, **ALONE, "HOME": home, "XDG_CONFIG_HOME": home, "LC_ALL": "C"}
         os.makedirs(os.path.join(home, b"git"))
         self.has_system = system is not None
         if self.has_system:
@@ -56,8 +56,7 @@ class Pair:
         return self.run([GLOBTREE, "-C", folder, *more, *options, "check-attr", *words], asked)
 
     def run(self, command, asked):
-        environment = {**self.environment, **OF_GIT} if command[0] == "git" else self.environment
-        run = subprocess.run(command, input=asked, stdout=subprocess.PIPE, stderr=subprocess.PIPE, env=environment)
+        run = subprocess.run(command, input=asked, stdout=subprocess.PIPE, stderr=subprocess.PIPE, env=self.environment)
         return Told(run.returncode, run.stdout, run.stderr)
 
 

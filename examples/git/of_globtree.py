@@ -9,7 +9,7 @@ import sys
 import tempfile
 
 from documents import kinds_in
-from trees import INFO, OF_GIT, Tree, is_text, make_repository, write
+from trees import ALONE, INFO, Tree, is_text, make_repository, write
 
 HERE = os.path.dirname(os.path.realpath(__file__))
 GLOBTREE = os.environ.get("GLOBTREE") or os.path.join(HERE, "..", "..", "globtree")
@@ -47,7 +47,7 @@ class Pair:
         self.excludes = os.path.join(room, b"excludes")
         home = os.path.join(room, b"home")
         kept = {name: value for name, value in os.environ.items() if not name.startswith("GIT_")}
-        self.environment = {**kept, "HOME": home, "XDG_CONFIG_HOME": home, "LC_ALL": "C"}
+        self.environment = {**kept, **ALONE, "HOME": home, "XDG_CONFIG_HOME": home, "LC_ALL": "C"}
         os.makedirs(os.path.join(home, b"git"))
         if tree.excludes is not None:
             write(self.excludes, tree.excludes)
@@ -83,8 +83,7 @@ class Pair:
         return self.globtree(folder, words, b"", ["--top", top] if top else [], "files")
 
     def run(self, command, given):
-        environment = {**self.environment, **OF_GIT} if command[0] == "git" else self.environment
-        run = subprocess.run(command, input=given, stdout=subprocess.PIPE, stderr=subprocess.PIPE, env=environment)
+        run = subprocess.run(command, input=given, stdout=subprocess.PIPE, stderr=subprocess.PIPE, env=self.environment)
         return Told(run.returncode, run.stdout, run.stderr)
 
 

@@ -6,8 +6,8 @@ IGNORE_FILE = b".gitignore"
 INFO = b".git/info/exclude"
 BYTE_ORDER_MARK = b"\xef\xbb\xbf"
 SPACES = b" \t\n\f\r"
-# what keeps Git alone from the files of the machine: globtree has no such file to keep from, and would tell each as a sign
-OF_GIT = {"GIT_CONFIG_NOSYSTEM": "1", "GIT_ATTR_NOSYSTEM": "1", "GIT_CONFIG_GLOBAL": "/dev/null"}
+# what keeps both programs from the files of the machine
+ALONE = {"GIT_CONFIG_NOSYSTEM": "1", "GIT_ATTR_NOSYSTEM": "1", "GIT_CONFIG_GLOBAL": "/dev/null"}
 
 PLAIN = b"a b c aa ab a.o b.o x.c x.h a.log keep.log build doc src dir Makefile .env a-b 1 12".split()
 FOLDERS = b"a b aa dir src doc build lib.d x .cfg".split()

@@ -243,7 +243,7 @@ def list_configuration(start, words, variables):
 
 def core_settings(home, config_home, sources, words, *fields):
     """What Git matches and prints by its settings: each file that may be set has a line that tells its own name."""
-    if not IS_GIT or not set(sources.split()) <= READ:
+    if not set(sources.split()) <= READ:
         return ()
     with rows.folder_of([]) as folder:
         top = os.path.realpath(os.fsencode(folder))
@@ -260,10 +260,12 @@ def core_settings(home, config_home, sources, words, *fields):
         given = {b"HOME": home, b"XDG_CONFIG_HOME": config_home, b"GIT_CONFIG_NOSYSTEM": b"%d" % (b"/top/sys" not in sources), b"GIT_CONFIG_SYSTEM": top + b"/sys"}
         environment = {b"PATH": os.fsencode(os.environ["PATH"]), **{key: value for key, value in given.items() if value is not None}}
         options = [part for word in words.split(b"\n") if word for part in (b"-c", word)]
-        asked = lambda *its: subprocess.run(["git", *options, *its], cwd=start, env=environment, capture_output=True, check=False)
+        asked = lambda *its: subprocess.run([PROGRAM, *options, *its], cwd=start, env=environment, capture_output=True, check=False)
         ran = asked("check-ignore", "-v", "-n", "A", "\u00e4", "x")
         if fault := re.search(rb"^fatal: (.*)$", ran.stderr, re.M):
             return [fault[1].replace(top, b"/top"), None, None, None]
+        if not IS_GIT and b"quotepath" in b"\n".join([words, *fields]).lower():
+            return ()
         folded, quoted, excluded = ran.stdout.split(b"\n")[:3]
         named = asked("check-attr", "n", "x").stdout.removeprefix(b"x: n: ").rstrip(b"\n")
         excludes = excluded.rsplit(b"\t", 1)[0].rsplit(b":", 2)[0].replace(top, b"/top")
@@ -271,11 +273,13 @@ def core_settings(home, config_home, sources, words, *fields):
 
 
 def config_booleans(value):
-    if not IS_GIT:
-        return ()
     quoted = b"" if value is None else b'="' + re.sub(rb'(["\\])', rb"\\\1", value) + b'"'
-    told, _ = read_configuration(b"[a]b" + quoted, ["--type=bool", "a.b"])
-    return [{b"true\n": "yes", b"false\n": "no"}.get(told)]
+    if IS_GIT:
+        told, _ = read_configuration(b"[a]b" + quoted, ["--type=bool", "a.b"])
+        return [{b"true\n": "yes", b"false\n": "no"}.get(told)]
+    with rows.repository_of([(b".git/config", b"[core]ignoreCase" + quoted), (b".gitignore", b"a\n")]) as top:
+        ran = subprocess.run([PROGRAM, "-C", top, "check-ignore", "A"], env=ALONE, capture_output=True, check=False)
+        return [{0: "yes", 1: "no"}.get(ran.returncode)]
 
 
 COMMON = ["rev-parse", "--path-format=absolute", "--git-common-dir"]
@@ -314,7 +318,7 @@ def put(top, name, text):
 def ask_repository(current, words, fields, *asked):
     """What Git tells of the repository of a folder, with paths from the top, or the first words of its fault."""
     with files_of(fields, words) as (top, options, variables):
-        command = ["git", *options, *asked]
+        command = [PROGRAM, *options, *asked]
         folder = os.path.join(top, current.decode().lstrip("/"))
         ran = subprocess.run(command, cwd=folder, env={**ALONE, **variables}, capture_output=True, check=False)
     told, wrong = (text.decode().replace(top, "") for text in (ran.stdout, ran.stderr))
@@ -338,10 +342,7 @@ def work_trees(current, words, *fields):
 
 
 def exclude_names(current, words, *fields):
-    if not IS_GIT:
-        return ()
-    common, fault = ask_repository(current, words, fields, *COMMON)
-    every = [] if fault else [common.encode() + b"/info/exclude", b"*"]
+    every = [part for name in fields[::2] if name.endswith(b"//") for part in (name[:-1] + b"info/exclude", b"*")]
     told, fault = ask_repository(current, words, [*fields, *every], "check-ignore", "-v", "-n", "x")
     return [fault or told.split(":")[0]]
 

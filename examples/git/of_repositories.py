@@ -1,0 +1,214 @@
+"""Compares globtree and Git in repositories made at random, byte by byte, with the same variables, files and words."""
+import collections
+import os
+import random
+import re
+import shutil
+import subprocess
+import tempfile
+
+from of_globtree import GLOBTREE, Told, pieces, shown, told_kinds
+from repositories import NAMES, Repository
+
+HOW_MANY_SHOWN = 3
+# how check-ignore is asked by words, and check-attr and files
+BY_WORDS = [["--"], ["-v", "--"], ["-v", "-n", "--"], ["--no-index", "--"], ["--no-index", "-v", "--"]]
+ATTRIBUTES = [["-a", "--"], ["one", "two", "--"], ["-z", "two", "--"], ["-a", "-z", "--"]]
+OUTSIDE = [b"../../../../../../x", b"/", b"", b"../../x", b"l/x"]
+WARNING, QUOTES = b"warning: Git may answer otherwise: ", b"core.quotePath"
+# differences that the documents name
+BARE, QUOTED = "no work tree", "core.quotePath"
+NO_WORK_TREE = b"fatal: this operation must be run in a work tree\n"
+FILES_OF_GIT = ["ls-files", "-co", "--exclude-standard"]
+
+Question = collections.namedtuple("Question", "folder words asked")
+
+
+class Pair:
+    """Git and globtree in one repository."""
+
+    def __init__(self, made, room):
+        self.made, self.room = made, room
+        self.environment = {b"PATH": os.fsencode(os.environ["PATH"])}
+        self.environment.update((name, made.placed(room, value)) for name, value in made.variables.items())
+
+    def git(self, question, is_there):
+        words = FILES_OF_GIT + question.words[1:] if question.words[0] == "files" else question.words
+        return self.run(["git"], self.made.standing[0], question, words, is_there)
+
+    def globtree(self, question, is_there):
+        return self.run([GLOBTREE], self.made.standing[1], question, question.words, is_there)
+
+    def run(self, program, standing, question, words, is_there):
+        """Runs a program in a folder, or with a word that leads to it."""
+        folder = os.path.join(self.room, question.folder)
+        options = [self.made.placed(self.room, word) if isinstance(word, bytes) else word for word in self.made.options + standing]
+        front = program if is_there else [*program, "-C", folder]
+        at = folder if is_there else self.room
+        ran = subprocess.run([*front, *options, *words], cwd=at, input=question.asked, env=self.environment, capture_output=True)
+        return Told(ran.returncode, ran.stdout, ran.stderr)
+
+
+# ---- what is told
+
+def fault(told):
+    """What a run says that failed: its line of a fault."""
+    lines = re.findall(rb"^fatal: (.*)$", told.errors, re.M)
+    return lines[0] if lines else b""
+
+
+def is_answer(told):
+    return told.status < 2
+
+
+class Comparison:
+    """The runs in all repositories, what Git answered, and what differed."""
+
+    def __init__(self, with_globtree):
+        self.with_globtree = with_globtree
+        self.constructs, self.faults, self.named, self.texts = (collections.Counter() for _ in range(4))
+        self.examples = {}
+        self.asked, self.answered, self.decided, self.differences = 0, 0, 0, 0
+
+    def repository(self, seed, room):
+        self.seed, self.random, self.room = seed, random.Random(~seed), room
+        made = Repository(seed)
+        made.make(room)
+        self.constructs.update(made.constructs)
+        self.pair = Pair(made, room)
+        self.has_quotes = any(QUOTES.lower() in text.lower() for text in made.texts_that_count())
+        for folder in made.inside:
+            for words, asked in self.random.sample(self.questions(), 5 if made.is_sound else 2):
+                self.ask(Question(folder, words, asked))
+        for folder in self.random.sample(made.outside, min(len(made.outside), 2)):
+            words, asked = self.random.choice(self.questions())
+            self.ask(Question(folder, words, asked))
+
+    # ---- questions
+
+    def questions(self):
+        """Words of each kind, with what they read."""
+        return [
+            (["check-ignore", "--no-index", "-v", "-n", "-z", "--stdin"], self.records()),
+            (["check-ignore", *self.random.choice(BY_WORDS), *self.names()], b""),
+            (["check-ignore", "-q", self.random.choice(self.names())], b""),
+            (["check-attr", "-z", "--stdin", "one", "two"], self.records()),
+            (["check-attr", *self.random.choice(ATTRIBUTES), *self.names()], b""),
+            (["files", *self.random.choice(([], ["-z"]))], b""),
+        ]
+
+    def records(self):
+        return b"".join(name + b"\0" for name in self.names() + [b"\xc3\xa4"])
+
+    def names(self):
+        names = self.random.sample(NAMES, 7)
+        if self.random.random() < 0.04:
+            names.insert(self.random.randrange(8), self.random.choice(OUTSIDE))
+        return names if self.has_quotes else names + [b"\xc3\xa4"]
+
+    # ---- both
+
+    def ask(self, question):
+        is_there = self.random.random() < 0.5
+        expected = self.pair.git(question, is_there)
+        self.asked += 1
+        self.answered += is_answer(expected)
+        self.decided += expected.status == 0
+        if not is_answer(expected):
+            self.faults[self.kind(fault(expected))] += 1
+        if self.with_globtree:
+            self.judge(question, expected, self.pair.globtree(question, is_there))
+
+    def judge(self, question, expected, found):
+        if self.has_quotes and not found.is_as(expected):
+            found = self.without_sign(found)
+        if question.words[0] == "check-attr" and found.errors == NO_WORK_TREE and is_answer(expected):
+            self.named[BARE] += 1
+            return
+        if not found.is_as(expected):
+            self.differences += 1
+            self.tell(question, expected, found)
+        elif not is_answer(expected):
+            self.compare_texts(question, fault(expected), fault(found))
+
+    def without_sign(self, found):
+        """The same without the line that tells of core.quotePath."""
+        lines = found.errors.split(b"\n")
+        left = [line for line in lines if not (line.startswith(WARNING) and QUOTES in line)]
+        self.named[QUOTED] += len(left) < len(lines)
+        return found._replace(errors=b"\n".join(left))
+
+    # ---- texts of faults
+
+    def compare_texts(self, question, text, other):
+        if text == other:
+            return
+        kinds = self.kind(text), self.kind(other)
+        self.texts[kinds] += 1
+        if self.texts[kinds] <= HOW_MANY_SHOWN:
+            self.examples.setdefault(kinds, []).append((self.seed, question, self.in_room(text), self.in_room(other)))
+
+    def in_room(self, text):
+        return text.replace(self.room, b"@")
+
+    def kind(self, text):
+        """A fault's text without what is its own."""
+        text = re.sub(rb"'[^']*'", b"'..'", self.in_room(text))
+        text = re.sub(rb"(?<=in file )(?!directly).*?(?= at line|$)|@\S*|(?<=: )\S*/.*", b"..", text)
+        return os.fsdecode(re.sub(rb"\b\d+\b", b"N", text)).encode("ascii", "backslashreplace").decode() or "no text"
+
+    # ---- what is printed
+
+    def where(self, seed, question):
+        """A question as a line."""
+        words = " ".join(shown(word)[1:-1] or "''" for word in question.words)
+        asked = " <%s" % shown(question.asked) if question.asked else ""
+        return "--repositories --seed %d --count 1, in %s: %s%s" % (seed, shown(question.folder), words, asked)
+
+    def tell(self, question, expected, found):
+        print(self.where(self.seed, question))
+        end = b"\0" if "-z" in question.words else b"\n"
+        step = 4 if "-n" in question.words else 3 if question.words[0] == "check-attr" else 1
+        one, other = (pieces(self.in_room(it.output), end, step if end == b"\0" else 1) for it in (expected, found))
+        if one != other:
+            at = next((at for at in range(min(len(one), len(other))) if one[at] != other[at]), min(len(one), len(other)))
+            print("    git:      %s" % (shown(one[at]) if at < len(one) else "the end, after %d" % at))
+            print("    globtree: %s" % (shown(other[at]) if at < len(other) else "the end, after %d" % at))
+        if expected.status != found.status:
+            print("    status of git %d, of globtree %d" % (expected.status, found.status))
+        for name, told in (("git", expected), ("globtree", found)):
+            if told.errors:
+                print("    %s tells: %s" % (name, shown(self.in_room(told.errors))))
+
+    def summary(self, count):
+        part = 100 * self.answered // max(1, self.asked)
+        print("%d repositories, %d runs of git: %d answers (%d %%), of which %d with status 0, and %d faults:" % (
+            count, self.asked, self.answered, part, self.decided, self.asked - self.answered))
+        for kind, number in self.faults.most_common():
+            print("    %4d  %s" % (number, kind))
+        rare = ["%s: %d" % it for it in sorted(self.constructs.items()) if it[1] < count // 40]
+        print("%d constructs; in fewer repositories than one in forty: %s" % (len(self.constructs), ", ".join(rare) or "none"))
+        if not self.with_globtree:
+            return
+        for (text, other), number in self.texts.most_common():
+            print("faults in other words: %d\n    git:      %s\n    globtree: %s" % (number, text, other))
+            for seed, question, one, two in self.examples[text, other]:
+                print("    as in %s\n        git:      %s\n        globtree: %s" % (self.where(seed, question), shown(one), shown(two)))
+        print("differences that documents name: " + told_kinds(self.named))
+        print("%d runs of globtree, %d faults in other words; %d differences" % (self.asked, sum(self.texts.values()), self.differences))
+
+
+def compare_repositories(count, seed, with_globtree, kept):
+    """Compares in so many repositories, the first made from the seed. The status is 1 where anything differs but the words of faults."""
+    comparison = Comparison(with_globtree)
+    for number in range(seed, seed + count):
+        room = os.path.realpath(os.fsencode(tempfile.mkdtemp()))
+        try:
+            comparison.repository(number, room)
+        finally:
+            if kept:
+                print("repository %d: %s" % (number, os.fsdecode(room)))
+            else:
+                shutil.rmtree(room)
+    comparison.summary(count)
+    return 1 if comparison.differences else 0
