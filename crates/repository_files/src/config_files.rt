@@ -34,7 +34,7 @@ impl<'a, R: Files> ConfigFiles for DiskFiles<'a, R> {
             Ok(bytes) if bytes.len() > MOST_BYTES => return wrong(alloc, WrongFile::TooLarge, path),
             Ok(bytes) => bytes,
             Err(Unread::Folder) => return wrong(alloc, WrongFile::Folder, path),
-            Err(Unread::Other) => return wrong(alloc, WrongFile::NoFile, path),
+            Err(Unread::Device | Unread::Waiting) => return wrong(alloc, WrongFile::NoFile, path),
             Err(Unread::Replaced) => return wrong(alloc, WrongFile::Replaced, path),
             Err(Unread::System(error)) => return refused(alloc, &error, path),
         };

@@ -19,5 +19,7 @@ pub use configuration::{ConfigurationPair, ConfigurationVariables};
 pub use disk_files::DiskFiles;
 pub use environment::RepositoryVariables;
 pub use fault::{ConfigFileFault, VariableFault, WrongFile};
+pub use reading::{Unread, open_seen};
+pub use sight::Sight;
 pub use user::User;
 pub use variables::variable;

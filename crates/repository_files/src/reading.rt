@@ -9,11 +9,13 @@ use std::{fs, io};
 
 /// Why a file isn't read.
 #[derive(Drop)]
-pub(crate) enum Unread {
+pub enum Unread {
     /// A folder stands there.
     Folder,
-    /// What stands there might be waited for.
-    Other,
+    /// A device stands there.
+    Device,
+    /// A pipe or a socket stands there, which might be waited for.
+    Waiting,
     /// Another file took its place before it was opened.
     Replaced,
     /// The system's error, or that memory was refused.
@@ -37,19 +39,30 @@ pub(crate) fn read_front<R: Files>(
     limit: usize,
 ) -> Result<Vec<u8>, Unread> {
     let seen = Sight::of(&fs::metadata(rt, path)?);
+    let mut bytes = Vec::new(alloc);
+    if let Some(opened) = open_seen(rt, path, &seen)? {
+        opened.take(limit as u64).read_to_end(&mut bytes)?;
+    }
+    Ok(bytes)
+}
+
+/// Opens the regular file that was seen at a path; `None` where `/dev/null` was seen, which has no bytes.
+///
+/// # Errors
+/// Where something else was seen, the file can't be opened, or another one took its place since.
+pub fn open_seen<R: Files>(rt: &R, path: &str, seen: &Sight) -> Result<Option<R::File>, Unread> {
     match seen.kind {
         FileKind::Regular => {}
-        FileKind::Null => return Ok(Vec::new(alloc)),
+        FileKind::Null => return Ok(None),
+        FileKind::Device => return Err(Unread::Device),
         FileKind::Folder => return Err(Unread::Folder),
-        FileKind::Other => return Err(Unread::Other),
+        FileKind::Waiting => return Err(Unread::Waiting),
     }
     let opened = fs::open(rt, path)?;
-    if !is_same_file(&seen, &Sight::of(&opened.metadata()?)) {
+    if !is_same_file(seen, &Sight::of(&opened.metadata()?)) {
         return Err(Unread::Replaced);
     }
-    let mut bytes = Vec::new(alloc);
-    opened.take(limit as u64).read_to_end(&mut bytes)?;
-    Ok(bytes)
+    Ok(Some(opened))
 }
 
 /// What the system answers; `None` where it answers an error.

@@ -1,5 +1,5 @@
 //! What is seen of a file: what stands there at a second look has to be what stood there at the first.
-ghost use Rattle.std.specs.Prelude.{◌≡◌, ◌↔◌, IsTrue};
+ghost use Rattle.std.specs.Prelude.{◌≡◌, ◌≢◌, ◌↔◌, IsTrue};
 ghost use Rattle.std.specs.Fs.{file_type, IsDir, IsFile};
 ghost use Rattle.repository_files.specs.declared.sight.FileKind.TheVariants.{Folder, Regular};
 ghost use Rattle.repository_files.specs.Sight.{IsSameFile};
@@ -9,20 +9,22 @@ use std::os::unix::fs::{FileTypeExt, MetadataExt};
 
 /// What stands where a file may be.
 #[derive(Clone, Copy, PartialEq, Eq)]
-pub(crate) enum FileKind {
+pub enum FileKind {
     /// A regular file, whose bytes are read.
     Regular,
     /// The device `/dev/null`, which has no bytes. Where it is named in place of a file, none is meant.
     Null,
+    /// Another device.
+    Device,
     /// A folder.
     Folder,
-    /// A pipe, a socket or another device, which might be waited for: it isn't opened.
-    Other,
+    /// A pipe or a socket, which might be waited for: it isn't opened.
+    Waiting,
 }
 
 /// What is seen of a file.
 #[derive(Clone, Copy)]
-pub(crate) struct Sight {
+pub struct Sight {
     pub(crate) kind: FileKind,
     /// The device that the file lies on.
     pub(crate) device: u64,
@@ -32,7 +34,7 @@ pub(crate) struct Sight {
 
 impl Sight {
     /// What metadata tell.
-    pub(crate) fn of(found: &Metadata) -> Sight {
+    pub fn of(found: &Metadata) -> Sight {
         Sight {
             kind: kind_of(found),
             device: found.dev(),
@@ -52,10 +54,23 @@ fn kind_of(found: &Metadata) -> FileKind
         FileKind::Regular
     } else if found.is_dir() {
         FileKind::Folder
-    } else if found.file_type().is_char_device() && found.rdev() == NULL_DEVICE {
-        FileKind::Null
     } else {
-        FileKind::Other
+        other_kind(found)
+    }
+}
+
+/// What stands there, where it is neither a regular file nor a folder.
+fn other_kind(found: &Metadata) -> FileKind
+    ensures regular { result ≢ Regular }
+    ensures folder { result ≢ Folder }
+{
+    let kind = found.file_type();
+    if kind.is_char_device() && found.rdev() == NULL_DEVICE {
+        FileKind::Null
+    } else if kind.is_char_device() || kind.is_block_device() {
+        FileKind::Device
+    } else {
+        FileKind::Waiting
     }
 }
 

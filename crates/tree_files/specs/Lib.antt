@@ -1,2 +1,1 @@
-pub mod SeenFiles
 pub mod Telling

@@ -1,11 +1,12 @@
 //! Reading attribute files: their bytes, and the lines that say nothing.
 
 use crate::fault::CheckFault;
-use crate::seen_files::{Sight, file_list, seen_file_list};
+use crate::seen_files::{file_list, seen_file_list};
 use crate::standing::{OwnFile, Standing, file_in, own_file, path_text, what_stands};
 use crate::telling::tell_line;
 use crate::unparsed::Unparsed;
 use glob_attributes::{Silence, SilentLine, silent_lines};
+use repository_files::Sight;
 use std::alloc::{AllocError, Global};
 use std::fs;
 use std::fs::Metadata;

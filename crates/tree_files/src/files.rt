@@ -2,7 +2,7 @@
 
 use crate::fault::CheckFault;
 use crate::folder_names::NameReader;
-use crate::seen_files::{Sight, seen_file_list};
+use crate::seen_files::seen_file_list;
 use crate::sources::{BY_GIT, FolderFiles};
 use crate::standing::{OwnFile, file_in, own_file};
 use crate::telling::tell_line;
@@ -10,6 +10,7 @@ use gix_glob::search::pattern::List;
 use glob_lines::IgnoreLines;
 use glob_trees::{FolderLists, list_in_folder};
 use memchr::memrchr;
+use repository_files::Sight;
 use std::alloc::{AllocError, Global};
 use std::fmt::Display;
 use std::fs::FileType;

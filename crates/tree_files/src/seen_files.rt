@@ -1,75 +1,16 @@
 //! Files of patterns, each opened as it was looked at: what stands under its name at the second look has to be what stood there at the
 //! first.
-ghost use Rattle.std.specs.Prelude.{◌≡◌, ◌↔◌, IsTrue};
-ghost use Rattle.tree_files.specs.SeenFiles.{IsSameFile};
 
 use crate::fault::CheckFault;
 use crate::standing::tell_unread;
 use gix_glob::search;
 use gix_glob::search::pattern::List;
 use gix_glob::search::{LoadFault, Watched};
+use repository_files::{Sight, Unread, open_seen};
 use std::alloc::Global;
-use std::fs::{FileType, Metadata, OpenFile};
 use std::io::ErrorKind;
-use std::os::unix::fs::{FileTypeExt, MetadataExt};
 use std::rt::Files;
 use std::{fs, io};
-
-/// What stands under the name of a file of patterns.
-#[derive(Clone, Copy, PartialEq, Eq)]
-pub(crate) enum FileKind {
-    /// A regular file, whose bytes are read.
-    Regular,
-    /// A pipe or a socket, which might be waited for: it isn't opened.
-    Waiting,
-    /// A device, which has no lines.
-    Device,
-    /// A folder, which is no file.
-    Folder,
-}
-
-/// What is seen of a file.
-#[derive(Clone, Copy)]
-pub(crate) struct Sight {
-    pub(crate) kind: FileKind,
-    /// The device that the file lies on.
-    pub(crate) device: u64,
-    /// Its number on the device.
-    pub(crate) number: u64,
-}
-
-impl Sight {
-    /// What metadata tell.
-    pub(crate) fn of(found: &Metadata) -> Sight {
-        Sight {
-            kind: kind_of(found.file_type()),
-            device: found.dev(),
-            number: found.ino(),
-        }
-    }
-}
-
-fn kind_of(kind: FileType) -> FileKind {
-    if kind.is_file() {
-        FileKind::Regular
-    } else if kind.is_fifo() || kind.is_socket() {
-        FileKind::Waiting
-    } else if kind.is_char_device() || kind.is_block_device() {
-        FileKind::Device
-    } else {
-        FileKind::Folder
-    }
-}
-
-/// Whether what was seen at two looks is one regular file.
-fn is_same_file(seen: &Sight, again: &Sight) -> bool
-    ensures { IsTrue result ↔ IsSameFile seen.now again.now }
-{
-    matches!(seen.kind, FileKind::Regular)
-        && matches!(again.kind, FileKind::Regular)
-        && seen.device == again.device
-        && seen.number == again.number
-}
 
 /// The list of a file by its name, as [`seen_list`] answers it of what stands there; `None` where nothing does. A link is followed.
 ///
@@ -104,25 +45,17 @@ pub(crate) fn seen_list<T: search::Pattern, R: Files>(
     parser: T,
 ) -> Result<Option<List<T>>, LoadFault> {
     bytes.clear();
-    match seen.kind {
-        FileKind::Regular => {}
-        FileKind::Waiting => return Err(unread("it is no regular file")),
-        FileKind::Device => return Ok(Some(List::empty(alloc))),
-        FileKind::Folder => return Ok(None),
+    match open_seen(rt, file.as_str(), seen) {
+        Ok(Some(opened)) => {
+            let mut reader = Watched::new(opened);
+            List::from_reader(alloc, &mut reader, file, None, bytes, parser)
+        }
+        Ok(None) | Err(Unread::Device) => Ok(Some(List::empty(alloc))),
+        Err(Unread::Folder) => Ok(None),
+        Err(Unread::Waiting) => Err(unread("it is no regular file")),
+        Err(Unread::Replaced) => Err(unread("another file took its place")),
+        Err(Unread::System(error)) => not_opened(error),
     }
-    let opened = match fs::open(rt, file.as_str()) {
-        Ok(opened) => opened,
-        Err(error) => return not_opened(error),
-    };
-    let again = match opened.metadata() {
-        Ok(found) => Sight::of(&found),
-        Err(error) => return not_opened(error),
-    };
-    if !is_same_file(seen, &again) {
-        return Err(unread("another file took its place"));
-    }
-    let mut reader = Watched::new(opened);
-    List::from_reader(alloc, &mut reader, file, None, bytes, parser)
 }
 
 /// The fault of a file that isn't read.

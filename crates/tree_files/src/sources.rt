@@ -2,12 +2,13 @@
 
 use crate::closed_folders::ClosedFolders;
 use crate::fault::CheckFault;
-use crate::seen_files::{Sight, seen_file_list};
+use crate::seen_files::seen_file_list;
 use crate::standing::{OwnFile, Standing, file_in, own_file, path_text, what_stands};
 use gix_glob::search::pattern::List;
 use glob_lines::IgnoreLines;
 use glob_lists::Reading;
 use glob_trees::{FolderLists, list_in_folder};
+use repository_files::Sight;
 use std::alloc::Global;
 use std::rt::Files;
 
