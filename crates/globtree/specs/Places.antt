@@ -14,14 +14,14 @@ use Rattle.globtree.specs.declared.work_tree.WorkTree.{WorkTree}
 
 -- from the current folder where it lies in the work tree, and else from the top
 pub record StandsIn (top here : List ℕ) (standpoint : Standpoint) : Type 0 where
-  pub top : standpoint.top.items ≡ top
-  pub here : standpoint.here.items ≡ unwrap_or (left_below top here) []
+  pub at : standpoint.top.items ≡ top
+  pub from : standpoint.here.items ≡ unwrap_or (left_below top here) []
   pub inside : standpoint.is_inside ≡ true
 
 -- from the current folder, wherever it lies
 pub record StandsAt (top here : List ℕ) (standpoint : Standpoint) : Type 0 where
-  pub top : standpoint.top.items ≡ top
-  pub here : standpoint.here.items ≡ unwrap_or (left_below top here) here
+  pub at : standpoint.top.items ≡ top
+  pub from : standpoint.here.items ≡ unwrap_or (left_below top here) here
   pub inside : standpoint.is_inside ≡ is_some (left_below top here)
 
 -- a path with the slash at its front; that of the root has no bytes
@@ -39,7 +39,7 @@ with_options options variables = record variables {
 -- What counts for all paths of the work tree of an opened repository: its configuration tells files from the top, and all else is told
 -- from the folder that was the current one.
 pub record IsTreeOf (standpoint : Standpoint) (current : List ℕ) (opened : Opened (List ℕ) (List Seen)) (tree : WorkTree) : Type 0 where
-  pub standpoint : tree.standpoint ≡ standpoint
+  pub from : tree.standpoint ≡ standpoint
   pub folds : tree.folds ≡ opened.core.ignore_case
   pub quotes : tree.quotes ≡ opened.core.quote_path
   pub excludes : option_map vec_items tree.excludes ≡ opened.core.excludes

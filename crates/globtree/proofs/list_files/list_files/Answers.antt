@@ -8,7 +8,7 @@ use Rattle.globtree.proofs.list_files.list_files.Goals as goal
 pub returns-in-Ok-clause-answered : goal.returns-in-Ok-clause-answered
 returns-in-Ok-clause-answered g c =
     let lists = c.in-Ok.ensures.lists in
-    let standpoint = c.in_ok-standpoint.standpoint in
+    let standpoint = c.in_ok-fronts.fronts.standpoint in
     record {
       standpoint = standpoint;
       paths = lists.0;
@@ -19,7 +19,7 @@ returns-in-Ok-clause-answered g c =
 pub returns-in-Ok-2-clause-answered : goal.returns-in-Ok-2-clause-answered
 returns-in-Ok-2-clause-answered g c =
     let lists = c.in-Ok-2.ensures.lists in
-    let standpoint = c.in_ok-standpoint.standpoint in
+    let standpoint = c.in_ok-fronts.fronts.standpoint in
     record {
       standpoint = standpoint;
       paths = lists.0;
