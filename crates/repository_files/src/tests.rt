@@ -1,40 +1,74 @@
-//! Real files, which no clause tells of, in a folder for files that don't last; and variables.
+//! Real files, which no clause tells of, in folders for files that don't last; and variables. What is told is held against rows. A test
+//! calls one function: over a runtime that isn't known, calls are proved in less time.
+mod answers;
 mod configuration;
+mod folder;
 mod paths;
 mod repository;
 mod standing;
 mod words;
 
 use crate::{DiskFiles, User};
-use std::alloc::Global;
-use std::process::Abort;
+use answers::{Group, check_rows};
+use folder::new_folder;
+use std::alloc::AllocError;
+use std::process::{Abort, Process};
 use std::rt::{Env, Files};
-use std::test::Fail;
-use std::{env, fs, process};
+use std::{fs, io};
 
-/// Makes a folder of this run's own, and answers its path without links.
-fn new_folder(rt: &HostRuntime, name: &str) -> Result<String, Fail> {
-    let number = process::id(rt.process());
-    let outer = env::temp_dir(rt)?;
-    let outer = fs::canonicalize(rt, outer.as_str())?;
-    let outer = outer.as_str();
-    let folder = format!(in rt.alloc(); "{outer}/repository_files-{name}-{number}")?;
-    fs::create_dir(rt, folder.as_str())?;
-    Ok(folder)
+#[test]
+fn real_files_are_told(rt: HostRuntime) -> io::Result<()> {
+    standing::check_shut(&rt, rt.process())?;
+    check_groups(&rt, rt.process())
 }
 
-/// The path of a name in a folder.
-fn path_in(alloc: Global, folder: &str, name: &str) -> Result<String, Fail> {
-    Ok(format!(in alloc; "{folder}/{name}")?)
+#[test]
+fn the_current_folder_is_told(rt: HostRuntime) -> io::Result<()> {
+    paths::check_current(&rt)
+}
+
+#[test]
+fn ten_thousand_files_are_given(rt: HostRuntime) -> io::Result<()> {
+    configuration::check_many(&rt)
+}
+
+#[test]
+fn variables_are_read(rt: HostRuntime) -> io::Result<()> {
+    words::check_variables(&rt)
+}
+
+/// Holds what is told of each group against its rows.
+fn check_groups<R: Abort + AllocGlobal + Env + Files>(rt: &R, process: Process) -> io::Result<()> {
+    for group in [
+        &standing::GROUP,
+        &paths::GROUP,
+        &configuration::GROUP,
+        &repository::GROUP,
+    ] {
+        check_group(rt, process, group)?;
+    }
+    Ok(())
+}
+
+/// Holds what is told of a group against its rows, in a new folder.
+fn check_group<R: Abort + AllocGlobal + Env + Files>(
+    rt: &R,
+    process: Process,
+    group: &Group,
+) -> io::Result<()> {
+    let files = files_of(rt)?;
+    let folder = new_folder(rt, process, group)?;
+    check_rows(rt, &files, folder.as_str(), group.rows)?;
+    fs::remove_dir_all(rt, folder.as_str())
 }
 
 /// The files as the user of this process sees them.
-fn files_of<R: Files + Env + AllocGlobal>(rt: &R) -> Result<DiskFiles<'_, R>, Fail> {
+fn files_of<R: Files + Env + AllocGlobal>(rt: &R) -> Result<DiskFiles<'_, R>, AllocError> {
     let user = User::of_process(rt, rt.alloc())?;
     Ok(DiskFiles::new(rt, rt.alloc(), user))
 }
 
-/// Tells what isn't so of which row, counted from 0.
-fn same(rt: &impl Abort, is_so: bool, asked: &str, row: usize) {
-    assert!(rt; is_so, "{asked}: row {row}");
+/// Tells of what something isn't so.
+fn same(rt: &impl Abort, is_so: bool, asked: &str) {
+    assert!(rt; is_so, "{asked}");
 }

@@ -1,16 +1,16 @@
 //! Variables of the environment.
-use super::same;
-use crate::{RepositoryVariables, User, variable};
-use std::alloc::Global;
+use super::{files_of, same};
+use crate::{ConfigurationVariables, RepositoryVariables, User, variable};
+use git_repository::{Environment, FileSystem};
+use std::alloc::{AllocError, Global};
 use std::env::FillError;
-use std::rt::Env;
-use std::test::Fail;
+use std::io;
+use std::process::Abort;
+use std::rt::{Env, Files};
 
-/// An environment of these variables alone.
-#[derive(Drop)]
-struct Words<'a> {
-    words: &'a [(&'static str, &'a [u8])],
-}
+/// An environment of these variables alone, each with its value.
+#[derive(Clone, Copy)]
+struct Words<'a>(&'a [(&'static str, &'a [u8])]);
 
 impl<'a> Env for Words<'a> {
     fn arg(&self, _i: usize, _buf: &mut [u8]) -> Result<usize, FillError> {
@@ -18,7 +18,7 @@ impl<'a> Env for Words<'a> {
     }
 
     fn var(&self, name: &str, buf: &mut [u8]) -> Result<usize, FillError> {
-        for (key, value) in self.words {
+        for (key, value) in self.0 {
             if *key == name {
                 let Some(front) = buf.get_mut(..value.len()) else {
                     return Err(FillError::TooLong);
@@ -35,73 +35,140 @@ impl<'a> Env for Words<'a> {
     }
 }
 
-/// What variables say, or why they say nothing, in words.
-fn told_of(alloc: Global, words: &[(&'static str, &[u8])]) -> Result<String, Fail> {
-    match RepositoryVariables::read(&Words { words }, alloc) {
-        Ok(read) => Ok(format!(in alloc; "{}", read.across_file_systems)?),
-        Err(fault) => Ok(format!(in alloc; "{fault}")?),
+/// As Git 2.39 takes them.
+const ACROSS: &str = "GIT_DISCOVERY_ACROSS_FILESYSTEM";
+
+/// What variables say of going across file systems, or why they say nothing.
+const ACROSS_ROWS: &[(Words<'static>, &str)] = &[
+    (Words(&[(ACROSS, b"2k")]), "true"),
+    (Words(&[(ACROSS, b"")]), "false"),
+    (Words(&[("GIT_X", b"1")]), "false"),
+    (
+        Words(&[(ACROSS, b"xx")]),
+        "bad boolean config value 'xx' for 'GIT_DISCOVERY_ACROSS_FILESYSTEM'",
+    ),
+    (
+        Words(&[(ACROSS, b"3g")]),
+        "bad boolean config value '3g' for 'GIT_DISCOVERY_ACROSS_FILESYSTEM'",
+    ),
+    (Words(&[(ACROSS, b"xx"), ("GIT_DIR", b"")]), "false"),
+];
+
+/// Holds what variables say against rows and values.
+pub(super) fn check_variables<R: Abort + AllocGlobal + Env + Files>(rt: &R) -> io::Result<()> {
+    for (words, answer) in ACROSS_ROWS {
+        let told = across_by(rt.alloc(), *words)?;
+        same(rt, told.as_str() == *answer, *answer);
+    }
+    let files = files_of(rt)?;
+    check_repository(rt, rt.alloc());
+    check_places(rt, rt.alloc())?;
+    check_pairs(rt, rt.alloc())?;
+    check_around(rt, rt.alloc(), &files)?;
+    check_process(rt)?;
+    Ok(())
+}
+
+fn across_by(alloc: Global, words: Words<'_>) -> Result<String, AllocError> {
+    match RepositoryVariables::read(&words, alloc) {
+        Ok(read) if read.across_file_systems => String::from_str(alloc, "true"),
+        Ok(_) => String::from_str(alloc, "false"),
+        Err(fault) => format!(in alloc; "{fault}"),
     }
 }
 
-/// As Git 2.39 takes them.
-#[test]
-fn going_across_file_systems_is_a_boolean(rt: HostRuntime) -> Result<(), Fail> {
-    const ACROSS: &str = "GIT_DISCOVERY_ACROSS_FILESYSTEM";
-    let rows = [
-        ([(ACROSS, b"2k".as_slice()), ("GIT_X", b"")], "true"),
-        ([(ACROSS, b""), ("GIT_X", b"")], "false"),
-        ([("GIT_X", b"1"), ("GIT_X", b"")], "false"),
-        (
-            [(ACROSS, b"xx"), ("GIT_X", b"")],
-            "bad boolean config value 'xx' for 'GIT_DISCOVERY_ACROSS_FILESYSTEM'",
-        ),
-        (
-            [(ACROSS, b"3g"), ("GIT_X", b"")],
-            "bad boolean config value '3g' for 'GIT_DISCOVERY_ACROSS_FILESYSTEM'",
-        ),
-        ([(ACROSS, b"xx"), ("GIT_DIR", b"")], "false"),
-    ];
-    for (row, (words, answer)) in rows.into_iter().enumerate() {
-        let told = told_of(rt.alloc(), &words)?;
-        same(&rt, told.as_str() == answer, "the boolean", row);
+/// The environment of a repository that each variable is set in.
+const REPOSITORY: Words<'static> = Words(&[
+    ("GIT_WORK_TREE", b"w"),
+    ("GIT_COMMON_DIR", b""),
+    ("GIT_INDEX_FILE", b"\xff"),
+    ("GIT_OBJECT_DIRECTORY", b"o"),
+    ("GIT_CEILING_DIRECTORIES", b":/c"),
+    (ACROSS, b"yes"),
+]);
+
+fn check_repository(rt: &impl Abort, alloc: Global) {
+    match RepositoryVariables::read(&REPOSITORY, alloc) {
+        Ok(read) => check_environment(rt, read.environment()),
+        Err(_fault) => same(rt, false, "a fault"),
+    }
+}
+
+fn check_environment(rt: &impl Abort, told: Environment<&[u8]>) {
+    same(rt, told.git_dir.is_none(), "GIT_DIR");
+    is_value(rt, told.work_tree, b"w");
+    is_value(rt, told.common_dir, b"");
+    is_value(rt, told.index_file, b"\xff");
+    is_value(rt, told.object_directory, b"o");
+    is_value(rt, told.ceiling_directories, b":/c");
+    same(rt, told.across_file_systems, "the boolean");
+}
+
+/// Holds a value against another.
+fn is_value(rt: &impl Abort, told: Option<&[u8]>, value: &[u8]) {
+    same(rt, told == Some(value), "a value");
+}
+
+/// Variables of a configuration.
+const CONFIGURATION: Words<'static> = Words(&[
+    ("HOME", b"/.."),
+    ("XDG_CONFIG_HOME", b""),
+    ("GIT_CONFIG_NOSYSTEM", b"n"),
+    ("GIT_CONFIG_SYSTEM", b"s"),
+    ("GIT_CONFIG_GLOBAL", b"\xff"),
+    ("GIT_CONFIG_COUNT", b"2147483647"),
+    ("GIT_CONFIG_KEY_0", b"a"),
+    ("GIT_CONFIG_VALUE_0", b"1"),
+    ("GIT_CONFIG_KEY_1", b"b"),
+    ("GIT_CONFIG_KEY_3", b"c"),
+]);
+
+fn check_places(rt: &impl Abort, alloc: Global) -> Result<(), AllocError> {
+    let read = ConfigurationVariables::read(&CONFIGURATION, alloc)?;
+    let told = read.places();
+    is_value(rt, told.home, b"/..");
+    is_value(rt, told.config_home, b"");
+    is_value(rt, told.no_system, b"n");
+    is_value(rt, told.system, b"s");
+    is_value(rt, told.installed, b"/etc/gitconfig");
+    is_value(rt, told.global, b"\xff");
+    is_value(rt, told.count, b"2147483647");
+    Ok(())
+}
+
+/// Many pairs are told, and of the third there is no key.
+fn check_pairs(rt: &impl Abort, alloc: Global) -> Result<(), AllocError> {
+    let read = ConfigurationVariables::read(&CONFIGURATION, alloc)?;
+    let pairs = read.pairs(alloc)?;
+    match pairs.as_slice() {
+        [first, second] => {
+            is_value(rt, Some(first.key), b"a");
+            is_value(rt, first.value, b"1");
+            is_value(rt, Some(second.key), b"b");
+            same(rt, second.value.is_none(), "no value");
+        }
+        _ => same(rt, false, "the number of pairs"),
     }
     Ok(())
 }
 
-#[test]
-fn each_variable_is_read_by_its_bytes(rt: HostRuntime) -> Result<(), Fail> {
-    let long = "a".repeat(rt.alloc(), 1000)?;
-    let words = [
-        ("GIT_WORK_TREE", b"w".as_slice()),
-        ("GIT_COMMON_DIR", b""),
-        ("GIT_INDEX_FILE", b"\xff"),
-        ("GIT_OBJECT_DIRECTORY", long.as_bytes()),
-        ("GIT_CEILING_DIRECTORIES", b":/c"),
-        ("GIT_DISCOVERY_ACROSS_FILESYSTEM", b"yes"),
-    ];
-    let read = RepositoryVariables::read(&Words { words: &words }, rt.alloc())?;
-    let told = read.environment();
-    same(&rt, told.git_dir.is_none(), "GIT_DIR", 0);
-    let values = [
-        told.work_tree,
-        told.common_dir,
-        told.index_file,
-        told.object_directory,
-        told.ceiling_directories,
-    ];
-    for (row, (value, (_name, answer))) in values.into_iter().zip(words).enumerate() {
-        same(&rt, value == Some(answer), "the value", row);
-    }
-    same(&rt, told.across_file_systems, "the boolean", 0);
+fn check_around<S: FileSystem>(
+    rt: &impl Abort,
+    alloc: Global,
+    files: &S,
+) -> Result<(), AllocError> {
+    let read = ConfigurationVariables::read(&CONFIGURATION, alloc)?;
+    let around = read.surroundings(alloc, files)?;
+    is_value(rt, around.home.as_deref(), b"/..");
+    is_value(rt, around.real_home.as_deref(), b"/");
     Ok(())
 }
 
 /// The runtime's own variables, and its user: what it makes is its own, as other tests tell.
-#[test]
-fn the_process_has_variables_and_a_user(rt: HostRuntime) -> Result<(), Fail> {
-    let none = variable(&rt, rt.alloc(), "REPOSITORY_FILES_NONE")?;
-    same(&rt, none.is_none(), "a variable that isn't set", 0);
-    let user = User::of_process(&rt, rt.alloc())?;
-    same(&rt, user.number.is_some(), "the user's number", 0);
+fn check_process<R: Abort + AllocGlobal + Env + Files>(rt: &R) -> Result<(), AllocError> {
+    let none = variable(rt, rt.alloc(), "REPOSITORY_FILES_NONE")?;
+    same(rt, none.is_none(), "a variable that isn't set");
+    let user = User::of_process(rt, rt.alloc())?;
+    same(rt, user.number.is_some(), "the user's number");
     Ok(())
 }
