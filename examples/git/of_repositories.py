@@ -7,6 +7,7 @@ import shutil
 import subprocess
 import tempfile
 
+from documents import kinds_in
 from of_globtree import GLOBTREE, Told, pieces, shown, told_kinds
 from repositories import NAMES, Repository
 
@@ -16,8 +17,20 @@ BY_WORDS = [["--"], ["-v", "--"], ["-v", "-n", "--"], ["--no-index", "--"], ["--
 ATTRIBUTES = [["-a", "--"], ["one", "two", "--"], ["-z", "two", "--"], ["-a", "-z", "--"]]
 OUTSIDE = [b"../../../../../../x", b"/", b"", b"../../x", b"l/x"]
 WARNING, QUOTES = b"warning: Git may answer otherwise: ", b"core.quotePath"
-# differences that the documents name
-BARE, QUOTED = "no work tree", "core.quotePath"
+# kinds of differences that the documents name: the first in "From Git" of docs/GLOBTREE.md
+NESTED, BARE, QUOTED, UNKNOWN, REMOTES = "`.git`", "no work tree", "core.quotePath", "another's folder", "files read for remotes alone"
+NAMED = kinds_in("GLOBTREE.md")
+# and those that "From Git" of docs/REPOSITORIES.md has: what tells a path otherwise, by the variables, options, links and texts of a repository
+TOLD = {
+    "a listing from outside": lambda made, question: question.words[0] == "files" and question.folder in made.outside and made.says(rb"(?i)excludesfile"),
+    "a slash behind GIT_DIR": lambda made, question: made.git_dir().endswith(b"/"),
+    "relative files of the environment": lambda made, question: any(made.is_relative(name) for name in FILES_OF_VARIABLES),
+    "`.git` as a link": lambda made, question: any(os.path.basename(link) == b".git" for link in made.links),
+    "an empty core.worktree": lambda made, question: made.says(rb'(?im)worktree *=[ "]*$'),
+}
+FILES_OF_VARIABLES = (b"GIT_CONFIG_GLOBAL", b"GIT_CONFIG_SYSTEM", b"XDG_CONFIG_HOME", b"HOME")
+UNKNOWN_FOLDER = re.compile(rb"fatal: failed to expand user dir in: '(~root|%\(prefix\))/[^\n]*\n")
+OF_INCLUDED = re.compile(rb"remote URLs cannot|unable to parse command-line config|bad config line|exceeded maximum include depth")
 NO_WORK_TREE = b"fatal: this operation must be run in a work tree\n"
 FILES_OF_GIT = ["ls-files", "-co", "--exclude-standard"]
 
@@ -61,6 +74,14 @@ def is_answer(told):
     return told.status < 2
 
 
+def is_nested(expected, found):
+    """Whether both list the same, but for folders that globtree takes for repositories, where Git lists what is in them."""
+    one, other = (set(re.split(rb"[\0\n]", told.output)) - {b""} for told in (expected, found))
+    folders = {name for name in other - one if name.endswith(b"/")}
+    below = {name for name in one if any(folder == b"./" or name.startswith(folder) for folder in folders)}
+    return expected.status == found.status == 0 and one - below == other - folders
+
+
 class Comparison:
     """The runs in all repositories, what Git answered, and what differed."""
 
@@ -76,12 +97,19 @@ class Comparison:
         made.make(room)
         self.constructs.update(made.constructs)
         self.pair = Pair(made, room)
-        self.has_quotes = any(QUOTES.lower() in text.lower() for text in made.texts_that_count())
-        for folder in made.inside:
-            for words, asked in self.random.sample(self.questions(), 5 if made.is_sound else 2):
-                self.ask(Question(folder, words, asked))
-        for folder in self.random.sample(made.outside, min(len(made.outside), 2)):
-            words, asked = self.random.choice(self.questions())
+        self.has_quotes = any(b"quotepath" in text.lower() for text in made.texts_that_count())
+        for folder in self.those_there(made.inside):
+            self.ask_some(folder, 5 if made.is_sound else 2)
+        outside = self.those_there(made.outside)
+        for folder in self.random.sample(outside, min(len(outside), 2)):
+            self.ask_some(folder, 1)
+
+    def those_there(self, folders):
+        return [folder for folder in folders if os.path.isdir(os.path.join(self.room, folder))]
+
+    def ask_some(self, folder, count):
+        """Asks so many questions of different kinds from a folder."""
+        for words, asked in self.random.sample(self.questions(), count):
             self.ask(Question(folder, words, asked))
 
     # ---- questions
@@ -122,14 +150,30 @@ class Comparison:
     def judge(self, question, expected, found):
         if self.has_quotes and not found.is_as(expected):
             found = self.without_sign(found)
-        if question.words[0] == "check-attr" and found.errors == NO_WORK_TREE and is_answer(expected):
-            self.named[BARE] += 1
-            return
-        if not found.is_as(expected):
+        kind = self.named_kind(question, expected, found)
+        if kind:
+            self.named[kind] += 1
+        elif not found.is_as(expected):
             self.differences += 1
             self.tell(question, expected, found)
         elif not is_answer(expected):
             self.compare_texts(question, fault(expected), fault(found))
+
+    def named_kind(self, question, expected, found):
+        """What the documents call a difference, or None."""
+        command = question.words[0]
+        if command == "check-attr" and found.errors == NO_WORK_TREE and expected.errors != found.errors:
+            return BARE
+        if UNKNOWN_FOLDER.fullmatch(found.errors) and expected.errors != found.errors:
+            return UNKNOWN
+        # (Git reads a file under such a condition, where it doesn't hold, too)
+        if "condition: hasconfig" in self.pair.made.constructs and is_answer(found) and OF_INCLUDED.match(fault(expected)):
+            return REMOTES
+        if command == "files" and NESTED in NAMED and not found.is_as(expected) and is_nested(expected, found):
+            return NESTED
+        if found.is_as(expected):
+            return None
+        return next((kind for kind, holds in TOLD.items() if holds(self.pair.made, question)), None)
 
     def without_sign(self, found):
         """The same without the line that tells of core.quotePath."""
@@ -141,7 +185,8 @@ class Comparison:
     # ---- texts of faults
 
     def compare_texts(self, question, text, other):
-        if text == other:
+        # (what Git tells in more lines is one line here)
+        if text and other.startswith(text):
             return
         kinds = self.kind(text), self.kind(other)
         self.texts[kinds] += 1

@@ -1,5 +1,6 @@
 """Repositories made at random, each from a number: how they are found, configuration, variables, words and faults."""
 import os
+import re
 import random
 
 from configuration_texts import Writer
@@ -68,6 +69,7 @@ class Repository(Shapes, Settings, Faults):
 
     def attribute_text(self, name):
         """Lines whose values are the file's own name."""
+        name = name.replace(b" ", b"_")
         patterns, states = [b"a", b"b", b"c", b"*", b"*.o", b"A", b"/e", b"d/*"], [b"one=" + name, b"one", b"-two", b"two=" + name, b"!one"]
         return b"".join(self.random.choice(patterns) + b" " + self.random.choice(states) + b"\n" for _ in range(self.one_of(1, 2, 3)))
 
@@ -82,6 +84,19 @@ class Repository(Shapes, Settings, Faults):
     def texts_that_count(self):
         """All texts in which a setting may stand."""
         return [*self.files.values(), *self.variables.values(), *(word for word in self.options if isinstance(word, bytes))]
+
+    def says(self, pattern):
+        """Whether a text has what is looked for."""
+        return any(re.search(pattern, text) for text in self.texts_that_count())
+
+    def git_dir(self):
+        """What the words or the environment tell of the git folder."""
+        at = self.options.index(b"--git-dir") + 1 if b"--git-dir" in self.options else None
+        return self.options[at] if at else self.variables.get(b"GIT_DIR", b"")
+
+    def is_relative(self, name):
+        """Whether a variable is set to a path from the current folder."""
+        return self.variables.get(name, b"/")[:1] not in (b"/", b"@", b"")
 
     def placed(self, room, text):
         return text.replace(b"@", room)

@@ -140,6 +140,7 @@ class Faults(Chances):
 
     def fault_of_a_url(self):
         """A URL in a file that is included under a condition, where another condition asks for URLs."""
+        self.mark("condition: hasconfig")
         entries = self.entries.setdefault(self.read_file(), [])
         key = self.one_of(b"includeIf.gitdir:**.path", b"include.path", b"includeIf.gitdir:no/.path")
         entries += [entry(b"includeIf.hasconfig:remote.*.url:z.path", b"@/home/url"), entry(key, b"@/home/url")]

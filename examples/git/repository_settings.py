@@ -14,6 +14,8 @@ PATHS = {
     "with a variable": b"$HOME/NAME", "of the installation": b"%(prefix)/nowhere/NAME", "below another's HOME": b"~root/nowhere/NAME",
     "with dots": b"./d/../NAME", "a link": b"~/NAME-link",
 }
+# those that Git alone knows
+ELSEWHERE = ("of the installation", "below another's HOME")
 CONDITIONS = {
     "gitdir": [
         b"gitdir:**", b"gitdir:r/", b"gitdir:@/r/", b"gitdir:@/r/.git", b"gitdir:~/../r/.git", b"gitdir:./", b"gitdir:./**", b"gitdir:/",
@@ -71,7 +73,7 @@ class Settings(Chances):
             if self.marked(0.15, "core.worktree in config.worktree"):
                 own.append(self.one_of(entry(b"core.worktree", b"@/t"), entry(b"core.bare", b"true"), entry(b"core.bare", b"no")))
         if self.marked(0.15, "a known extension"):
-            self.own().append(entry(b"extensions." + self.random.choice(KNOWN_EXTENSIONS), self.one_of(b"true", b"x", None)))
+            self.own().append(entry(b"extensions." + self.random.choice(KNOWN_EXTENSIONS), self.one_of(b"true", b"x", b"")))
 
     def draw_settings(self):
         """Settings in all files, the same ones in several, and others in none."""
@@ -96,6 +98,8 @@ class Settings(Chances):
     def path_value(self, name):
         key = {b"ig": "core.excludesFile", b"at": "core.attributesFile"}[name]
         kinds = {kind: value for kind, value in PATHS.items() if b"HOME" in self.variables or not value.startswith(b"~/")}
+        if self.chance(0.9):
+            kinds = {kind: value for kind, value in kinds.items() if kind not in ELSEWHERE}
         return self.kind_of(kinds, key).replace(b"NAME", name)
 
     def boolean(self):

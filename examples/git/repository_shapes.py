@@ -33,7 +33,7 @@ class Shapes(Chances):
         self.top, self.inside, self.outside = b"r", [b"r", b"r/d"], [b"home"]
         getattr(self, "find_by_" + shape.replace(" ", "_"))()
         if shape not in ("a bare folder", "a variable", "a common folder told") and self.marked(0.12, "GIT_WORK_TREE"):
-            self.variables[b"GIT_WORK_TREE"] = self.one_of(b"@/t", b"@/r", b"../t", b"@/l", b"@")
+            self.variables[b"GIT_WORK_TREE"] = self.one_of(b"@/t", b"@/t", b"@/r", b"../t", b"@/l")
             self.outside.append(b"t")
         if shape == "a folder" and self.marked(0.2, "a ceiling that hides"):
             self.fault_of_a_ceiling()
@@ -91,7 +91,7 @@ class Shapes(Chances):
     def may_tell_work_tree(self):
         """Settings of the work tree, which count or don't."""
         if self.marked(0.15, "core.worktree"):
-            self.own().append(entry(b"core.worktree", self.one_of(b"../../t", b"@/t", b"..", b"@/l", b"../d", b"")))
+            self.own().append(entry(b"core.worktree", self.one_of(b"../../t", b"@/t", b"@/r", b"@/l", b"../d", b"..")))
         if self.marked(0.08, "core.bare: true"):
             self.own().append(entry(b"core.bare", self.random.choice(TRUE)))
         if self.marked(0.12, "core.worktree and core.bare where they don't count"):

@@ -12,6 +12,7 @@ mod moving;
 mod opening;
 mod outer_attributes;
 mod places;
+mod refused;
 mod running;
 mod signs;
 mod work_tree;

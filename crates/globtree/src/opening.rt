@@ -5,7 +5,8 @@ ghost use Rattle.git_repository.specs.Environments.{environment_with};
 ghost use Rattle.globtree.specs.Places.{with_options};
 
 use crate::check_ignore::bytes_of;
-use anyhow::{Result, bail};
+use crate::refused::Refused;
+use anyhow::Result;
 use git_config::Config;
 use git_repository::Environment;
 use opened_repository::{Opened, Told, open};
@@ -38,7 +39,7 @@ pub(crate) fn open_here<R: Files + Env>(
     };
     match open(alloc, &files, &told) {
         Ok(opened) => Ok(opened),
-        Err(fault) => bail!("{fault}"),
+        Err(fault) => Err(Refused(format!(in alloc; "{fault}")?).into()),
     }
 }
 
