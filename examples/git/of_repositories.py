@@ -22,7 +22,7 @@ NESTED, BARE, QUOTED, UNKNOWN, REMOTES = "`.git`", "no work tree", "core.quotePa
 NAMED = kinds_in("GLOBTREE.md")
 # and those that "From Git" of docs/REPOSITORIES.md has: what tells a path otherwise, by the variables, options, links and texts of a repository
 TOLD = {
-    "a listing from outside": lambda made, question: question.words[0] == "files" and question.folder in made.outside and made.says(rb"(?i)excludesfile"),
+    "a listing from outside": lambda made, question: question.words[0] == "files" and made.says(rb'(?im)excludesfile *= *"?[^/~@%\s"]'),
     "a slash behind GIT_DIR": lambda made, question: made.git_dir().endswith(b"/"),
     "relative files of the environment": lambda made, question: any(made.is_relative(name) for name in FILES_OF_VARIABLES),
     "`.git` as a link": lambda made, question: any(os.path.basename(link) == b".git" for link in made.links),
