@@ -18,7 +18,7 @@ ATTRIBUTES = [["-a", "--"], ["one", "two", "--"], ["-z", "two", "--"], ["-a", "-
 OUTSIDE = [b"../../../../../../x", b"/", b"", b"../../x", b"l/x"]
 WARNING, QUOTES = b"warning: Git may answer otherwise: ", b"core.quotePath"
 # kinds of differences that the documents name: the first in "From Git" of docs/GLOBTREE.md
-NESTED, BARE, QUOTED, UNKNOWN, REMOTES = "`.git`", "no work tree", "core.quotePath", "another's folder", "files read for remotes alone"
+NESTED, MESSAGES, BARE, QUOTED, UNKNOWN, REMOTES = "`.git`", "messages", "no work tree", "core.quotePath", "another's folder", "files read for remotes alone"
 NAMED = kinds_in("GLOBTREE.md")
 # and those that "From Git" of docs/REPOSITORIES.md has: what tells a path otherwise, by the variables, options, links and texts of a repository
 TOLD = {
@@ -26,11 +26,12 @@ TOLD = {
     "a slash behind GIT_DIR": lambda made, question: made.git_dir().endswith(b"/"),
     "relative files of the environment": lambda made, question: any(made.is_relative(name) for name in FILES_OF_VARIABLES),
     "`.git` as a link": lambda made, question: any(os.path.basename(link) == b".git" for link in made.links),
-    "an empty core.worktree": lambda made, question: made.says(rb'(?im)worktree *=[ "]*$'),
+    "an empty core.worktree": lambda made, question: made.says(rb'(?im)worktree[ \t]*=[ \t"]*([#;].*)?\r?$'),
 }
 FILES_OF_VARIABLES = (b"GIT_CONFIG_GLOBAL", b"GIT_CONFIG_SYSTEM", b"XDG_CONFIG_HOME", b"HOME")
 UNKNOWN_FOLDER = re.compile(rb"fatal: failed to expand user dir in: '(~root|%\(prefix\))/[^\n]*\n")
 OF_INCLUDED = re.compile(rb"remote URLs cannot|unable to parse command-line config|bad config line|exceeded maximum include depth")
+RELATIVE_CONDITION = b"error: relative config include conditionals must come from files\n"
 NO_WORK_TREE = b"fatal: this operation must be run in a work tree\n"
 FILES_OF_GIT = ["ls-files", "-co", "--exclude-standard"]
 
@@ -173,6 +174,8 @@ class Comparison:
             return NESTED
         if found.is_as(expected):
             return None
+        if RELATIVE_CONDITION in expected.errors and found.is_as(expected._replace(errors=found.errors)):
+            return MESSAGES
         return next((kind for kind, holds in TOLD.items() if holds(self.pair.made, question)), None)
 
     def without_sign(self, found):
