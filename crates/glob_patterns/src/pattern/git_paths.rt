@@ -211,7 +211,9 @@ impl<'a> PatternView<'a> {
     }
 
     /// Whether the value begins as the literal front of the text does, up to its end, and the rest of the text matches what follows.
-    #[inline(always)]
+    ///
+    /// It isn't always inlined: what is makes its callers so large that they lose their own hint.
+    #[inline]
     pub(super) fn decide_by_front<S: Ledger, L: Ledger>(
         self,
         value: &[u8],
