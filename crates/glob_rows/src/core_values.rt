@@ -6,7 +6,7 @@ use crate::fault::RowFault;
 use crate::question::Question;
 use crate::texts::text_of;
 use core_settings::{CoreFault, core_settings as settings_of};
-use git_config::{Config, Surroundings};
+use git_config::{Config, ReadFault, Surroundings};
 use std::alloc::{AllocError, Global};
 
 /// What files and then words set, or the first fault.
@@ -21,8 +21,11 @@ pub(crate) fn core_settings(
     };
     let around = surroundings(alloc, question.option(0)?)?;
     let sources = sources_of(alloc, question.bytes(2)?, question.bytes(3)?)?;
-    let Ok(config) = Config::read(alloc, &files, &around, &sources) else {
-        return Err(RowFault::Field("a configuration"));
+    let config = match Config::read(alloc, &files, &around, &sources) {
+        Ok(config) => config,
+        Err(ReadFault::Setting(_)) => return Err(RowFault::Field("a configuration")),
+        // (the files of a row fail for want of memory alone)
+        Err(ReadFault::Memory | ReadFault::File(_)) => return Err(RowFault::Memory),
     };
     match settings_of(alloc, &config, &around, question.option(1)?) {
         Ok(core) => {
