@@ -12,10 +12,10 @@ ghost use Rattle.gix_glob.specs.Stripping.{NothingLeft, Rest, RestOf, strip_look
 ghost use Rattle.glob_lists.specs.Deciding.{AnswersFor};
 ghost use Rattle.glob_lists.specs.Paths.{IsPlainPath, MarksDirectory};
 
-use crate::rules::{Reading, Rules};
+use crate::rules::Rules;
 use gix_glob::pattern::{Case, PatternView, basename_start};
 use gix_glob::search::pattern::{List, strip_base_handle_recompute_basename_pos};
-use gix_glob::wildmatch::{Counts, Mode};
+use gix_glob::wildmatch::Counts;
 use gix_glob::{laws, search};
 use std::marker::Model;
 use std::sync::ledger::Ledger;
@@ -228,21 +228,13 @@ impl<'a> RepositoryPath<'a> {
         ensures { IsPattern pattern.entry.text.now pattern.entry.mode pattern.entry.first_wildcard_pos →
             IsTrue result ↔ AnswersFor pattern.entry.text.now pattern.entry.mode self.now.bytes self.now.is_dir rules }
     {
-        match rules.reading {
-            Reading::Crate => pattern.matches_repo_relative_path(
-                self.bytes,
-                self.basename_start,
-                Some(self.is_dir),
-                rules.case,
-                Mode::NO_MATCH_SLASH_LITERAL,
-            ),
-            Reading::Git => pattern.matches_path_as_git(
-                self.bytes,
-                self.basename_start,
-                Some(self.is_dir),
-                rules.case,
-            ),
-        }
+        pattern.matches_path_by_reading(
+            self.bytes,
+            self.basename_start,
+            Some(self.is_dir),
+            rules.case,
+            rules.reading.is_git(),
+        )
     }
 
     /// Whether a pattern matches the path, as [`RepositoryPath::is_matched_by`] answers it, with its steps and looks counted.
@@ -263,23 +255,14 @@ impl<'a> RepositoryPath<'a> {
             ≤ counts.old.looks + pattern_look_limit (length pattern.entry.text.now) (length self.now.bytes) }
         ensures grows { NeverFall counts.old counts.new }
     {
-        match rules.reading {
-            Reading::Crate => pattern.matches_repo_relative_path_with_counts(
-                self.bytes,
-                self.basename_start,
-                Some(self.is_dir),
-                rules.case,
-                Mode::NO_MATCH_SLASH_LITERAL,
-                counts,
-            ),
-            Reading::Git => pattern.matches_path_as_git_with_counts(
-                self.bytes,
-                self.basename_start,
-                Some(self.is_dir),
-                rules.case,
-                counts,
-            ),
-        }
+        pattern.matches_path_by_reading_with_counts(
+            self.bytes,
+            self.basename_start,
+            Some(self.is_dir),
+            rules.case,
+            rules.reading.is_git(),
+            counts,
+        )
     }
 }
 

@@ -1,5 +1,5 @@
 //! By which rules the patterns of lists are matched.
-ghost use Rattle.std.specs.Prelude.{◌≡◌};
+ghost use Rattle.std.specs.Prelude.{◌≡◌, ◌↔◌, IsTrue};
 ghost use Rattle.glob_lists.specs.Rules.{by_crate, by_git};
 
 use gix_glob::pattern::Case;
@@ -12,6 +12,16 @@ pub enum Reading {
     Crate,
     /// That of Git: what a path pattern has before its first special byte is compared by itself, and what follows is a pattern of its own.
     Git,
+}
+
+impl Reading {
+    /// Whether it is Git's.
+    #[inline(always)]
+    pub(crate) fn is_git(self) -> bool
+        ensures { IsTrue result ↔ (self ≡ Reading.Git) }
+    {
+        matches!(self, Reading::Git)
+    }
 }
 
 /// By which rules patterns are matched: whether the case of ASCII letters counts, and whose reading does.

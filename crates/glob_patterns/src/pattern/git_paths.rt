@@ -5,33 +5,21 @@ ghost use Rattle.std.specs.Option.{ForSome};
 ghost use Rattle.glob_matcher.specs.declared.wildmatch.way.Way.{Way};
 ghost use Rattle.glob_matcher.specs.Matching.{SplitsBy};
 ghost use Rattle.glob_matcher.specs.Private.Takes.{Takes};
-ghost use Rattle.glob_matcher.specs.Steps.{IsBlankOf, NeverFall, look_limit, step_limit};
-ghost use Rattle.glob_patterns.specs.GitPaths.{AnswersAsGit, FrontAndRest, git_way};
+ghost use Rattle.glob_matcher.specs.Steps.{NeverFall, look_limit, step_limit};
+ghost use Rattle.glob_patterns.specs.GitPaths.{AnswersAsGit, FrontAndRest};
 ghost use Rattle.glob_patterns.specs.PatternLimits.{pattern_look_limit};
 ghost use Rattle.glob_patterns.specs.Patterns.{IsPattern, looks_at_name};
-ghost use Rattle.glob_patterns.specs.RepositoryPaths.{IsAfterLastSlash};
-ghost use Rattle.glob_patterns.specs.Private.Asked.{IsAnsweredAsGit};
+ghost use Rattle.glob_patterns.specs.RepositoryPaths.{Answers, IsAfterLastSlash};
 ghost use Rattle.glob_patterns.specs.Private.Fronts.{BeginsAlike};
 
 use super::comparisons::Comparison;
 use super::paths::Asked;
 use super::view::PatternView;
-use super::{Case, Mode, Pattern};
-use bitflags::Flags;
+use super::{Case, Pattern};
 use glob_matcher::wildmatch;
 use glob_matcher::wildmatch::{CountedTexts, Counts, Texts, Way, text_is_short};
 use std::marker::Brand;
 use std::sync::ledger::{Blank, Ledger};
-
-/// The way in which a pattern that Git reads matches paths.
-fn git_way(case: Case) -> Way
-    ensures { result ≡ git_way case }
-{
-    match case {
-        Case::Sensitive => Way::Path,
-        Case::Fold => Way::ExactPath,
-    }
-}
 
 /// Whether the rest of a text matches the rest of a value, as [`wildmatch::marked`] answers it. It is not inlined: few values begin as a front
 /// does, and the others don't pay for the registers of the match.
@@ -108,30 +96,7 @@ impl<'a> PatternView<'a> {
         ensures { IsPattern self.entry.text.now self.entry.mode self.entry.first_wildcard_pos →
             IsTrue result ↔ AnswersAsGit self.entry.text.now self.entry.mode path.now basename_start_pos is_dir case }
     {
-        let asked = Asked {
-            path,
-            basename_start_pos,
-            is_dir,
-            case,
-            mode: wildmatch::Mode::NO_MATCH_SLASH_LITERAL,
-        };
-        self.answers_as_git_with_new_counts::<Brand, Brand>(asked, (Blank::new(1), Blank::new(1)))
-    }
-
-    /// Whether a path of a repository matches, as Git reads the pattern, with new counts that no one asks for.
-    #[inline(always)]
-    fn answers_as_git_with_new_counts<S: Ledger, L: Ledger>(
-        self,
-        asked: Asked<'_>,
-        blanks: (Blank, Blank),
-    ) -> bool
-        requires basename { ForSome asked.basename_start_pos (IsAfterLastSlash asked.path.now) }
-        requires steps { IsBlankOf S.name S.parts blanks.0 }
-        requires looks { IsBlankOf L.name L.parts blanks.1 }
-        ensures { IsPattern self.entry.text.now self.entry.mode self.entry.first_wildcard_pos →
-            IsTrue result ↔ IsAnsweredAsGit self.entry.text.now self.entry.mode asked.entry }
-    {
-        self.answers_as_git(asked, &mut Counts::<S, L>::new(blanks.0, blanks.1))
+        self.matches_path_by_reading(path, basename_start_pos, is_dir, case, true)
     }
 
     /// Whether a path of a repository matches, as [`PatternView::matches_path_as_git`] answers it, with its steps and looks counted.
@@ -154,53 +119,89 @@ impl<'a> PatternView<'a> {
             ≤ counts.old.looks + pattern_look_limit (length self.entry.text.now) (length path.now) }
         ensures grows { NeverFall counts.old counts.new }
     {
+        self.matches_path_by_reading_with_counts(
+            path,
+            basename_start_pos,
+            is_dir,
+            case,
+            true,
+            counts,
+        )
+    }
+
+    /// Whether a path of a repository matches: with `as_git` as [`PatternView::matches_path_as_git`] answers, else as
+    /// [`PatternView::matches_repo_relative_path`] does where no wildcard matches a slash. The condition on the place is theirs.
+    #[inline(always)]
+    pub fn matches_path_by_reading(
+        self,
+        path: &[u8],
+        basename_start_pos: Option<usize>,
+        is_dir: Option<bool>,
+        case: Case,
+        as_git: bool,
+    ) -> bool
+        requires { ForSome basename_start_pos (IsAfterLastSlash path.now) }
+        ensures by_crate { IsPattern self.entry.text.now self.entry.mode self.entry.first_wildcard_pos → as_git ≡ false →
+            IsTrue result ↔ Answers self.entry.text.now self.entry.mode path.now basename_start_pos is_dir case (record { 0 = 1 }) }
+        ensures by_git { IsPattern self.entry.text.now self.entry.mode self.entry.first_wildcard_pos → IsTrue as_git →
+            IsTrue result ↔ AnswersAsGit self.entry.text.now self.entry.mode path.now basename_start_pos is_dir case }
+    {
         let asked = Asked {
             path,
             basename_start_pos,
             is_dir,
             case,
             mode: wildmatch::Mode::NO_MATCH_SLASH_LITERAL,
+            as_git,
         };
-        self.answers_as_git(asked, counts)
+        self.answers_with_new_counts::<Brand, Brand>(asked, (Blank::new(1), Blank::new(1)))
     }
 
-    /// Whether a path of a repository matches, as Git reads the pattern, with its steps and looks counted.
+    /// Whether a path of a repository matches, as [`PatternView::matches_path_by_reading`] answers it, with its steps and looks counted.
+    ///
+    /// The counts rise by no more than those of [`PatternView::matches_with_counts`] for the whole path may. No count falls.
     #[inline(always)]
-    fn answers_as_git<S: Ledger, L: Ledger>(
+    pub fn matches_path_by_reading_with_counts<S: Ledger, L: Ledger>(
         self,
-        asked: Asked<'_>,
+        path: &[u8],
+        basename_start_pos: Option<usize>,
+        is_dir: Option<bool>,
+        case: Case,
+        as_git: bool,
         counts: &mut Counts<S, L>,
     ) -> bool
-        requires { ForSome asked.basename_start_pos (IsAfterLastSlash asked.path.now) }
-        ensures exact { IsPattern self.entry.text.now self.entry.mode self.entry.first_wildcard_pos →
-            IsTrue result ↔ IsAnsweredAsGit self.entry.text.now self.entry.mode asked.entry }
-        ensures steps { counts.new.steps ≤ counts.old.steps + step_limit (length self.entry.text.now) (length asked.entry.path.now) }
+        requires { ForSome basename_start_pos (IsAfterLastSlash path.now) }
+        ensures by_crate { IsPattern self.entry.text.now self.entry.mode self.entry.first_wildcard_pos → as_git ≡ false →
+            IsTrue result ↔ Answers self.entry.text.now self.entry.mode path.now basename_start_pos is_dir case (record { 0 = 1 }) }
+        ensures by_git { IsPattern self.entry.text.now self.entry.mode self.entry.first_wildcard_pos → IsTrue as_git →
+            IsTrue result ↔ AnswersAsGit self.entry.text.now self.entry.mode path.now basename_start_pos is_dir case }
+        ensures steps { counts.new.steps ≤ counts.old.steps + step_limit (length self.entry.text.now) (length path.now) }
         ensures looks { counts.new.looks
-            ≤ counts.old.looks + pattern_look_limit (length self.entry.text.now) (length asked.entry.path.now) }
+            ≤ counts.old.looks + pattern_look_limit (length self.entry.text.now) (length path.now) }
         ensures grows { NeverFall counts.old counts.new }
     {
-        if self.mode.contains(Mode::MUST_BE_DIR) && asked.is_dir != Some(true) {
-            return false;
-        }
-        let way = git_way(asked.case);
-        if let Some(front_end) = self.front_apart() {
-            return self.decide_by_front(asked.path, front_end, way, counts);
-        }
-        let start = asked.subject_start(self.mode);
-        self.decide(&asked.path[start..], start > 0, way, counts)
+        let asked = Asked {
+            path,
+            basename_start_pos,
+            is_dir,
+            case,
+            mode: wildmatch::Mode::NO_MATCH_SLASH_LITERAL,
+            as_git,
+        };
+        self.answers(asked, counts)
     }
 
-    /// Where the literal front of the text ends, if it is compared apart: of a text that looks at the whole path, and neither begins with a
-    /// special byte nor has none. Any other text is matched as a whole.
+    /// Where the literal front of the text ends, if it is compared apart. Git does so with a text that looks at the whole path, and neither
+    /// begins with a special byte nor has none. Any other text is matched as a whole.
     #[inline(always)]
-    fn front_apart(self) -> Option<usize>
-        ensures some { IfSome result (λ place. (looks_at_name self.entry.mode ≡ false)
+    pub(super) fn front_apart(self, as_git: bool) -> Option<usize>
+        ensures some { IfSome result (λ place. IsTrue as_git × (looks_at_name self.entry.mode ≡ false)
             × (self.entry.first_wildcard_pos ≡ Some place) × (place ≤ length self.entry.text.now)) }
-        ensures none { IsPattern self.entry.text.now self.entry.mode self.entry.first_wildcard_pos → IfNone result
+        ensures none { IsPattern self.entry.text.now self.entry.mode self.entry.first_wildcard_pos → IsTrue as_git → IfNone result
             (looks_at_name self.entry.mode ≡ false → (value : List ℕ) (way : Way)
             → FrontAndRest value self.entry.text.now way ↔ SplitsBy value self.entry.text.now way) }
     {
-        if self.mode.looks_at_name() {
+        if !as_git || self.mode.looks_at_name() {
             return None;
         }
         match self.first_wildcard_pos {
@@ -210,8 +211,10 @@ impl<'a> PatternView<'a> {
     }
 
     /// Whether the value begins as the literal front of the text does, up to its end, and the rest of the text matches what follows.
-    #[inline(always)]
-    fn decide_by_front<S: Ledger, L: Ledger>(
+    ///
+    /// It isn't always inlined: what is makes its callers so large that they lose their own hint.
+    #[inline]
+    pub(super) fn decide_by_front<S: Ledger, L: Ledger>(
         self,
         value: &[u8],
         front_end: usize,

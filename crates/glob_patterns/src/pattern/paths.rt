@@ -1,11 +1,12 @@
 //! Whether a path of a repository matches: what a pattern looks at, directories and case.
 ghost use Rattle.std.specs.Prelude.{◌≡◌, ◌↔◌, IsTrue};
+ghost use Rattle.glob_patterns.specs.GitPaths.{git_way};
 ghost use Rattle.glob_patterns.specs.RepositoryPaths.{IsBasenameStart, with_case};
 
 use super::{Case, Mode, Pattern};
 use bitflags::Flags;
 use glob_matcher::wildmatch;
-use glob_matcher::wildmatch::Counts;
+use glob_matcher::wildmatch::{Counts, Way};
 use memchr::memrchr;
 use std::sync::ledger::Ledger;
 
@@ -17,12 +18,22 @@ pub fn basename_start(path: &[u8]) -> Option<usize>
 }
 
 /// The mode of a match, in which case doesn't count where it is to be folded.
-pub(super) fn with_case(mode: wildmatch::Mode, case: Case) -> wildmatch::Mode
+fn with_case(mode: wildmatch::Mode, case: Case) -> wildmatch::Mode
     ensures { result ≡ with_case mode case }
 {
     match case {
         Case::Sensitive => mode,
         Case::Fold => mode.union(wildmatch::Mode::IGNORE_CASE),
+    }
+}
+
+/// The way in which a pattern that Git reads matches paths.
+fn git_way(case: Case) -> Way
+    ensures { result ≡ git_way case }
+{
+    match case {
+        Case::Sensitive => Way::Path,
+        Case::Fold => Way::ExactPath,
     }
 }
 
@@ -33,14 +44,31 @@ pub(super) struct Asked<'p> {
     pub(super) basename_start_pos: Option<usize>,
     pub(super) is_dir: Option<bool>,
     pub(super) case: Case,
+    /// It counts where the pattern isn't read as Git reads it, which has one mode.
     pub(super) mode: wildmatch::Mode,
+    /// Whether the pattern is read as Git reads it.
+    pub(super) as_git: bool,
 }
 
 impl<'p> Asked<'p> {
     ghost use Rattle.std.specs.Prelude.{◌<◌, ◌≤◌, drop, false, length};
     ghost use Rattle.std.specs.Option.{ForSome};
     ghost use Rattle.glob_matcher.specs.Bytes.{has_slash};
+    ghost use Rattle.glob_matcher.specs.Ways.{way_of};
     ghost use Rattle.glob_patterns.specs.RepositoryPaths.{IsAfterLastSlash, subject};
+
+    /// The way in which the pattern is matched.
+    #[inline(always)]
+    pub(super) fn way(self) -> Way
+        ensures by_crate { self.entry.as_git ≡ false → result ≡ way_of (with_case self.entry.mode self.entry.case) }
+        ensures by_git { IsTrue self.entry.as_git → result ≡ git_way self.entry.case }
+    {
+        if self.as_git {
+            git_way(self.case)
+        } else {
+            with_case(self.mode, self.case).way()
+        }
+    }
 
     /// The place of the path, counted from 0, from which on a pattern of this mode looks at it: 0, or where the last part
     /// begins, which has no slash.

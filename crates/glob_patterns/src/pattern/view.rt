@@ -9,11 +9,11 @@ ghost use Rattle.glob_patterns.specs.PatternLimits.{pattern_look_limit};
 ghost use Rattle.glob_patterns.specs.GitLines.{GitReads};
 ghost use Rattle.glob_patterns.specs.Patterns.{HasReading, IsPattern, Reads, is_blank, without_negation};
 ghost use Rattle.glob_patterns.specs.RepositoryPaths.{Answers, IsAfterLastSlash};
-ghost use Rattle.glob_patterns.specs.Private.Asked.{IsAnswered};
+ghost use Rattle.glob_patterns.specs.Private.Asked.{IsAnswered, IsAnsweredAsGit};
 ghost use Rattle.glob_patterns.specs.Private.Shown.{IsShown, shown_limit};
 
 use super::comparisons::{Comparison, Shown};
-use super::paths::{Asked, with_case};
+use super::paths::Asked;
 use super::{Case, Mode};
 use crate::parse;
 use bitflags::Flags;
@@ -188,13 +188,14 @@ impl<'a> PatternView<'a> {
             is_dir,
             case,
             mode,
+            as_git: false,
         };
         self.answers_with_new_counts::<Brand, Brand>(asked, (Blank::new(1), Blank::new(1)))
     }
 
     /// Whether a path of a repository matches, with new counts that no one asks for.
     #[inline(always)]
-    fn answers_with_new_counts<S: Ledger, L: Ledger>(
+    pub(super) fn answers_with_new_counts<S: Ledger, L: Ledger>(
         self,
         asked: Asked<'_>,
         blanks: (Blank, Blank),
@@ -202,8 +203,10 @@ impl<'a> PatternView<'a> {
         requires basename { ForSome asked.basename_start_pos (IsAfterLastSlash asked.path.now) }
         requires steps { IsBlankOf S.name S.parts blanks.0 }
         requires looks { IsBlankOf L.name L.parts blanks.1 }
-        ensures { IsPattern self.entry.text.now self.entry.mode self.entry.first_wildcard_pos →
+        ensures by_crate { IsPattern self.entry.text.now self.entry.mode self.entry.first_wildcard_pos → asked.entry.as_git ≡ false →
             IsTrue result ↔ IsAnswered self.entry.text.now self.entry.mode asked.entry }
+        ensures by_git { IsPattern self.entry.text.now self.entry.mode self.entry.first_wildcard_pos → IsTrue asked.entry.as_git →
+            IsTrue result ↔ IsAnsweredAsGit self.entry.text.now self.entry.mode asked.entry }
     {
         self.answers(asked, &mut Counts::<S, L>::new(blanks.0, blanks.1))
     }
@@ -237,16 +240,25 @@ impl<'a> PatternView<'a> {
             is_dir,
             case,
             mode,
+            as_git: false,
         };
         self.answers(asked, counts)
     }
 
     /// Whether a path of a repository matches, with its steps and looks counted.
+    ///
+    /// It is one body for both readings: a caller that takes either has `decide` in line once, and stays small enough to be inlined.
     #[inline(always)]
-    fn answers<S: Ledger, L: Ledger>(self, asked: Asked<'_>, counts: &mut Counts<S, L>) -> bool
+    pub(super) fn answers<S: Ledger, L: Ledger>(
+        self,
+        asked: Asked<'_>,
+        counts: &mut Counts<S, L>,
+    ) -> bool
         requires { ForSome asked.basename_start_pos (IsAfterLastSlash asked.path.now) }
-        ensures exact { IsPattern self.entry.text.now self.entry.mode self.entry.first_wildcard_pos →
+        ensures by_crate { IsPattern self.entry.text.now self.entry.mode self.entry.first_wildcard_pos → asked.entry.as_git ≡ false →
             IsTrue result ↔ IsAnswered self.entry.text.now self.entry.mode asked.entry }
+        ensures by_git { IsPattern self.entry.text.now self.entry.mode self.entry.first_wildcard_pos → IsTrue asked.entry.as_git →
+            IsTrue result ↔ IsAnsweredAsGit self.entry.text.now self.entry.mode asked.entry }
         ensures steps { counts.new.steps ≤ counts.old.steps + step_limit (length self.entry.text.now) (length asked.entry.path.now) }
         ensures looks { counts.new.looks
             ≤ counts.old.looks + pattern_look_limit (length self.entry.text.now) (length asked.entry.path.now) }
@@ -255,7 +267,10 @@ impl<'a> PatternView<'a> {
         if self.mode.contains(Mode::MUST_BE_DIR) && asked.is_dir != Some(true) {
             return false;
         }
-        let way = with_case(asked.mode, asked.case).way();
+        let way = asked.way();
+        if let Some(front_end) = self.front_apart(asked.as_git) {
+            return self.decide_by_front(asked.path, front_end, way, counts);
+        }
         let start = asked.subject_start(self.mode);
         self.decide(&asked.path[start..], start > 0, way, counts)
     }

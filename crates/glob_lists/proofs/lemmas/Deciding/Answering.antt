@@ -1,9 +1,11 @@
 -- Whether an entry answers for a path: a base leaves one rest of the path, whose last part begins at one place.
-use Rattle.std.proofs.Common.{◌≡◌, ◌↔◌, IsTrue, inl, inr, ℕ, ◌-◌, ◌≤◌, Bool, List, length, drop, Option, None, Some, refl, sym, ap, subst, ◌∙◌, drop_at, arith}
+use Rattle.std.proofs.Common.{◌≡◌, ◌↔◌, IsTrue, inl, inr, ℕ, ◌-◌, ◌≤◌, Bool, true, false, List, length, drop, Option, None, Some, refl, sym, ap, subst, ◌∙◌, drop_at, arith}
 use Rattle.std.specs.Prelude.{slice_get}
 use Rattle.std.proofs.lemmas.Bool.{cases_lt}
 use Rattle.std.proofs.lemmas.Option.{same_Some}
 use Rattle.gix_glob.specs.declared.pattern.Case.{Case}
+use Rattle.glob_lists.specs.declared.rules.Reading.{Reading}
+use Rattle.glob_lists.specs.declared.rules.Reading.TheVariants.{Crate, Git}
 use Rattle.glob_lists.specs.declared.rules.Rules.{Rules}
 use Rattle.gix_glob.specs.declared.pattern.Mode as pattern
 use Rattle.gix_glob.specs.RepositoryPaths.{IsAfterLastSlash, IsBasenameStart}
@@ -36,6 +38,16 @@ basename_once path (Some k) None x y = absurd (y (k - 1) x.after)
 basename_once path (Some k) (Some l) x y = ap Some (omega (arith, not_before path k l x y, not_before path l k y x))
 
 -- ---- a pattern and a path
+
+-- an answer that is by the crate's reading or by Git's is by the reading that is asked for
+pub AnswersAs-told : (reading : Reading) (as_git : Bool) (text : List ℕ) (mode : pattern.Mode) (path : List ℕ) (start : Option ℕ) (is_dir : Bool) (case : Case) (answer : Bool)
+    → (IsTrue as_git ↔ (reading ≡ Git))
+    → (as_git ≡ false → IsTrue answer ↔ AnswersAs Crate text mode path start is_dir case)
+    → (IsTrue as_git → IsTrue answer ↔ AnswersAs Git text mode path start is_dir case)
+    → (IsTrue answer ↔ AnswersAs reading text mode path start is_dir case)
+AnswersAs-told Git as_git text mode path start is_dir case answer asked by_crate by_git = by_git (asked.1 refl)
+AnswersAs-told Crate false text mode path start is_dir case answer asked by_crate by_git = by_crate refl
+AnswersAs-told Crate true text mode path start is_dir case answer asked by_crate by_git = absurd (let clash : Crate ≡ Git = asked.0 refl in cc)
 
 module _ (text : List ℕ) (mode : pattern.Mode) (path : List ℕ) (is_dir : Bool) (rules : Rules) (start : Option ℕ) (basename : IsBasenameStart path start) where
   AnswersFor-only : AnswersFor text mode path is_dir rules → AnswersAs rules.reading text mode path start is_dir rules.case
