@@ -8,4 +8,5 @@ pub mod Numbers
 pub mod Order
 pub mod Paths
 pub mod Search
+pub mod Submodules
 pub mod Zeros

@@ -4,6 +4,7 @@ use Rattle.std.specs.Ordering.{nat_cmp}
 use Rattle.std.specs.declared.cmp.Ordering.TheVariants.{Less}
 use Rattle.std.specs.Cmp.Lexicographic.{slice_cmp}
 use Rattle.git_index.specs.declared.entry.Kind.{Kind}
+use Rattle.git_index.specs.declared.entry.Kind.TheVariants.{Submodule}
 use Rattle.git_index.specs.declared.entry.Entry.{Entry}
 
 -- an entry without where its path lies in memory
@@ -35,3 +36,7 @@ IsTracked entries path = (i : ℕ) × (e : Tracked) × (slice_get entries i ≡ 
 -- an entry's path is this folder's, a slash, and more
 abbrev pub HasBelow : List Tracked → List ℕ → Type 0
 HasBelow entries folder = (i : ℕ) × (e : Tracked) × (rest : List ℕ) × (slice_get entries i ≡ Some e) × (e.path ≡ folder ++ 47 ∷ rest)
+
+-- an entry, at whichever stage, has this path and is a submodule
+abbrev pub IsSubmodule : List Tracked → List ℕ → Type 0
+IsSubmodule entries path = (i : ℕ) × (e : Tracked) × (slice_get entries i ≡ Some e) × (e.path ≡ path) × (e.kind ≡ Submodule)

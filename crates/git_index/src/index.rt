@@ -1,7 +1,7 @@
 //! An index: the entries of an index file, and which paths are among them.
-ghost use Rattle.std.specs.Prelude.{◌≡◌, ◌↔◌, ◌+◌, ◌<◌, Err, IfOk, IsTrue, List, MatchResult, length, map};
+ghost use Rattle.std.specs.Prelude.{◌≡◌, ◌↔◌, ◌+◌, ◌<◌, [], Err, IfOk, IsTrue, List, MatchResult, length, map};
 ghost use Rattle.git_index.specs.declared.fault.IndexFault.TheVariants.{Memory};
-ghost use Rattle.git_index.specs.Entries.{HasBelow, IsTracked, Tracked, tracked};
+ghost use Rattle.git_index.specs.Entries.{HasBelow, IsSubmodule, IsTracked, Tracked, tracked};
 ghost use Rattle.git_index.specs.Format.{HasRoom, IsIndexFile, hash_len};
 ghost use Rattle.git_index.specs.Private.Reading.{Finds};
 
@@ -82,6 +82,15 @@ impl Index {
         Ok(Index { entries })
     }
 
+    /// An index with no entries, as a repository without the file has it.
+    pub fn empty(alloc: Global) -> Index
+        ensures { result ≡ [] }
+    {
+        Index {
+            entries: Vec::new(alloc),
+        }
+    }
+
     /// The entries, by path and stage.
     pub fn entries(&self) -> &[Entry]
         ensures { map tracked result.now ≡ self.now }
@@ -101,5 +110,12 @@ impl Index {
         ensures { IsTrue result ↔ HasBelow self.now folder.now }
     {
         search::has_below(&self.entries, folder)
+    }
+
+    /// Whether an entry, at whichever stage, has this path and is a submodule.
+    pub fn is_submodule(&self, path: &[u8]) -> bool
+        ensures { IsTrue result ↔ IsSubmodule self.now path.now }
+    {
+        search::is_submodule(&self.entries, path)
     }
 }

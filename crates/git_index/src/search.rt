@@ -2,10 +2,10 @@
 ghost use Rattle.std.specs.Prelude.{◌≡◌, ◌↔◌, ◌++◌, ◌∷◌, ℕ, IsTrue, map};
 ghost use Rattle.std.specs.Cmp.Lexicographic.{slice_cmp};
 ghost use Rattle.std.specs.Ordering.{nat_cmp};
-ghost use Rattle.git_index.specs.Entries.{HasBelow, InOrder, IsTracked, tracked};
+ghost use Rattle.git_index.specs.Entries.{HasBelow, InOrder, IsSubmodule, IsTracked, tracked};
 ghost use Rattle.git_index.specs.Private.Search.{Continues, IsFirstFrom};
 
-use crate::entry::Entry;
+use crate::entry::{Entry, Kind};
 use std::cmp::Ordering;
 
 /// How a path compares, by its bytes, with one that is told in two parts.
@@ -69,4 +69,19 @@ pub fn has_below(entries: &[Entry], folder: &[u8]) -> bool
         return false;
     }
     is_below(&entries[first].path, folder)
+}
+
+/// Whether an entry with this path is a submodule. Those of one path, each at a stage of its own, stand beside each other.
+pub fn is_submodule(entries: &[Entry], path: &[u8]) -> bool
+    requires { InOrder (map tracked entries.now) }
+    ensures { IsTrue result ↔ IsSubmodule (map tracked entries.now) path.now }
+{
+    let mut place = first_from(entries, path, b"");
+    while place < entries.len() && entries[place].path.as_slice() == path {
+        if matches!(entries[place].kind, Kind::Submodule) {
+            return true;
+        }
+        place += 1;
+    }
+    false
 }

@@ -82,14 +82,14 @@ not_true false never = refl
 pub not_lesser : (x y z : List ℕ) → is_gt (cmp y x) ≡ false → is_lt (cmp y z) ≡ false → is_lt (cmp x z) ≡ false
 not_lesser x y z up behind = not_true (is_lt (cmp x z)) (λ less. false≢true (sym behind ∙ lesser y x z up less))
 
-alike_by : (r : Ordering) → is_lt r ≡ false → is_gt r ≡ false → r ≡ Equal
+pub alike_by : (r : Ordering) → is_lt r ≡ false → is_gt r ≡ false → r ≡ Equal
 alike_by Less lt gt = absurd (false≢true (sym lt))
 alike_by Equal lt gt = refl
 alike_by Greater lt gt = absurd (false≢true (sym gt))
 
 -- ---- what the search finds
 
-at_place : (entries : List Tracked) (i : ℕ) (e : Tracked) → slice_get entries i ≡ Some e → (i < length entries) × (path_at entries i ≡ e.path)
+pub at_place : (entries : List Tracked) (i : ℕ) (e : Tracked) → slice_get entries i ≡ Some e → (i < length entries) × (path_at entries i ≡ e.path)
 at_place [] i e is = absurd cc
 at_place (f ∷ entries) zero e is = let same : f ≡ e = cc in (omega arith, ap (λ (t : Tracked). t.path) same)
 at_place (f ∷ entries) (suc i) e is = let more = at_place entries i e is in (omega arith, more.1)
@@ -105,7 +105,7 @@ path_at-get (f ∷ entries) zero d lt = refl
 path_at-get (f ∷ entries) (suc i) d lt = path_at-get entries i d (omega arith)
 
 -- an entry that isn't before what is sought stands at the first place or behind it
-stands_behind : (entries : List Tracked) (sought : List ℕ) (first i : ℕ) → IsFirstFrom entries sought first → is_lt (cmp (path_at entries i) sought) ≡ false → first ≤ i
+pub stands_behind : (entries : List Tracked) (sought : List ℕ) (first i : ℕ) → IsFirstFrom entries sought first → is_lt (cmp (path_at entries i) sought) ≡ false → first ≤ i
 stands_behind entries sought first i found behind = elim (cases_lt i first) [ inl lt ↦ absurd (false≢true (sym behind ∙ found.before i lt)) | inr le ↦ le ]
 
 pub tracked_is_first : (entries : List Tracked) (path : List ℕ) (first : ℕ) → InOrder entries → IsFirstFrom entries (path ++ []) first → IsTracked entries path → (first < length entries) × (path_at entries first ≡ path)
