@@ -1,3 +1,4 @@
+pub mod FrontLeftLemmas
 pub mod FrontLemmas
 pub mod LaneLemmas
 pub mod LastLemmas

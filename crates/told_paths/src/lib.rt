@@ -1,6 +1,7 @@
 //! Paths as they are told and shown: where a told path leads, what leads to a path from a folder, and names in quotes.
 #![tactic(auto)]
 
+mod fronts;
 pub mod laws;
 mod paths;
 mod quoting;
@@ -9,7 +10,7 @@ mod unusual;
 mod usual;
 
 pub use paths::{append_seen, below_folder, enter, last_name, leave, walk};
-pub use quoting::append_quoted;
+pub use quoting::{Quoting, append_quoted};
 pub use standpoint::{LeadFault, Standpoint};
 pub use unusual::has_unusual;
 pub use usual::are_usual_names;

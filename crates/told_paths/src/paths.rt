@@ -45,7 +45,7 @@ fn are_names(told: &[u8]) -> bool
 }
 
 /// What stands before the first slash, and what follows it.
-fn first_part(bytes: &[u8]) -> (&[u8], Option<&[u8]>)
+pub(crate) fn first_part(bytes: &[u8]) -> (&[u8], Option<&[u8]>)
     ensures { parts_of bytes.now ≡ result.0.now ∷ parts_left (option_copied result.1) }
 {
     match memchr(b'/', bytes) {
@@ -122,14 +122,14 @@ fn is_folder_name(part: &[u8]) -> bool
 }
 
 /// Whether a part leads nowhere else.
-fn stays(part: &[u8]) -> bool
+pub(crate) fn stays(part: &[u8]) -> bool
     ensures { result ≡ stays part.now }
 {
     part.is_empty() || part == b".".as_slice()
 }
 
 /// Whether a part leads to the folder above.
-fn goes_up(part: &[u8]) -> bool
+pub(crate) fn goes_up(part: &[u8]) -> bool
     ensures { result ≡ goes_up part.now }
 {
     part == b"..".as_slice()

@@ -2,8 +2,9 @@
 ghost use Rattle.std.specs.Prelude.{◌≡◌, ◌↔◌, ◌++◌, [], false, true, IfOk, IsErrOf, IsTrue, None, OnOk, Some};
 ghost use Rattle.told_paths.specs.declared.standpoint.LeadFault.TheVariants.{Empty, Memory, Outside};
 ghost use Rattle.told_paths.specs.Paths.{names_folder, parts_of};
-ghost use Rattle.told_paths.specs.Standpoints.{led, shown};
+ghost use Rattle.told_paths.specs.Standpoints.{led, literal_front, shown};
 
+use crate::fronts::front_left;
 use crate::paths::{append_seen, below_folder, enter, walk};
 use std::alloc::{AllocError, Global};
 use thiserror::Error;
@@ -77,6 +78,18 @@ impl Standpoint {
             *path = Vec::from_slice(alloc, left)?;
         }
         Ok(is_folder)
+    }
+
+    /// How many bytes of the current folder's path stay in front of where a told path leads, which are not told, and so stand for
+    /// themselves where the told path is a pattern: without the slash behind them, and none where the folder lies outside of the work
+    /// tree or the path is told from the root.
+    pub fn literal_front(&self, told: &[u8]) -> usize
+        ensures { result ≡ literal_front self.now told.now }
+    {
+        if !self.is_inside || told.starts_with(b"/") {
+            return 0;
+        }
+        front_left(&self.here, told)
     }
 
     /// Appends what leads from the current folder to a path that is told from the top.

@@ -1,9 +1,11 @@
 //! Bytes that are no letter or sign of ASCII by themselves, so that a name that has one is written in quotes.
 ghost use Rattle.std.specs.Prelude.{◌≡◌, ◌+◌, ◌≤◌, ◌<◌, length, IsTrue};
 ghost use Rattle.std.specs.List.{list_any};
+ghost use Rattle.told_paths.specs.declared.quoting.Quoting.TheVariants.{Full};
 ghost use Rattle.told_paths.specs.Quoting.{is_unusual};
 ghost use Rattle.told_paths.specs.Private.Usual.{HasNoneUnusual};
 
+use crate::quoting::Quoting;
 use std::simd::prelude::*;
 
 /// So many bytes are looked at in one step.
@@ -14,23 +16,32 @@ const HALF_SIZE: usize = 8;
 
 /// Whether some byte of a name is unusual.
 #[tactic(auto, using(crate::proofs::lemmas::UsualLemmas::has_no_unusual))]
-pub fn has_unusual(name: &[u8]) -> bool
-    ensures { result ≡ list_any is_unusual name.now }
+pub fn has_unusual(name: &[u8], quoting: Quoting) -> bool
+    ensures { result ≡ list_any (is_unusual quoting) name.now }
 {
+    // a name that has no unusual byte where bytes past ASCII are some has none where they aren't
     if is_usual_by_blocks(name) {
         return false;
     }
-    has_unusual_byte(name)
+    has_unusual_byte(name, quoting)
 }
 
-/// Whether a byte is a control character, a double quote, a backslash, or one past ASCII.
+/// Whether a byte is a control character, a double quote, a backslash, or, where names are quoted in full, one past ASCII.
+pub(crate) fn is_unusual_by(byte: u8, quoting: Quoting) -> bool
+    ensures { result ≡ is_unusual quoting byte }
+{
+    // so a usual byte takes no other test than where names are quoted in full
+    is_unusual(byte) && (byte < 128 || quoting == Quoting::Full)
+}
+
+/// Whether a byte is one of these where names are quoted in full.
 pub(crate) fn is_unusual(byte: u8) -> bool
-    ensures { result ≡ is_unusual byte }
+    ensures { result ≡ is_unusual Full byte }
 {
     byte < 32 || byte >= 127 || byte == b'"' || byte == b'\\'
 }
 
-/// Whether it is seen in few steps that no byte of a name is unusual. The last block may overlap the one before.
+/// Whether it is seen in few steps that no byte of a name is unusual where it is quoted in full. The last block may overlap the one before.
 #[tactic(auto, using(crate::proofs::lemmas::UsualLemmas::both_usual_runs))]
 fn is_usual_by_blocks(name: &[u8]) -> bool
     ensures { IsTrue result → HasNoneUnusual name.now 0 (length name.now) }
@@ -59,7 +70,7 @@ fn is_usual_by_halves(name: &[u8]) -> bool
         && is_usual_block::<HALF_SIZE>(name, name.len() - HALF_SIZE)
 }
 
-/// Whether no byte of a block is unusual.
+/// Whether no byte of a block is unusual where names are quoted in full.
 #[inline(always)]
 pub(crate) fn is_usual_block<const N: usize>(bytes: &[u8], place: usize) -> bool
     requires { (0 < N) × (N ≤ 64) × (place + N ≤ length bytes.now) }
@@ -73,11 +84,11 @@ pub(crate) fn is_usual_block<const N: usize>(bytes: &[u8], place: usize) -> bool
 
 /// Whether some byte of a name is unusual, seen byte by byte.
 #[inline(never)]
-fn has_unusual_byte(name: &[u8]) -> bool
-    ensures { result ≡ list_any is_unusual name.now }
+fn has_unusual_byte(name: &[u8], quoting: Quoting) -> bool
+    ensures { result ≡ list_any (is_unusual quoting) name.now }
 {
     'bytes: for byte in name {
-        if is_unusual(*byte) {
+        if is_unusual_by(*byte, quoting) {
             return true;
         }
     }

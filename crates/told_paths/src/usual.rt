@@ -2,6 +2,7 @@
 ghost use Rattle.std.specs.Prelude.{◌≡◌, ◌+◌, ◌≤◌, ◌<◌, ℕ, List, Some, false, length, IsTrue};
 ghost use Rattle.std.specs.List.{list_any};
 ghost use Rattle.glob_lists.specs.Paths.{IsPlainPath};
+ghost use Rattle.told_paths.specs.declared.quoting.Quoting.TheVariants.{Full};
 ghost use Rattle.told_paths.specs.Paths.{below, names_folder, parts_of, walk};
 ghost use Rattle.told_paths.specs.Quoting.{is_unusual};
 ghost use Rattle.told_paths.specs.Private.Usual.{BeginAsNames, HasNoneOdd, is_odd};
@@ -9,12 +10,13 @@ ghost use Rattle.told_paths.specs.Private.Usual.{BeginAsNames, HasNoneOdd, is_od
 use crate::unusual::{BLOCK_SIZE, is_unusual, is_usual_block};
 use std::simd::prelude::*;
 
-/// Whether a path is told by names with a slash between each two, none of which begins with a dot or has an unusual byte.
+/// Whether a path is told by names with a slash between each two, none of which begins with a dot or has a byte that is unusual where
+/// names are quoted in full: so it has none that is unusual otherwise.
 #[tactic(auto, using(crate::proofs::lemmas::UsualLemmas::plain_if_usual, crate::proofs::lemmas::UsualLemmas::none_unusual))]
 pub fn are_usual_names(told: &[u8]) -> bool
     ensures lead { IsTrue result → (path : List ℕ) → (walk path (parts_of told.now) ≡ Some (below path told.now)) × (names_folder false (parts_of told.now) ≡ false) }
     ensures plain { IsTrue result → IsPlainPath told.now }
-    ensures usual { IsTrue result → list_any is_unusual told.now ≡ false }
+    ensures usual { IsTrue result → list_any (is_unusual Full) told.now ≡ false }
 {
     if told.is_empty() || is_odd(b'/', told[0]) || told[told.len() - 1] == b'/' {
         return false;

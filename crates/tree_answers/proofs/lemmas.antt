@@ -1,4 +1,5 @@
 pub mod GitPatternLines
+pub mod NameLemmas
 pub mod PatternLines
 pub mod RecordLemmas
 pub mod ZeroLemmas

@@ -8,7 +8,7 @@ use Rattle.tree_answers.specs.Lines.{behind}
 
 -- the name of the attribute, with what parts it from the path before it and from the state behind it
 abbrev pub label_text : Form → List ℕ → List ℕ
-label_text Lines name = codes ": " ++ (name ++ codes ": ")
+label_text (Lines quoting) name = codes ": " ++ (name ++ codes ": ")
 label_text Records name = 0 ∷ (name ++ 0 ∷ [])
 
 -- the path as it is shown, a label, the state, and a line feed or a NUL

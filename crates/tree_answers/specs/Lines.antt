@@ -16,12 +16,12 @@ pub record Decision : Type 0 where
 
 -- the byte behind a part: this sign in lines, a NUL in records
 abbrev pub behind : Form → ℕ → ℕ
-behind Lines sign = sign
+behind (Lines quoting) sign = sign
 behind Records sign = 0
 
--- a name: in lines in quotes, where a byte is unusual
+-- a name: in lines in quotes, where a byte is unusual by their way of quoting
 abbrev pub name_text : Form → List ℕ → List ℕ
-name_text Lines name = quoted name
+name_text (Lines quoting) name = quoted quoting name
 name_text Records name = name
 
 -- whether a text begins with a byte that means something else at the front of a line

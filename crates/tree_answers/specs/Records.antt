@@ -14,9 +14,9 @@ LeadsAsTold told = (path : List ℕ) → (walk path (parts_of told) ≡ Some (be
 abbrev pub is_zero : ℕ → Bool
 is_zero b = b == 0
 
--- whether a name stands in quotes: in lines alone
+-- whether a name stands in quotes: in lines alone, however names are quoted in answers
 abbrev pub begins_with_quote : Form → List ℕ → Bool
-begins_with_quote Lines name = starts_with nat_eq name (codes "\"")
+begins_with_quote (Lines quoting) name = starts_with nat_eq name (codes "\"")
 begins_with_quote Records name = false
 
 -- the told path that a text spells between quotes, up to the first byte 0

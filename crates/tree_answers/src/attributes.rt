@@ -22,11 +22,14 @@ pub fn path_text<'t>(
 ) -> Result<&'t [u8], AllocError>
     ensures { IfOk result (λ text. text.now ≡ name_text form told.entry.now) }
 {
-    if form == Form::Records || !has_unusual(told) {
+    let Form::Lines(quoting) = form else {
+        return Ok(told);
+    };
+    if !has_unusual(told, quoting) {
         return Ok(told);
     }
     quoted.clear();
-    append_quoted(quoted, told)?;
+    append_quoted(quoted, told, quoting)?;
     Ok(quoted)
 }
 
@@ -38,7 +41,7 @@ pub fn append_label(text: &mut Vec<u8>, name: &[u8], form: Form) -> Result<(), A
     ensures { OnOk result (text.new.items ≡ text.old.items ++ label_text form name.now) }
 {
     match form {
-        Form::Lines => {
+        Form::Lines(_) => {
             text.extend_from_slice(b": ")?;
             text.extend_from_slice(name)?;
             text.extend_from_slice(b": ")

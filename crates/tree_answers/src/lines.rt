@@ -4,6 +4,7 @@ ghost use Rattle.std.specs.Io.{StartsWith};
 ghost use Rattle.std.specs.List.{list_any};
 ghost use Rattle.std.specs.Option.{option_map};
 ghost use Rattle.gix_glob.specs.PatternParts.{mode_of, text_of};
+ghost use Rattle.told_paths.specs.declared.quoting.Quoting.TheVariants.{Full};
 ghost use Rattle.told_paths.specs.Quoting.{is_unusual};
 ghost use Rattle.tree_answers.specs.Lines.{begins_with_sign, behind, decision_text, line_text, name_text, pattern_line};
 
@@ -37,7 +38,7 @@ impl<'a> Model for DecidingLine<'a> {
 }
 
 /// Appends what is written about a path that is told so: with `verbose` the line that decides about it, or that none does; then the path.
-/// It may be known that no byte of it is unusual.
+/// It may be known that no byte of it is unusual even where names are quoted in full.
 ///
 /// # Errors
 /// Only where memory was refused.
@@ -49,7 +50,7 @@ pub fn append_line(
     verbose: bool,
     form: Form,
 ) -> Result<(), AllocError>
-    requires { IsTrue is_usual → list_any is_unusual told.now ≡ false }
+    requires { IsTrue is_usual → list_any (is_unusual Full) told.now ≡ false }
     ensures written { OnOk result (text.new.items ≡ text.old.items ++ line_text verbose form line.now told.now) }
     ensures kept { StartsWith text.new.items text.old.items }
 {
@@ -66,7 +67,7 @@ fn behind(form: Form, sign: u8) -> u8
     ensures { result ≡ behind form sign }
 {
     match form {
-        Form::Lines => sign,
+        Form::Lines(_) => sign,
         Form::Records => 0,
     }
 }
@@ -120,13 +121,14 @@ fn append_number(text: &mut Vec<u8>, number: usize) -> Result<(), AllocError>
 }
 
 /// Appends a told path, in quotes where a line needs them.
+#[tactic(auto, using(crate::proofs::lemmas::NameLemmas::usual_name_text))]
 fn append_told(
     text: &mut Vec<u8>,
     told: &[u8],
     is_usual: bool,
     form: Form,
 ) -> Result<(), AllocError>
-    requires { IsTrue is_usual → list_any is_unusual told.now ≡ false }
+    requires { IsTrue is_usual → list_any (is_unusual Full) told.now ≡ false }
     ensures written { OnOk result (text.new.items ≡ text.old.items ++ name_text form told.now) }
     ensures kept { StartsWith text.new.items text.old.items }
 {
@@ -142,7 +144,7 @@ fn append_name(text: &mut Vec<u8>, name: &[u8], form: Form) -> Result<(), AllocE
     ensures kept { StartsWith text.new.items text.old.items }
 {
     match form {
-        Form::Lines => append_quoted(text, name),
+        Form::Lines(quoting) => append_quoted(text, name, quoting),
         Form::Records => text.extend_from_slice(name),
     }
 }

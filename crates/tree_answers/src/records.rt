@@ -21,6 +21,7 @@ pub trait PathAnswerer: Drop {
     ghost use Rattle.std.specs.List.{list_any};
     ghost use Rattle.glob_lists.specs.Paths.{IsPlainPath};
     ghost use Rattle.record_streams.specs.Records.{Adds, GrowsBy, StaysAllowed, answered_by};
+    ghost use Rattle.told_paths.specs.declared.quoting.Quoting.TheVariants.{Full};
     ghost use Rattle.told_paths.specs.Quoting.{is_unusual};
     ghost use Rattle.tree_answers.specs.Records.{LeadsAsTold};
 
@@ -46,7 +47,7 @@ pub trait PathAnswerer: Drop {
         is_usual: bool,
     ) -> Result<(), Self::Fault>
         requires plain { IsTrue is_usual → IsPlainPath told.now }
-        requires usual { IsTrue is_usual → list_any is_unusual told.now ≡ false }
+        requires usual { IsTrue is_usual → list_any (is_unusual Full) told.now ≡ false }
         requires leads { IsTrue is_usual → LeadsAsTold told.now }
         ensures stays { StaysAllowed (answers self.old) (answers self.new) }
         ensures written { OnOk result (Adds (answers self.new told.now) text.old.items text.new.items) }
@@ -85,9 +86,10 @@ pub trait FormWord {
 }
 
 impl FormWord for Brand {
+    ghost use Rattle.told_paths.specs.declared.quoting.Quoting.TheVariants.{Full};
     ghost use Rattle.tree_answers.specs.declared.form.Form.TheVariants.{Lines};
 
-    ghost form = { Lines };
+    ghost form = { Lines Full };
 }
 
 /// What answers each record of the input by the path that it names. In lines a record in quotes is read as Git writes names; what follows
@@ -179,7 +181,7 @@ fn told_path<'t>(
 fn begins_with_quote(form: Form, name: &[u8]) -> bool
     ensures { result ≡ begins_with_quote form name.now }
 {
-    form == Form::Lines && name.starts_with(b"\"")
+    matches!(form, Form::Lines(_)) && name.starts_with(b"\"")
 }
 
 /// What stands before the first byte 0, which ends a name wherever it comes from.

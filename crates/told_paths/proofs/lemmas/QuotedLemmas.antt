@@ -1,11 +1,13 @@
 -- What is written in quotes spells the name.
-use Rattle.std.proofs.Common.{◌≡◌, ◌⊎◌, inl, inr, ⊎_elim, ℕ, ◌+◌, ◌*◌, ◌/◌, ◌%◌, ◌^◌, ◌<◌, ◌≤◌, Bool, true, false, List, [], ◌∷◌, ◌++◌, length, map, Option, None, Some, refl, sym, ap, subst, ◌∙◌, append_assoc, arith}
+use Rattle.std.proofs.Common.{◌≡◌, ◌⊎◌, inl, inr, ⊎_elim, ℕ, ◌/◌, ◌%◌, ◌^◌, ◌<◌, Bool, true, false, List, [], ◌∷◌, ◌++◌, length, map, Option, None, Some, refl, sym, ap, subst, ◌∙◌, arith}
 use Rattle.std.specs.Prelude.{◌==◌, codes, if◌then◌else◌}
 use Rattle.std.specs.List.{AllByRecursion, AllZip, IsAmong, concat, flat_map, list_any}
 use Rattle.std.specs.Str.{byte}
 use Rattle.std.proofs.lemmas.Bool.{cases_Bool, eqb-true, false≢true}
 use Rattle.std.proofs.lemmas.Option.{same_Some}
 use Rattle.glob_attributes.specs.Heads.{IsQuotedHead, SpellsByte, escapes}
+use Rattle.told_paths.specs.declared.quoting.Quoting.{Quoting}
+use Rattle.told_paths.specs.declared.quoting.Quoting.TheVariants.{AsciiOnly, Full}
 use Rattle.told_paths.specs.Quoting.{escape_of, escaped, is_unusual, letter_of, quoted}
 
 -- a choice that gives some letter is the first one, or what else there is
@@ -50,31 +52,54 @@ escape_spells b few (Some letter) is = inr (inl (letter, letter_is_escape b lett
 escape_spells b few None is =
     inr (inr (b / 64, b / 8 % 8, b % 8, omega (arith, few), omega arith, omega arith, refl, omega (arith, few)))
 
--- a byte that isn't unusual is no quote and no backslash
-not_this : (b n : ℕ) → is_unusual b ≡ false → is_unusual n ≡ true → (b ≡ n) → ⊥
-not_this b n usual unusual is = false≢true (sym usual ∙ ap is_unusual is ∙ unusual)
+-- the quote and the backslash are unusual, however names are quoted
+quote_unusual : (quoting : Quoting) → is_unusual quoting (byte "\"") ≡ true
+quote_unusual Full = refl
+quote_unusual AsciiOnly = refl
 
-byte_spelled : (b : ℕ) → b < 2 ^ 8 → SpellsByte b (escaped b)
-byte_spelled b few =
+backslash_unusual : (quoting : Quoting) → is_unusual quoting (byte "\\") ≡ true
+backslash_unusual Full = refl
+backslash_unusual AsciiOnly = refl
+
+-- a byte that isn't unusual is none that is
+not_this : (quoting : Quoting) (b n : ℕ) → is_unusual quoting b ≡ false → is_unusual quoting n ≡ true → (b ≡ n) → ⊥
+not_this quoting b n usual unusual is = false≢true (sym usual ∙ ap (is_unusual quoting) is ∙ unusual)
+
+byte_spelled : (quoting : Quoting) (b : ℕ) → b < 2 ^ 8 → SpellsByte b (escaped quoting b)
+byte_spelled quoting b few =
     ⊎_elim
-    (λ (yes : is_unusual b ≡ true). subst (λ t. SpellsByte b (if t then byte "\\" ∷ escape_of b (letter_of b) else b ∷ [])) (sym yes) (escape_spells b few (letter_of b) refl))
-    (λ (no : is_unusual b ≡ false). subst (λ t. SpellsByte b (if t then byte "\\" ∷ escape_of b (letter_of b) else b ∷ [])) (sym no)
-    (inl (not_this b (byte "\"") no refl, not_this b (byte "\\") no refl, refl)))
-    (cases_Bool (is_unusual b))
+    (λ (yes : is_unusual quoting b ≡ true). subst (λ t. SpellsByte b (if t then byte "\\" ∷ escape_of b (letter_of b) else b ∷ [])) (sym yes) (escape_spells b few (letter_of b) refl))
+    (λ (no : is_unusual quoting b ≡ false). subst (λ t. SpellsByte b (if t then byte "\\" ∷ escape_of b (letter_of b) else b ∷ [])) (sym no)
+    (inl (not_this quoting b (byte "\"") no (quote_unusual quoting), not_this quoting b (byte "\\") no (backslash_unusual quoting), refl)))
+    (cases_Bool (is_unusual quoting b))
 
-each_spelled : (name : List ℕ) → AllByRecursion (λ b. b < 2 ^ 8) name → AllZip SpellsByte name (map escaped name)
-each_spelled [] few = tt
-each_spelled (b ∷ name) few = (byte_spelled b few.0, each_spelled name few.1)
+each_spelled : (quoting : Quoting) (name : List ℕ) → AllByRecursion (λ b. b < 2 ^ 8) name → AllZip SpellsByte name (map (escaped quoting) name)
+each_spelled quoting [] few = tt
+each_spelled quoting (b ∷ name) few = (byte_spelled quoting b few.0, each_spelled quoting name few.1)
 
-joined : (name : List ℕ) → flat_map escaped name ≡ concat (map escaped name)
-joined [] = refl
-joined (b ∷ name) = ap (λ rest. escaped b ++ rest) (joined name)
+joined : (quoting : Quoting) (name : List ℕ) → flat_map (escaped quoting) name ≡ concat (map (escaped quoting) name)
+joined quoting [] = refl
+joined quoting (b ∷ name) = ap (λ rest. escaped quoting b ++ rest) (joined quoting name)
 
 -- what stands in quotes is a quoted head, and nothing follows it
-pub quoted_is_read : (name : List ℕ) → AllByRecursion (λ b. b < 2 ^ 8) name → list_any is_unusual name ≡ true → IsQuotedHead (quoted name) name []
-quoted_is_read name few some = (
-  map escaped name,
-  each_spelled name few,
-  ap (λ t. if t then codes "\"" ++ (flat_map escaped name ++ codes "\"") else name) some
-      ∙ ap (λ text. codes "\"" ++ (text ++ codes "\"")) (joined name),
+pub quoted_is_read : (quoting : Quoting) (name : List ℕ) → AllByRecursion (λ b. b < 2 ^ 8) name → list_any (is_unusual quoting) name ≡ true
+    → IsQuotedHead (quoted quoting name) name []
+quoted_is_read quoting name few some = (
+  map (escaped quoting) name,
+  each_spelled quoting name few,
+  ap (λ t. if t then codes "\"" ++ (flat_map (escaped quoting) name ++ codes "\"") else name) some
+      ∙ ap (λ text. codes "\"" ++ (text ++ codes "\"")) (joined quoting name),
+)
+
+-- a text that begins with a quote has an unusual byte
+begins_unusual : (quoting : Quoting) (rest : List ℕ) → list_any (is_unusual quoting) (codes "\"" ++ rest) ≡ true
+begins_unusual Full rest = refl
+begins_unusual AsciiOnly rest = refl
+
+-- a name without an unusual byte stands as it is, which is no quoted head
+pub plain_is_not_read : (quoting : Quoting) (name : List ℕ) → list_any (is_unusual quoting) name ≡ false
+    → (quoted quoting name ≡ name) × ((other rest : List ℕ) → ¬ IsQuotedHead name other rest)
+plain_is_not_read quoting name usual = (
+  ap (λ t. if t then codes "\"" ++ (flat_map (escaped quoting) name ++ codes "\"") else name) usual,
+  λ other rest head. false≢true (sym usual ∙ ap (list_any (is_unusual quoting)) head.2 ∙ begins_unusual quoting _),
 )

@@ -14,14 +14,14 @@ use Rattle.told_paths.specs.Paths.{AreNames, above, after_slash, below, folder_o
 use Rattle.told_paths.proofs.lemmas.PathLemmas.{eqb_false, split_cut, split_none}
 
 -- no part has a slash
-abbrev HaveNoSlash : List (List ℕ) → Type 0
+abbrev pub HaveNoSlash : List (List ℕ) → Type 0
 HaveNoSlash parts = AllByRecursion (λ part. HasNo (byte "/") part) parts
 
 onto_first-none : (b : ℕ) (parts : List (List ℕ)) → is_slash b ≡ false → HaveNoSlash parts → HaveNoSlash (onto_first b parts)
 onto_first-none b [] other none = ((eqb-false b (byte "/") other, tt), tt)
 onto_first-none b (part ∷ parts) other none = ((eqb-false b (byte "/") other, none.0), none.1)
 
-parts_have_no_slash : (text : List ℕ) → HaveNoSlash (parts_of text)
+pub parts_have_no_slash : (text : List ℕ) → HaveNoSlash (parts_of text)
 parts_have_no_slash [] = (tt, tt)
 parts_have_no_slash (b ∷ text) =
     let later = parts_have_no_slash text in
@@ -51,7 +51,7 @@ none_any : (name : List ℕ) → HasNo (byte "/") name → list_any is_slash nam
 none_any [] none = refl
 none_any (b ∷ name) none = let later = none_any name none.1 in rw (eqb_false b none.0) later
 
-folder_of_name : (name : List ℕ) → HasNo (byte "/") name → folder_of name ≡ []
+pub folder_of_name : (name : List ℕ) → HasNo (byte "/") name → folder_of name ≡ []
 folder_of_name [] none = refl
 folder_of_name (b ∷ name) none = rw (none_any name none.1) refl
 
@@ -62,11 +62,11 @@ any_cut (b ∷ front) name = ⊎_elim
     (λ (other : is_slash b ≡ false). rw other (any_cut front name))
     (cases_Bool (is_slash b))
 
-folder_of_below : (front name : List ℕ) → HasNo (byte "/") name → folder_of (front ++ byte "/" ∷ name) ≡ front
+pub folder_of_below : (front name : List ℕ) → HasNo (byte "/") name → folder_of (front ++ byte "/" ∷ name) ≡ front
 folder_of_below [] name none = rw (none_any name none) refl
 folder_of_below (b ∷ front) name none = rw (any_cut front name) (ap (λ path. b ∷ path) (folder_of_below front name none))
 
-above_below : (path name : List ℕ) → is_name name ≡ true → HasNo (byte "/") name → above (below path name) ≡ Some path
+pub above_below : (path name : List ℕ) → is_name name ≡ true → HasNo (byte "/") name → above (below path name) ≡ Some path
 above_below path [] is none = absurd (false≢true is)
 above_below [] (b ∷ name) is none = ap Some (folder_of_name (b ∷ name) none)
 above_below (p ∷ path) (b ∷ name) is none = ap Some (folder_of_below (p ∷ path) (b ∷ name) none)

@@ -7,6 +7,7 @@ use Rattle.std.proofs.lemmas.Bool.Decides.{Decides-eqb}
 use Rattle.std.proofs.lemmas.Slice.Eq.{starts_is}
 use Rattle.glob_lines.specs.Lines.{HasNo}
 use Rattle.record_streams.specs.Records.{Adds, GrowsBy, answered_by}
+use Rattle.told_paths.specs.declared.quoting.Quoting.TheVariants.{Full}
 use Rattle.told_paths.specs.Quoting.{is_unusual}
 use Rattle.tree_answers.specs.declared.form.Form.{Form}
 use Rattle.tree_answers.specs.declared.form.Form.TheVariants.{Lines, Records}
@@ -50,24 +51,24 @@ neither : (a b : Bool) → (a || b) ≡ false → (a ≡ false) × (b ≡ false)
 neither true b h = absurd (false≢true (sym h))
 neither false b h = (refl, h)
 
-no_zero : (bytes : List ℕ) → list_any is_unusual bytes ≡ false → HasNo 0 bytes
+no_zero : (bytes : List ℕ) → list_any (is_unusual Full) bytes ≡ false → HasNo 0 bytes
 no_zero [] usual = tt
 no_zero (b ∷ bytes) usual =
-    let each = neither (is_unusual b) (list_any is_unusual bytes) usual in
-    ((λ (zero : b ≡ 0). false≢true (sym each.0 ∙ ap is_unusual zero)), no_zero bytes each.1)
+    let each = neither (is_unusual Full b) (list_any (is_unusual Full) bytes) usual in
+    ((λ (zero : b ≡ 0). false≢true (sym each.0 ∙ ap (is_unusual Full) zero)), no_zero bytes each.1)
 
-no_quote : (bytes : List ℕ) → list_any is_unusual bytes ≡ false → starts_with nat_eq bytes (codes "\"") ≡ false
+no_quote : (bytes : List ℕ) → list_any (is_unusual Full) bytes ≡ false → starts_with nat_eq bytes (codes "\"") ≡ false
 no_quote bytes usual = ⊎_elim
     (λ (yes : starts_with nat_eq bytes (codes "\"") ≡ true).
-    absurd (false≢true (sym usual ∙ ap (list_any is_unusual) ((starts_is Decides-eqb bytes (codes "\"") _ refl).0 yes))))
+    absurd (false≢true (sym usual ∙ ap (list_any (is_unusual Full)) ((starts_is Decides-eqb bytes (codes "\"") _ refl).0 yes))))
     (λ (no : starts_with nat_eq bytes (codes "\"") ≡ false). no)
     (cases_Bool (starts_with nat_eq bytes (codes "\"")))
 
-unquoted : (form : Form) (bytes : List ℕ) → list_any is_unusual bytes ≡ false → begins_with_quote form bytes ≡ false
-unquoted Lines bytes usual = no_quote bytes usual
+unquoted : (form : Form) (bytes : List ℕ) → list_any (is_unusual Full) bytes ≡ false → begins_with_quote form bytes ≡ false
+unquoted (Lines quoting) bytes usual = no_quote bytes usual
 unquoted Records bytes usual = refl
 
-pub names_usual : (form : Form) (bytes : List ℕ) → list_any is_unusual bytes ≡ false → NamesPath form bytes bytes
+pub names_usual : (form : Form) (bytes : List ℕ) → list_any (is_unusual Full) bytes ≡ false → NamesPath form bytes bytes
 names_usual form bytes usual =
     let whole : before_first is_zero bytes ≡ bytes = before_none bytes (no_zero bytes usual) in
     inl (ap (begins_with_quote form) whole ∙ unquoted form bytes usual, sym whole)

@@ -1,4 +1,4 @@
-use Rattle.std.proofs.Common.{List, ℕ, ◌+◌, subst, sym}
+use Rattle.std.proofs.Common.{◌+◌, subst, sym}
 use Rattle.std.proofs.lemmas.List.{take_rest}
 use Rattle.told_paths.specs.Paths.{IsLastName}
 use Rattle.told_paths.proofs.lemmas.LastLemmas.{last_name_behind, last_name_whole}

@@ -5,4 +5,4 @@ use Rattle.told_paths.proofs.unusual.has_unusual_byte.Given as goal
 
 -- none of the bytes so far is unusual
 abbrev pub invariant-bytes : goal.invariant-bytes
-invariant-bytes l = list_any is_unusual (take l.byte-index l.name) ≡ false
+invariant-bytes l = list_any (is_unusual l.quoting) (take l.byte-index l.name) ≡ false
