@@ -2,6 +2,7 @@
 use Rattle.std.specs.Prelude.{◌≡◌, ◌≢◌, ◌⊎◌, ℕ, Bool, false, ◌&&◌, ◌||◌, not, if◌then◌else◌, List, [], ◌∷◌, ◌++◌, map, slice_get, take, Option, None, Some, IfSome, MatchOption, is_some}
 use Rattle.std.specs.List.{AllZip, list_any}
 use Rattle.std.specs.Option.{unwrap_or}
+use Rattle.git_index.specs.Entries.{Tracked}
 use Rattle.gix_glob.specs.Bytes.{slash}
 use Rattle.gix_glob.specs.Entries.{Entry}
 use Rattle.gix_glob.specs.EntryLists.{EntryList, entry_list_of}
@@ -13,17 +14,21 @@ use Rattle.glob_trees.specs.Trees.{DecidesInTree}
 use Rattle.glob_trees.specs.Ways.{AreOnTheWay, Folder}
 use Rattle.told_paths.specs.declared.standpoint.Standpoint.{Standpoint}
 use Rattle.told_paths.specs.Paths.{names_folder, parts_of}
-use Rattle.told_paths.specs.Standpoints.{led}
+use Rattle.told_paths.specs.Standpoints.{led, literal_front}
+use Rattle.tracked_paths.specs.Holding.{IsHeld, LiesInSubmodule}
 use Rattle.tree_answers.specs.Lines.{Decision, line_text}
 use Rattle.tree_commands.specs.declared.check_ignore.fault.IgnoreFault.{IgnoreFault}
-use Rattle.tree_commands.specs.declared.check_ignore.fault.IgnoreFault.TheVariants.{Empty, Outside}
+use Rattle.tree_commands.specs.declared.check_ignore.fault.IgnoreFault.TheVariants.{Empty, InSubmodule, Outside}
 use Rattle.tree_commands.specs.declared.check_ignore.flags.IgnoreFlags.{IgnoreFlags}
 use Rattle.tree_commands.specs.Tops.{DecidesForTop}
 
--- What is asked of each told path: where it leads from the top; whether a folder stands there, as far as it is known; the lists that
--- stand before those of all folders, and how many; the rules by which patterns are matched; and what is written.
+-- What is asked of each told path: where it leads from the top, and how many of its bytes there are the current folder's; what is
+-- tracked; whether a folder stands there, as far as it is known; the lists that stand before those of all folders, and how many; the
+-- rules by which patterns are matched; and what is written.
 pub record Question : Type 0 where
   pub leads : List ℕ → Option (List ℕ)
+  pub literal : List ℕ → ℕ
+  pub tracked : List Tracked
   pub kind_of : List ℕ → Option Bool
   pub front_count : ℕ
   pub fronts : List (EntryList (Unit {0}))
@@ -31,9 +36,9 @@ pub record Question : Type 0 where
   pub flags : IgnoreFlags
 
 -- what is asked from a standpoint of a tree, where the kinds of paths are known so far
-abbrev pub question_of : {S T X : Type 0} → Standpoint → IgnoreFlags → TreeParts S T X → (List ℕ → Option Bool) → Question
-question_of standpoint flags tree kind_of =
-    record { leads = led standpoint; kind_of = kind_of; front_count = tree.front_count; fronts = take tree.front_count (map (entry_list_of {V = Unit {0}} (λ _. tt)) tree.lists); rules = tree.rules; flags = flags }
+abbrev pub question_of : {S T X : Type 0} → Standpoint → IgnoreFlags → List Tracked → TreeParts S T X → (List ℕ → Option Bool) → Question
+question_of standpoint flags tracked tree kind_of =
+    record { leads = led standpoint; literal = literal_front standpoint; tracked = tracked; kind_of = kind_of; front_count = tree.front_count; fronts = take tree.front_count (map (entry_list_of {V = Unit {0}} (λ _. tt)) tree.lists); rules = tree.rules; flags = flags }
 
 -- the line at a pair of places, and none for none
 abbrev pub IsLineAt : List (EntryList (Unit {0})) → Option (ℕ × ℕ) → Option Decision → Type 0
@@ -68,6 +73,10 @@ abbrev pub asked_path : Bool → List ℕ → List ℕ
 asked_path is_told [] = []
 asked_path is_told (b ∷ path) = (b ∷ path) ++ (if is_told then slash ∷ [] else [])
 
+-- what is asked about by a told path that leads to this one
+abbrev pub told_path : List ℕ → List ℕ → List ℕ
+told_path told path = asked_path (names_folder false (parts_of told)) path
+
 -- the line that decides about what is asked: none about what is no path of a repository
 abbrev pub IsLineOf : Question → (Folder → EntryList (Unit {0}) → Type 0) → List ℕ → Option Bool → Option Decision → Type 0
 IsLineOf question shows asked known line =
@@ -75,11 +84,18 @@ IsLineOf question shows asked known line =
     ⊎ ((asked ≢ []) × (¬ IsPlainPath asked) × (line ≡ None))
     ⊎ (IsPlainPath asked × IsDeciding question shows asked known line)
 
--- The line that decides about a told path. Whether it is a folder's, what stands there tells, and not how it is told.
+-- the line that decides about what is asked, of which so many bytes are the current folder's: none where an entry of the index is it
+abbrev pub IsLineIn : Question → (Folder → EntryList (Unit {0}) → Type 0) → ℕ → List ℕ → Option Bool → Option Decision → Type 0
+IsLineIn question shows literal asked known line =
+    (IsHeld question.tracked asked literal × (line ≡ None)) ⊎ ((¬ IsHeld question.tracked asked literal) × IsLineOf question shows asked known line)
+
+-- The line that decides about a told path, which leads into no submodule. Whether it is a folder's, what stands there tells, and not how
+-- it is told.
 pub record IsLineFor (question : Question) (shows : Folder → EntryList (Unit {0}) → Type 0) (told : List ℕ) (line : Option Decision) : Type 0 where
   pub path : List ℕ
   pub leads : question.leads told ≡ Some path
-  pub decided : IsLineOf question shows (asked_path (names_folder false (parts_of told)) path) (question.kind_of path) line
+  pub outside : ¬ LiesInSubmodule question.tracked (told_path told path)
+  pub decided : IsLineIn question shows (question.literal told) (told_path told path) (question.kind_of path) line
 
 -- the line, where it counts: a negative one only where lines are written
 abbrev pub counted : Bool → Option Decision → Option Decision
@@ -99,8 +115,9 @@ abbrev pub IsStatus : Question → (Folder → EntryList (Unit {0}) → Type 0) 
 IsStatus question shows is_any paths =
     (lines : List (Option Decision)) × AllZip (IsLineFor question shows) paths lines × (is_any ≡ list_any (λ line. is_some (counted question.flags.verbose line)) lines)
 
--- what a told path may get a fault for: that it leads out of the work tree, or has no bytes, only where it is so
-abbrev pub Refuses : {F : Type 0} → (List ℕ → Option (List ℕ)) → List ℕ → IgnoreFault F → Type 0
-Refuses leads told (Outside path) = (path.items ≡ told) × (leads told ≡ None)
-Refuses leads told Empty = told ≡ []
-Refuses leads told _ = Unit {0}
+-- what a told path may get a fault for: that it leads out of the work tree or into a submodule, or has no bytes, only where it is so
+abbrev pub Refuses : {F : Type 0} → (List ℕ → Option (List ℕ)) → List Tracked → List ℕ → IgnoreFault F → Type 0
+Refuses leads tracked told (Outside path) = (path.items ≡ told) × (leads told ≡ None)
+Refuses leads tracked told (InSubmodule path) = (path.items ≡ told) × (way : List ℕ) × (leads told ≡ Some way) × LiesInSubmodule tracked (told_path told way)
+Refuses leads tracked told Empty = told ≡ []
+Refuses leads tracked told _ = Unit {0}

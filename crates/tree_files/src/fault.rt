@@ -27,6 +27,9 @@ pub enum CheckFault {
     /// The path leads out of the work tree.
     #[error("'{0}' is outside the work tree")]
     Outside(String),
+    /// The path leads into a submodule.
+    #[error("'{0}' is in a submodule")]
+    InSubmodule(String),
     /// A folder above the path is a link.
     #[error("'{0}' is beyond a symbolic link")]
     BeyondLink(String),
@@ -74,6 +77,7 @@ impl CheckFault {
             IgnoreFault::Memory => CheckFault::Memory,
             IgnoreFault::Empty => CheckFault::Empty,
             IgnoreFault::Outside(told) => CheckFault::of_outside(alloc, &told),
+            IgnoreFault::InSubmodule(told) => CheckFault::of_submodule(alloc, &told),
             IgnoreFault::BadlyQuoted => CheckFault::BadlyQuoted,
             IgnoreFault::Source(fault) => fault,
         }
@@ -93,6 +97,14 @@ impl CheckFault {
     fn of_outside(alloc: Global, told: &[u8]) -> CheckFault {
         match String::from_utf8_lossy(alloc, told) {
             Ok(text) => CheckFault::Outside(text),
+            Err(_refused) => CheckFault::Memory,
+        }
+    }
+
+    /// The fault of a told path that leads into a submodule.
+    fn of_submodule(alloc: Global, told: &[u8]) -> CheckFault {
+        match String::from_utf8_lossy(alloc, told) {
+            Ok(text) => CheckFault::InSubmodule(text),
             Err(_refused) => CheckFault::Memory,
         }
     }

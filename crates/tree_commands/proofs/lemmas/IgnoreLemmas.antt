@@ -1,12 +1,14 @@
 -- The line that decides about a told path, and what is kept account of, as what the source shows grows.
-use Rattle.std.proofs.Common.{◌≡◌, ◌⊎◌, inl, inr, ◌≢◌, ℕ, ◌≤◌, Bool, true, false, ◌||◌, List, [], ◌∷◌, ◌++◌, map, take, Option, None, Some, IfOk, IfSome, Result, Ok, Err, IsErr, refl, sym, ap, subst, ◌∙◌, if◌then◌else◌, length, append-nil, length-append, arith}
-use Rattle.std.specs.Prelude.{is_some}
+use Rattle.std.proofs.Common.{◌≡◌, ◌⊎◌, inl, inr, ◌≢◌, ℕ, ◌≤◌, Bool, true, false, ◌||◌, List, [], ◌∷◌, ◌++◌, map, take, Option, None, Some, IfNone, IfOk, IfSome, IsTrue, ◌↔◌, Result, Ok, Err, IsErr, refl, sym, ap, subst, ◌∙◌, if◌then◌else◌, length, append-nil, length-append, arith}
+use Rattle.std.specs.Borrow.{Bor}
+use Rattle.std.specs.Prelude.{is_some, slice_get}
 use Rattle.std.specs.List.{list_any}
 use Rattle.std.proofs.lemmas.Bool.{false≢true}
 use Rattle.std.proofs.Math.Seq.{take-append_seam, take-length}
 use Rattle.std.proofs.lemmas.List.{take-map}
 use Rattle.std.proofs.lemmas.List.Folds.{list_any-append}
 use Rattle.std.proofs.lemmas.Result.{IfOk-weaker}
+use Rattle.git_index.specs.Entries.{Tracked}
 use Rattle.glob_lists.specs.declared.rules.Rules.{Rules}
 use Rattle.gix_glob.specs.Bytes.{slash}
 use Rattle.gix_glob.specs.EntryLists.{EntryList, entry_list_of}
@@ -16,7 +18,8 @@ use Rattle.glob_trees.specs.Ways.{AreOnTheWay, Folder, IsListOf}
 use Rattle.record_streams.specs.Records.{Adds, GrowsBy, StaysAllowed, answered_by}
 use Rattle.told_paths.specs.declared.standpoint.Standpoint.{Standpoint}
 use Rattle.told_paths.specs.Paths.{names_folder, parts_of}
-use Rattle.told_paths.specs.Standpoints.{led}
+use Rattle.told_paths.specs.Standpoints.{led, literal_front}
+use Rattle.tracked_paths.specs.Holding.{IsHeld, LiesIn, LiesInSubmodule}
 use Rattle.tree_answers.specs.Lines.{Decision}
 use Rattle.tree_commands.specs.declared.check_ignore.flags.IgnoreFlags.{IgnoreFlags}
 use Rattle.tree_answers.specs.declared.records.NameFault.TheVariants as name
@@ -24,8 +27,8 @@ use Rattle.tree_answers.specs.Records.{IsRefusal}
 use Rattle.tree_commands.specs.declared.check_ignore.fault.IgnoreFault.{IgnoreFault}
 use Rattle.tree_commands.specs.declared.check_ignore.fault.IgnoreFault.TheVariants.{BadlyQuoted}
 use Rattle.tree_commands.specs.Private.Faults.{IsOfName}
-use Rattle.tree_commands.specs.CheckIgnore.{IsDeciding, IsDecidingForTop, IsIgnoreAnswer, IsLineAt, IsLineFor, IsLineOf, IsStatus, Question, Refuses, asked_path, counted, question_of, text_about}
-use Rattle.tree_commands.specs.Private.Finding.{Finds, FindsTold, IsFound, IsFoundForTop, KeepsTree, lists_of}
+use Rattle.tree_commands.specs.CheckIgnore.{IsDeciding, IsDecidingForTop, IsIgnoreAnswer, IsLineAt, IsLineFor, IsLineIn, IsLineOf, IsStatus, Question, Refuses, asked_path, counted, question_of, text_about, told_path}
+use Rattle.tree_commands.specs.Private.Finding.{Finds, FindsIn, FindsTold, IsFound, IsFoundForTop, KeepsTree, lists_of}
 use Rattle.tree_answers.proofs.lemmas.RecordLemmas.{AllZip-append}
 use Rattle.tree_commands.proofs.lemmas.AnswerLemmas.{AllZip-weaker}
 use Rattle.tree_commands.proofs.lemmas.FindingLemmas.{stands_for_top, stands_there}
@@ -78,11 +81,16 @@ module _ (before after : Folder → EntryList (Unit {0}) → Type 0) (on : (fold
     decided_stays asked known line (inr (inl unplain)) = inr (inl unplain)
     decided_stays asked known line (inr (inr (plain, d))) = inr (inr (plain, deciding_stays asked known line d))
 
+    held_stays : (literal : ℕ) (asked : List ℕ) (known : Option Bool) (line : Option Decision) → IsLineIn question before literal asked known line → IsLineIn question after literal asked known line
+    held_stays literal asked known line (inl held) = inl held
+    held_stays literal asked known line (inr (free, d)) = inr (free, decided_stays asked known line d)
+
     pub line_stays : (told : List ℕ) (line : Option Decision) → IsLineFor question before told line → IsLineFor question after told line
     line_stays told line h = record {
       path = h.path;
       leads = h.leads;
-      decided = decided_stays (asked_path (names_folder false (parts_of told)) h.path) (question.kind_of h.path) line h.decided;
+      outside = h.outside;
+      decided = held_stays (question.literal told) (told_path told h.path) (question.kind_of h.path) line h.decided;
     }
 
     pub answers_stay : StaysAllowed (IsIgnoreAnswer question before) (IsIgnoreAnswer question after)
@@ -124,15 +132,17 @@ module _ {S T X : Type 0} (shows : S → Folder → EntryList (Unit {0}) → Typ
       ∙ (ap (map (entry_list_of {V = Unit {0}} (λ _. tt))) keeps.fronts
       ∙ sym (take-map (entry_list_of {V = Unit {0}} (λ _. tt)) old.front_count old.lists)))
 
-  abbrev asks : ℕ → List (EntryList (Unit {0})) → Rules → (List ℕ → Option Bool) → Standpoint → IgnoreFlags → Question
-  asks count fronts rules kind_of standpoint flags = record { leads = led standpoint; kind_of = kind_of; front_count = count; fronts = fronts; rules = rules; flags = flags }
+  abbrev asks : ℕ → List (EntryList (Unit {0})) → Rules → (List ℕ → Option Bool) → Standpoint → IgnoreFlags → List Tracked → Question
+  asks count fronts rules kind_of standpoint flags tracked =
+      record { leads = led standpoint; literal = literal_front standpoint; tracked = tracked; kind_of = kind_of; front_count = count; fronts = fronts; rules = rules; flags = flags }
 
-  pub question_kept : (standpoint : Standpoint) (flags : IgnoreFlags) (before after : List ℕ → Option Bool) → after ≡ before → question_of standpoint flags new after ≡ question_of standpoint flags old before
-  question_kept standpoint flags before after same =
-      ap (λ n. asks n (take new.front_count (map (entry_list_of {V = Unit {0}} (λ _. tt)) new.lists)) new.rules after standpoint flags) keeps.front_count
-      ∙ (ap (λ fronts. asks old.front_count fronts new.rules after standpoint flags) fronts_kept
-      ∙ (ap (λ rules. asks old.front_count (take old.front_count (map (entry_list_of {V = Unit {0}} (λ _. tt)) old.lists)) rules after standpoint flags) keeps.rules
-      ∙ ap (λ kind_of. asks old.front_count (take old.front_count (map (entry_list_of {V = Unit {0}} (λ _. tt)) old.lists)) old.rules kind_of standpoint flags) same))
+  pub question_kept : (standpoint : Standpoint) (flags : IgnoreFlags) (tracked : List Tracked) (before after : List ℕ → Option Bool) → after ≡ before
+      → question_of standpoint flags tracked new after ≡ question_of standpoint flags tracked old before
+  question_kept standpoint flags tracked before after same =
+      ap (λ n. asks n (take new.front_count (map (entry_list_of {V = Unit {0}} (λ _. tt)) new.lists)) new.rules after standpoint flags tracked) keeps.front_count
+      ∙ (ap (λ fronts. asks old.front_count fronts new.rules after standpoint flags tracked) fronts_kept
+      ∙ (ap (λ rules. asks old.front_count (take old.front_count (map (entry_list_of {V = Unit {0}} (λ _. tt)) old.lists)) rules after standpoint flags tracked) keeps.rules
+      ∙ ap (λ kind_of. asks old.front_count (take old.front_count (map (entry_list_of {V = Unit {0}} (λ _. tt)) old.lists)) old.rules kind_of standpoint flags tracked) same))
 
 -- ---- what is found
 
@@ -157,14 +167,18 @@ module _ {S T X : Type 0} (shows : S → Folder → EntryList (Unit {0}) → Typ
   finds_there asked known pair (inr (inl (some, unplain, none))) = subst (λ (p : Option (ℕ × ℕ)). IfSome p (HasMappingAt tree.lists)) (sym none) tt
   finds_there asked known pair (inr (inr (plain, found))) = found_there asked known pair found
 
-  pub told_there : (leads : Option (List ℕ)) (is_told : Bool) (known : List ℕ → Option Bool) (pair : Option (ℕ × ℕ)) → FindsTold shows leads is_told known tree pair → IfSome pair (HasMappingAt tree.lists)
-  told_there leads is_told known pair finds = finds_there (asked_path is_told finds.path) (known finds.path) pair finds.found
+  in_there : (tracked : List Tracked) (literal : ℕ) (asked : List ℕ) (known : Option Bool) (pair : Option (ℕ × ℕ)) → FindsIn shows tree tracked literal asked known pair → IfSome pair (HasMappingAt tree.lists)
+  in_there tracked literal asked known pair (inl (held, none)) = subst (λ (p : Option (ℕ × ℕ)). IfSome p (HasMappingAt tree.lists)) (sym none) tt
+  in_there tracked literal asked known pair (inr (free, found)) = finds_there asked known pair found
 
-module _ {S T X : Type 0} (shows : S → Folder → EntryList (Unit {0}) → Type 0) (tree : TreeParts S T X) (standpoint : Standpoint) (flags : IgnoreFlags) (kind_of : List ℕ → Option Bool) (told : List ℕ) (pair : Option (ℕ × ℕ)) (line : Option Decision) where
+  pub told_there : (question : Question) (told : List ℕ) (pair : Option (ℕ × ℕ)) → FindsTold shows question told tree pair → IfSome pair (HasMappingAt tree.lists)
+  told_there question told pair finds = in_there question.tracked (question.literal told) (told_path told finds.path) (question.kind_of finds.path) pair finds.found
+
+module _ {S T X : Type 0} (shows : S → Folder → EntryList (Unit {0}) → Type 0) (tree : TreeParts S T X) (standpoint : Standpoint) (flags : IgnoreFlags) (tracked : List Tracked) (kind_of : List ℕ → Option Bool) (told : List ℕ) (pair : Option (ℕ × ℕ)) (line : Option Decision) where
   nothing_there : pair ≡ None → IsLineAt (lists_of tree) pair line → line ≡ None
   nothing_there none there = subst (λ (p : Option (ℕ × ℕ)). IsLineAt (lists_of tree) p line) none there
 
-  decided_here : (asked : List ℕ) (known : Option Bool) → IsLineAt (lists_of tree) pair line → Finds shows tree asked known pair → IsLineOf (question_of standpoint flags tree kind_of) (shows tree.source) asked known line
+  decided_here : (asked : List ℕ) (known : Option Bool) → IsLineAt (lists_of tree) pair line → Finds shows tree asked known pair → IsLineOf (question_of standpoint flags tracked tree kind_of) (shows tree.source) asked known line
   decided_here asked known there (inl (top, found)) = inl (
     top,
     record {
@@ -191,21 +205,31 @@ module _ {S T X : Type 0} (shows : S → Folder → EntryList (Unit {0}) → Typ
     },
   ))
 
-  line_here : FindsTold shows (led standpoint told) (names_folder false (parts_of told)) kind_of tree pair → IsLineAt (lists_of tree) pair line
-      → IsLineFor (question_of standpoint flags tree kind_of) (shows tree.source) told line
-  line_here finds there = record { path = finds.path; leads = finds.led; decided = decided_here (asked_path (names_folder false (parts_of told)) finds.path) (kind_of finds.path) there finds.found }
+  in_here : (literal : ℕ) (asked : List ℕ) (known : Option Bool) → IsLineAt (lists_of tree) pair line → FindsIn shows tree tracked literal asked known pair
+      → IsLineIn (question_of standpoint flags tracked tree kind_of) (shows tree.source) literal asked known line
+  in_here literal asked known there (inl (held, none)) = inl (held, nothing_there none there)
+  in_here literal asked known there (inr (free, found)) = inr (free, decided_here asked known there found)
+
+  line_here : FindsTold shows (question_of standpoint flags tracked tree kind_of) told tree pair → IsLineAt (lists_of tree) pair line
+      → IsLineFor (question_of standpoint flags tracked tree kind_of) (shows tree.source) told line
+  line_here finds there = record {
+    path = finds.path;
+    leads = finds.led;
+    outside = finds.outside;
+    decided = in_here (literal_front standpoint told) (told_path told finds.path) (kind_of finds.path) there finds.found;
+  }
 
   -- the line at the pair that was found is the line for the told path
-  pub line_found : (question : Question) → question_of standpoint flags tree kind_of ≡ question
-      → FindsTold shows (question.leads told) (names_folder false (parts_of told)) question.kind_of tree pair → IsLineAt (lists_of tree) pair line
+  pub line_found : (question : Question) → question_of standpoint flags tracked tree kind_of ≡ question
+      → FindsTold shows question told tree pair → IsLineAt (lists_of tree) pair line
       → IsLineFor question (shows tree.source) told line
   line_found question same =
-      subst (λ (q : Question). FindsTold shows (q.leads told) (names_folder false (parts_of told)) q.kind_of tree pair → IsLineAt (lists_of tree) pair line
+      subst (λ (q : Question). FindsTold shows q told tree pair → IsLineAt (lists_of tree) pair line
       → IsLineFor q (shows tree.source) told line) same line_here
 
   -- what is appended is an answer
-  pub answer_found : (question : Question) → question_of standpoint flags tree kind_of ≡ question
-      → FindsTold shows (question.leads told) (names_folder false (parts_of told)) question.kind_of tree pair → IsLineAt (lists_of tree) pair line
+  pub answer_found : (question : Question) → question_of standpoint flags tracked tree kind_of ≡ question
+      → FindsTold shows question told tree pair → IsLineAt (lists_of tree) pair line
       → (old new : List ℕ) → new ≡ old ++ text_about flags told (counted flags.verbose line) → Adds (IsIgnoreAnswer question (shows tree.source) told) old new
   answer_found question same finds there old new grown = record {
     added = text_about flags told (counted flags.verbose line);
@@ -253,22 +277,68 @@ module _ (leads : Option (List ℕ)) (is_told : Bool) (path : List ℕ) (led : l
     omega (arith, length-append path (slash ∷ [])),
   )
 
-module _ {S T X : Type 0} (shows : S → Folder → EntryList (Unit {0}) → Type 0) (tree : TreeParts S T X) (leads : Option (List ℕ)) (is_told : Bool) (known : List ℕ → Option Bool) (bare asked : List ℕ) (led : leads ≡ Some bare) (same : asked ≡ asked_path is_told bare) where
-  pub told_top : {E : Type 0} (result : Result (Option (ℕ × ℕ)) E) → asked ≡ [] → IfOk result (IsFoundForTop shows tree) → IfOk result (FindsTold shows leads is_told known tree)
-  told_top result top found = IfOk-weaker result (IsFoundForTop shows tree) (FindsTold shows leads is_told known tree) (λ pair here. record { path = bare; led = led; found = inl (sym same ∙ top, here) }) found
+-- what is asked about is known of, where a told path leads to it
+module _ (question : Question) (told bare asked : List ℕ) (led : question.leads told ≡ Some bare) (same : asked ≡ told_path told bare) (outside : ¬ LiesInSubmodule question.tracked asked) where
+  way : {S T X : Type 0} (shows : S → Folder → EntryList (Unit {0}) → Type 0) (tree : TreeParts S T X) (pair : Option (ℕ × ℕ)) → FindsIn shows tree question.tracked (question.literal told) asked (question.kind_of bare) pair
+      → FindsTold shows question told tree pair
+  way shows tree pair found = record {
+    path = bare;
+    led = led;
+    outside = subst (λ (a : List ℕ). ¬ LiesInSubmodule question.tracked a) same outside;
+    found = subst (λ (a : List ℕ). FindsIn shows tree question.tracked (question.literal told) a (question.kind_of bare) pair) same found;
+  }
 
-  pub told_unplain : asked ≢ [] → ¬ IsPlainPath asked → FindsTold shows leads is_told known tree None
-  told_unplain some unplain = record { path = bare; led = led; found = subst (λ (a : List ℕ). Finds shows tree a (known bare) None) same (inr (inl (some, unplain, refl))) }
+  pub told_held : {S T X : Type 0} (shows : S → Folder → EntryList (Unit {0}) → Type 0) (tree : TreeParts S T X) → IsHeld question.tracked asked (question.literal told) → FindsTold shows question told tree None
+  told_held shows tree held = way shows tree None (inl (held, refl))
 
-  pub told_plain : {E : Type 0} (result : Result (Option (ℕ × ℕ)) E) → IsPlainPath asked → IfOk result (IsFound shows tree asked (known bare)) → IfOk result (FindsTold shows leads is_told known tree)
-  told_plain result plain found =
-      IfOk-weaker result (IsFound shows tree asked (known bare)) (FindsTold shows leads is_told known tree)
-      (λ pair here. record { path = bare; led = led; found = subst (λ (a : List ℕ). Finds shows tree a (known bare) pair) same (inr (inr (plain, here))) }) found
+  module _ (free : ¬ IsHeld question.tracked asked (question.literal told)) {S T X : Type 0} (shows : S → Folder → EntryList (Unit {0}) → Type 0) (tree : TreeParts S T X) where
+    pub told_top : {E : Type 0} (result : Result (Option (ℕ × ℕ)) E) → asked ≡ [] → IfOk result (IsFoundForTop shows tree) → IfOk result (FindsTold shows question told tree)
+    told_top result top found = IfOk-weaker result (IsFoundForTop shows tree) (FindsTold shows question told tree) (λ pair here. way shows tree pair (inr (free, inl (top, here)))) found
+
+    pub told_unplain : asked ≢ [] → ¬ IsPlainPath asked → FindsTold shows question told tree None
+    told_unplain some unplain = way shows tree None (inr (free, inr (inl (some, unplain, refl))))
+
+    pub told_plain : {E : Type 0} (result : Result (Option (ℕ × ℕ)) E) → IsPlainPath asked → IfOk result (IsFound shows tree asked (question.kind_of bare)) → IfOk result (FindsTold shows question told tree)
+    told_plain result plain found =
+        IfOk-weaker result (IsFound shows tree asked (question.kind_of bare)) (FindsTold shows question told tree) (λ pair here. way shows tree pair (inr (free, inr (inr (plain, here))))) found
+
+-- ---- what is tracked
+
+-- no entry stands in an index that has none
+stands_in_none : (tracked : List Tracked) (i : ℕ) (e : Tracked) → tracked ≡ [] → slice_get tracked i ≡ Some e → ⊥
+stands_in_none [] i e none there = absurd (cc)
+stands_in_none (t ∷ tracked) i e none there = absurd (cc)
+
+-- without an index nothing is
+pub none_held : (tracked : List Tracked) (asked : List ℕ) (literal : ℕ) → tracked ≡ [] → ¬ IsHeld tracked asked literal
+none_held tracked asked literal none = λ held. stands_in_none tracked held.0 held.1 none held.2
+
+pub none_below : (tracked : List Tracked) (asked : List ℕ) → tracked ≡ [] → ¬ LiesInSubmodule tracked asked
+none_below tracked asked none = λ below. stands_in_none tracked below.1.3.0 below.1.3.1 none below.1.3.2
+
+-- a path lies in one exactly where one is found
+pub lies_in_some : (tracked own : List Tracked) (asked : List ℕ) → own ≡ tracked → (found : Option (Bor (List ℕ))) (is_found : Bool) → is_found ≡ is_some found
+    → IfSome found (λ path. LiesIn own asked path.now × ((other : List ℕ) → LiesIn own asked other → length path.now ≤ length other)) → IfNone found ((path : List ℕ) → ¬ (LiesIn own asked path))
+    → IsTrue is_found ↔ LiesInSubmodule tracked asked
+lies_in_some tracked own asked same None is_found is some none = (
+  (λ yes. absurd (false≢true (sym is ∙ yes))),
+  (λ (below : LiesInSubmodule tracked asked). absurd (none below.0 (subst (λ (t : List Tracked). LiesIn t asked below.0) (sym same) below.1))),
+)
+lies_in_some tracked own asked same (Some path) is_found is some none = (
+  (λ yes. (path.now, subst (λ (t : List Tracked). LiesIn t asked path.now) same some.0)),
+  (λ below. is),
+)
+
+-- what is held is so of the question
+pub held_as_asked : (tracked own : List Tracked) (asked : List ℕ) (literal front : ℕ) → own ≡ tracked → front ≡ literal → (is_held : Bool) → IsTrue is_held ↔ IsHeld own asked front → IsTrue is_held ↔ IsHeld tracked asked literal
+held_as_asked tracked own asked literal front same here is_held held =
+    subst (λ (t : List Tracked). IsTrue is_held ↔ IsHeld t asked literal) same (subst (λ (n : ℕ). IsTrue is_held ↔ IsHeld own asked n) here held)
 
 -- ---- faults
 
 -- a fault of a run is that of a path, or that a record names none
-pub refusal_told : {F : Type 0} (leads : List ℕ → Option (List ℕ)) (fault : IgnoreFault F) → IsRefusal (Refuses leads) IsOfName fault → ((told : List ℕ) × Refuses leads told fault) ⊎ (fault ≡ BadlyQuoted)
-refusal_told leads fault (inl told) = inl told
-refusal_told leads fault (inr (name.Memory, same)) = inl ([], subst (Refuses leads []) (sym same) tt)
-refusal_told leads fault (inr (name.BadlyQuoted, same)) = inr same
+pub refusal_told : {F : Type 0} (leads : List ℕ → Option (List ℕ)) (tracked : List Tracked) (fault : IgnoreFault F) → IsRefusal (Refuses leads tracked) IsOfName fault
+    → ((told : List ℕ) × Refuses leads tracked told fault) ⊎ (fault ≡ BadlyQuoted)
+refusal_told leads tracked fault (inl told) = inl told
+refusal_told leads tracked fault (inr (name.Memory, same)) = inl ([], subst (Refuses leads tracked []) (sym same) tt)
+refusal_told leads tracked fault (inr (name.BadlyQuoted, same)) = inr same

@@ -1,6 +1,7 @@
 -- What is found of a path: the pair of places of the pattern that decides about it, over the lists of a tree.
 use Rattle.std.specs.Prelude.{◌≡◌, ◌≢◌, ◌⊎◌, ℕ, Bool, true, List, [], map, take, Option, None, Some, IfSome}
 use Rattle.std.specs.Option.{unwrap_or}
+use Rattle.git_index.specs.Entries.{Tracked}
 use Rattle.gix_glob.specs.declared.search.pattern.list.List as patterns
 use Rattle.gix_glob.specs.declared.search.pattern.mapping.Mapping.{Mapping}
 use Rattle.gix_glob.specs.Entries.{Entry}
@@ -12,7 +13,8 @@ use Rattle.glob_trees.specs.TreeParts.{StandAt, TreeParts}
 use Rattle.glob_trees.specs.Trees.{DecidesInTree}
 use Rattle.glob_trees.specs.Ways.{AreOnTheWay, Folder, GoesOn}
 use Rattle.tree_answers.specs.Lines.{Decision}
-use Rattle.tree_commands.specs.CheckIgnore.{asked_path}
+use Rattle.tracked_paths.specs.Holding.{IsHeld, LiesInSubmodule}
+use Rattle.tree_commands.specs.CheckIgnore.{Question, told_path}
 use Rattle.tree_commands.specs.Tops.{DecidesForTop}
 
 -- the lists of a tree as plain data
@@ -56,8 +58,14 @@ Finds shows tree asked known pair =
     ⊎ ((asked ≢ []) × (¬ IsPlainPath asked) × (pair ≡ None))
     ⊎ (IsPlainPath asked × IsFound shows tree asked known pair)
 
--- where a path leads that may be told as a folder's, and what is found there
-pub record FindsTold {S T X : Type 0} (shows : S → Folder → EntryList (Unit {0}) → Type 0) (leads : Option (List ℕ)) (is_told : Bool) (known : List ℕ → Option Bool) (tree : TreeParts S T X) (pair : Option (ℕ × ℕ)) : Type 0 where
+-- what is found of what is asked, of which so many bytes are the current folder's: nothing, where an entry of the index is it
+abbrev pub FindsIn : {S T X : Type 0} → (S → Folder → EntryList (Unit {0}) → Type 0) → TreeParts S T X → List Tracked → ℕ → List ℕ → Option Bool → Option (ℕ × ℕ) → Type 0
+FindsIn shows tree tracked literal asked known pair =
+    (IsHeld tracked asked literal × (pair ≡ None)) ⊎ ((¬ IsHeld tracked asked literal) × Finds shows tree asked known pair)
+
+-- where a told path leads, which is into no submodule, and what is found there
+pub record FindsTold {S T X : Type 0} (shows : S → Folder → EntryList (Unit {0}) → Type 0) (question : Question) (told : List ℕ) (tree : TreeParts S T X) (pair : Option (ℕ × ℕ)) : Type 0 where
   pub path : List ℕ
-  pub led : leads ≡ Some path
-  pub found : Finds shows tree (asked_path is_told path) (known path) pair
+  pub led : question.leads told ≡ Some path
+  pub outside : ¬ LiesInSubmodule question.tracked (told_path told path)
+  pub found : FindsIn shows tree question.tracked (question.literal told) (told_path told path) (question.kind_of path) pair

@@ -1,5 +1,5 @@
 //! What answers each told path by the line that decides about it.
-ghost use Rattle.std.specs.Prelude.{◌≡◌, ◌≤◌, ◌++◌, false, IfErr, IfOk, IfSome, IsTrue, None, Option, Some, is_some, [], length, option_map, take};
+ghost use Rattle.std.specs.Prelude.{◌≡◌, ◌↔◌, ℕ, ◌≤◌, ◌++◌, false, IfErr, IfOk, IfSome, IsOk, IsTrue, List, None, Option, Some, is_some, [], length, option_map, take};
 ghost use Rattle.std.specs.Io.{StartsWith};
 ghost use Rattle.std.specs.List.{list_any};
 ghost use Rattle.std.specs.Option.{unwrap_or};
@@ -9,11 +9,13 @@ ghost use Rattle.gix_glob.specs.EntryLists.{entry_list_of};
 ghost use Rattle.glob_lists.specs.Paths.{IsPlainPath};
 ghost use Rattle.glob_trees.specs.TreeParts.{HasMappingAt};
 ghost use Rattle.glob_trees.specs.Ways.{GoesOn};
+ghost use Rattle.told_paths.specs.declared.quoting.Quoting.TheVariants.{Full};
 ghost use Rattle.told_paths.specs.Paths.{names_folder, parts_of};
 ghost use Rattle.told_paths.specs.Quoting.{is_unusual};
+ghost use Rattle.tracked_paths.specs.Holding.{IsHeld, LiesInSubmodule};
 ghost use Rattle.tree_answers.specs.Lines.{Decision};
 ghost use Rattle.tree_answers.specs.Records.{LeadsAsTold};
-ghost use Rattle.tree_commands.specs.CheckIgnore.{IsLineAt, Refuses, asked_path, counted, question_of, text_about};
+ghost use Rattle.tree_commands.specs.CheckIgnore.{IsLineAt, Refuses, counted, question_of, text_about, told_path};
 ghost use Rattle.tree_commands.specs.Private.Finding.{FindsTold, line_of, lists_of};
 
 use crate::check_ignore::fault::IgnoreFault;
@@ -22,13 +24,15 @@ use crate::check_ignore::flags::IgnoreFlags;
 use crate::check_ignore::kinds::PathKinds;
 use crate::check_ignore::running::IgnoreSources;
 use crate::check_ignore::unlinked::UnlinkedFolders;
-use gix_glob::search::pattern::{List, Mapping};
+use gix_glob::search::pattern;
+use gix_glob::search::pattern::Mapping;
 use glob_lines::IgnoreLines;
 use glob_lists::plain_path;
 use glob_trees::FolderLists;
 use std::alloc::{AllocError, Global};
 use std::marker::{Brand, PhantomData};
 use told_paths::{LeadFault, Standpoint};
+use tracked_paths::TrackedPaths;
 use tree_answers::{DecidingLine, PathAnswerer, append_line};
 
 /// What is asked, in words that contracts alone have.
@@ -42,9 +46,10 @@ impl AskedQuestion for Brand {
     ghost use Rattle.std.specs.Prelude.{None, [], false};
     ghost use Rattle.gix_glob.specs.declared.pattern.Case.TheVariants.{Sensitive};
     ghost use Rattle.glob_lists.specs.Rules.{by_git};
+    ghost use Rattle.told_paths.specs.declared.quoting.Quoting.TheVariants.{Full};
     ghost use Rattle.tree_answers.specs.declared.form.Form.TheVariants.{Lines};
 
-    ghost question = { record { leads = λ _. None; kind_of = λ _. None; front_count = 0; fronts = []; rules = by_git Sensitive; flags = record { form = Lines; verbose = false; non_matching = false; quiet = false } } };
+    ghost question = { record { leads = λ _. None; literal = λ _. 0; tracked = []; kind_of = λ _. None; front_count = 0; fronts = []; rules = by_git Sensitive; flags = record { form = Lines Full; verbose = false; non_matching = false; quiet = false } } };
 }
 
 /// What answers each told path by the tree. Its type names what is asked: so a run keeps the question, whatever it does to the answerer.
@@ -54,12 +59,14 @@ pub(crate) struct IgnoreAsker<'a, S: FolderLists<IgnoreLines>, K: PathKinds, Q: 
     standpoint: &'a Standpoint,
     flags: IgnoreFlags,
     finder: Finder<S, K>,
+    /// The paths that the index tracks.
+    tracked: TrackedPaths,
     /// Where a told path led that isn't the path from the top itself.
     path: Vec<u8>,
     /// Whether a line that counts decided about some path.
     is_any: bool,
     question: PhantomData<Q>,
-    ghost asked: { question_of standpoint.now flags finder.tree (K.kind_of finder.kinds) ≡ Q.question },
+    ghost asked: { question_of standpoint.now flags tracked finder.tree (K.kind_of finder.kinds) ≡ Q.question },
 }
 
 impl<
@@ -76,7 +83,7 @@ impl<
 
     ghost answered = { λ self. IsStatus Q.question (S.shows (Unit {0}) self.finder.tree.source) self.is_any };
 
-    ghost refuses = { Refuses Q.question.leads };
+    ghost refuses = { Refuses Q.question.leads Q.question.tracked };
 
     fn answer_path(
         &mut self,
@@ -104,10 +111,14 @@ impl<
         flags: IgnoreFlags,
         sources: IgnoreSources<S, K>,
     ) -> IgnoreAsker<'a, S, K, Q>
-        requires { question_of standpoint.now flags sources.tree (K.kind_of sources.kinds) ≡ Q.question }
+        requires { question_of standpoint.now flags sources.tracked sources.tree (K.kind_of sources.kinds) ≡ Q.question }
         ensures { result.is_any ≡ false }
     {
-        let IgnoreSources { tree, kinds } = sources;
+        let IgnoreSources {
+            tree,
+            kinds,
+            tracked,
+        } = sources;
         let finder = Finder {
             tree,
             kinds,
@@ -118,6 +129,7 @@ impl<
             standpoint,
             flags,
             finder,
+            tracked,
             path: Vec::new(alloc),
             is_any: false,
             question: PhantomData,
@@ -133,15 +145,23 @@ impl<
 
     /// Gives the sources back.
     pub(crate) fn into_sources(self) -> IgnoreSources<S, K>
-        ensures { result ≡ record { tree = self.entry.finder.tree; kinds = self.entry.finder.kinds } }
+        ensures { result ≡ record { tree = self.entry.finder.tree; kinds = self.entry.finder.kinds; tracked = self.entry.tracked } }
     {
+        let IgnoreAsker {
+            finder,
+            tracked,
+            ..
+        } = self;
+        let Finder { tree, kinds, .. } = finder;
         IgnoreSources {
-            tree: self.finder.tree,
-            kinds: self.finder.kinds,
+            tree,
+            kinds,
+            tracked,
         }
     }
 
-    /// Which pattern decides about a told path. Usual names that are told from the top are the path itself.
+    /// Which pattern decides about a told path. Usual names that are told from the top are the path itself; without an index nothing is
+    /// tracked.
     fn find(
         &mut self,
         told: &[u8],
@@ -149,12 +169,12 @@ impl<
     ) -> Result<Option<(usize, usize)>, IgnoreFault<S::Fault>>
         requires plain { IsTrue is_usual → IsPlainPath told.now }
         requires leads { IsTrue is_usual → LeadsAsTold told.now }
-        ensures found { IfOk result (FindsTold (S.shows (Unit {0})) (Q.question.leads told.now) (names_folder false (parts_of told.now)) Q.question.kind_of self.new.finder.tree) }
+        ensures found { IfOk result (FindsTold (S.shows (Unit {0})) Q.question told.now self.new.finder.tree) }
         ensures goes_on { GoesOn (S.shows (Unit {0})) self.old.finder.tree.source self.new.finder.tree.source }
         ensures same { self.new.is_any ≡ self.old.is_any }
-        ensures faults { IfErr result (Refuses Q.question.leads told.now) }
+        ensures faults { IfErr result (Refuses Q.question.leads Q.question.tracked told.now) }
     {
-        if is_usual && self.standpoint.is_at_top() {
+        if is_usual && self.standpoint.is_at_top() && self.tracked.is_empty() {
             return self.finder.find(told, told);
         }
         self.find_led(told)
@@ -163,12 +183,39 @@ impl<
     /// The same, of a path that has to be led to.
     #[inline(never)]
     fn find_led(&mut self, told: &[u8]) -> Result<Option<(usize, usize)>, IgnoreFault<S::Fault>>
-        ensures found { IfOk result (FindsTold (S.shows (Unit {0})) (Q.question.leads told.now) (names_folder false (parts_of told.now)) Q.question.kind_of self.new.finder.tree) }
+        ensures found { IfOk result (FindsTold (S.shows (Unit {0})) Q.question told.now self.new.finder.tree) }
         ensures goes_on { GoesOn (S.shows (Unit {0})) self.old.finder.tree.source self.new.finder.tree.source }
         ensures same { self.new.is_any ≡ self.old.is_any }
-        ensures faults { IfErr result (Refuses Q.question.leads told.now) }
+        ensures faults { IfErr result (Refuses Q.question.leads Q.question.tracked told.now) }
     {
         let bare = self.lead(told)?;
+        if self.is_in_submodule() {
+            self.finder.check_links(&self.path, &self.path[..bare])?;
+            return Err(self.in_submodule(told, bare));
+        }
+        if self.is_held(told) {
+            self.finder.check_links(&self.path, &self.path[..bare])?;
+            return Ok(None);
+        }
+        self.find_untracked(told, bare)
+    }
+
+    /// Which pattern decides about what is asked, of which `bare` bytes come before a slash at the end, and which no entry of the index is.
+    fn find_untracked(
+        &mut self,
+        told: &[u8],
+        bare: usize,
+    ) -> Result<Option<(usize, usize)>, IgnoreFault<S::Fault>>
+        requires leads { Q.question.leads told.now ≡ Some (take bare self.old.path.items) }
+        requires asked { self.old.path.items ≡ told_path told.now (take bare self.old.path.items) }
+        requires whole { bare ≤ length self.old.path.items }
+        requires outside { ¬ LiesInSubmodule Q.question.tracked self.old.path.items }
+        requires free { ¬ IsHeld Q.question.tracked self.old.path.items (Q.question.literal told.now) }
+        ensures found { IfOk result (FindsTold (S.shows (Unit {0})) Q.question told.now self.new.finder.tree) }
+        ensures goes_on { GoesOn (S.shows (Unit {0})) self.old.finder.tree.source self.new.finder.tree.source }
+        ensures same { self.new.is_any ≡ self.old.is_any }
+        ensures faults { IfErr result (Refuses Q.question.leads Q.question.tracked told.now) }
+    {
         if self.path.is_empty() {
             return self.finder.find_top();
         }
@@ -178,14 +225,43 @@ impl<
         self.finder.find(&self.path, &self.path[..bare])
     }
 
+    /// Whether what is asked about lies in a submodule.
+    fn is_in_submodule(&self) -> bool
+        ensures { IsTrue result ↔ LiesInSubmodule Q.question.tracked self.now.path.items }
+    {
+        self.tracked.submodule_of(&self.path).is_some()
+    }
+
+    /// Whether an entry of the index is what is asked about, so that no pattern decides.
+    fn is_held(&self, told: &[u8]) -> bool
+        ensures { IsTrue result ↔ IsHeld Q.question.tracked self.now.path.items (Q.question.literal told.now) }
+    {
+        let literal = self.standpoint.literal_front(told);
+        self.tracked.holds(&self.path, literal)
+    }
+
+    /// The fault of a told path that leads into a submodule.
+    fn in_submodule(&self, told: &[u8], bare: usize) -> IgnoreFault<S::Fault>
+        requires leads { Q.question.leads told.now ≡ Some (take bare self.now.path.items) }
+        requires asked { self.now.path.items ≡ told_path told.now (take bare self.now.path.items) }
+        requires below { LiesInSubmodule Q.question.tracked self.now.path.items }
+        ensures { Refuses Q.question.leads Q.question.tracked told.now result }
+    {
+        match Vec::from_slice(self.alloc, told) {
+            Ok(path) => IgnoreFault::InSubmodule(path),
+            Err(_refused) => IgnoreFault::Memory,
+        }
+    }
+
     /// Goes where a told path leads: `path` becomes what is asked about, with a slash at its end where it is told as a folder's. The answer
     /// is how many of its bytes come before that slash.
     fn lead(&mut self, told: &[u8]) -> Result<usize, IgnoreFault<S::Fault>>
         ensures leads { IfOk result (λ bare. (Q.question.leads told.now ≡ Some (take bare self.new.path.items))
-            × (self.new.path.items ≡ asked_path (names_folder false (parts_of told.now)) (take bare self.new.path.items)) × (bare ≤ length self.new.path.items)) }
+            × (self.new.path.items ≡ told_path told.now (take bare self.new.path.items)) × (bare ≤ length self.new.path.items)) }
+        ensures tracked { self.new.tracked ≡ self.old.tracked }
         ensures finder { self.new.finder ≡ self.old.finder }
         ensures same { self.new.is_any ≡ self.old.is_any }
-        ensures faults { IfErr result (Refuses Q.question.leads told.now) }
+        ensures faults { IfErr result (Refuses Q.question.leads Q.question.tracked told.now) }
     {
         let is_folder = self.go(told)?;
         let bare = self.path.len();
@@ -202,7 +278,7 @@ impl<
         ensures leads { IfOk result (λ is_folder. (Q.question.leads told.now ≡ Some self.new.path.items) × (is_folder ≡ names_folder false (parts_of told.now))) }
         ensures finder { self.new.finder ≡ self.old.finder }
         ensures same { self.new.is_any ≡ self.old.is_any }
-        ensures faults { IfErr result (Refuses Q.question.leads told.now) }
+        ensures faults { IfErr result (Refuses Q.question.leads Q.question.tracked told.now) }
     {
         match self.standpoint.lead(self.alloc, &mut self.path, told) {
             Ok(is_folder) => Ok(is_folder),
@@ -224,7 +300,7 @@ impl<
         pair: Option<(usize, usize)>,
     ) -> Result<bool, AllocError>
         requires there { IfSome pair (HasMappingAt self.now.finder.tree.lists) }
-        requires usual { IsTrue is_usual → list_any is_unusual told.now ≡ false }
+        requires usual { IsTrue is_usual → list_any (is_unusual Full) told.now ≡ false }
         ensures appended { IfOk result (λ is_counted. (line : Option Decision) × IsLineAt (lists_of self.now.finder.tree) pair line
             × (text.new.items ≡ text.old.items ++ text_about self.now.flags told.now (counted self.now.flags.verbose line))
             × (is_counted ≡ is_some (counted self.now.flags.verbose line))) }
@@ -259,7 +335,7 @@ impl<
 }
 
 /// The line of a mapping of a list.
-fn line_of<'t>(list: &'t List<IgnoreLines>, mapping: &'t Mapping<()>) -> DecidingLine<'t>
+fn line_of<'t>(list: &'t pattern::List<IgnoreLines>, mapping: &'t Mapping<()>) -> DecidingLine<'t>
     ensures { result ≡ line_of (entry_list_of (λ _. tt) list.entry.now) (entry_of (λ _. tt) mapping.entry.now) }
 {
     DecidingLine {
@@ -270,7 +346,7 @@ fn line_of<'t>(list: &'t List<IgnoreLines>, mapping: &'t Mapping<()>) -> Decidin
 }
 
 /// The name of a list's file; no bytes where it has none.
-fn source_of(list: &List<IgnoreLines>) -> &[u8]
+fn source_of(list: &pattern::List<IgnoreLines>) -> &[u8]
     ensures { result.now ≡ unwrap_or (option_map string_bytes list.entry.now.source) [] }
 {
     match &list.source {

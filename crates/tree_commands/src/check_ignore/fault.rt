@@ -22,6 +22,9 @@ pub enum IgnoreFault<F> {
     /// This path, as it was told, leads out of the work tree.
     #[error("the path leads out of the work tree")]
     Outside(Vec<u8>),
+    /// This path, as it was told, leads into a submodule.
+    #[error("the path lies in a submodule")]
+    InSubmodule(Vec<u8>),
     /// A record in quotes isn't spelt as Git writes a name.
     #[error("a name in quotes can't be read")]
     BadlyQuoted,

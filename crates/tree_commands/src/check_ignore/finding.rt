@@ -64,6 +64,21 @@ impl<S: FolderLists<IgnoreLines> + Drop, K: PathKinds<Fault = S::Fault>> Finder<
         Ok(deciding_in(&self.tree))
     }
 
+    /// Refuses a path of which a folder is a link; `bare` is the path without a slash at its end.
+    pub(crate) fn check_links(
+        &mut self,
+        path: &[u8],
+        bare: &[u8],
+    ) -> Result<(), IgnoreFault<S::Fault>>
+        ensures tree { self.new.tree ≡ self.old.tree }
+        ensures kinds { K.kind_of self.new.kinds ≡ K.kind_of self.old.kinds }
+        ensures faults { IfErr result IsOfSources }
+    {
+        let is_told_folder = bare.len() < path.len();
+        self.unlinked
+            .check_path(&mut self.kinds, bare, is_told_folder, 0)
+    }
+
     /// Whether the folder of a path is neither one that the tree entered on its way, nor the one that was asked for last.
     fn has_unseen_folder(&self, path: &RepositoryPath<'_>) -> bool {
         let Some(start) = path.basename_start() else {

@@ -29,6 +29,7 @@ use std::alloc::Global;
 use std::io::{Read, Write};
 use std::marker::{Brand, PhantomData};
 use told_paths::Standpoint;
+use tracked_paths::TrackedPaths;
 
 /// Where answers come from.
 #[derive(Drop)]
@@ -37,14 +38,16 @@ pub struct IgnoreSources<S: FolderLists<IgnoreLines>, K> {
     pub tree: Tree<IgnoreLines, S>,
     /// What stands at paths.
     pub kinds: K,
+    /// The paths that the index tracks.
+    pub tracked: TrackedPaths,
 }
 
 /// Reads records to the reader's end, and writes for each the text about the path that it names, as `git check-ignore --stdin` does: with
 /// the line that decides about it, or only where one does, as the flags say. The answer is whether a line that counts decides about
 /// some path. Gives the sources back.
 ///
-/// A path is told from the standpoint. The line is that of the pattern that [`Tree::find`] answers, by the rules of the tree; about the top
-/// only patterns for names decide. A slash at the end of a path belongs to it. What stands at a path is asked only where the answer depends
+/// A path is told from the standpoint. About one that the index has ([`TrackedPaths::holds`]) no line decides. Else the line is that of the
+/// pattern that [`Tree::find`] answers, by the rules of the tree; about the top only patterns for names decide. A slash at the end of a path belongs to it. What stands at a path is asked only where the answer depends
 /// on it; links are looked for where the tree didn't enter the folders of a path.
 ///
 /// How records are read and answers written, [`RecordStream::run`](record_streams::RecordStream::run) tells. No call on the reader or
@@ -71,13 +74,13 @@ pub fn run_check_ignore<
 )
     requires readable { has_failed records.old ≡ false }
     requires writable { has_failed writer.old ≡ false }
-    ensures ends { EndsRun (λ is_any. TextOfNamed (IsIgnoreAnswer (question_of standpoint.now flags sources.tree (K.kind_of sources.kinds)) (S.shows (Unit {0}) result.0.tree.source)) (IsStatus (question_of standpoint.now flags sources.tree (K.kind_of sources.kinds)) (S.shows (Unit {0}) result.0.tree.source) is_any) flags.form)
-        (TextOf (IsTextOf (IsIgnoreAnswer (question_of standpoint.now flags sources.tree (K.kind_of sources.kinds)) (S.shows (Unit {0}) result.0.tree.source)) flags.form)) (behind flags.form 10) result.1
+    ensures ends { EndsRun (λ is_any. TextOfNamed (IsIgnoreAnswer (question_of standpoint.now flags sources.tracked sources.tree (K.kind_of sources.kinds)) (S.shows (Unit {0}) result.0.tree.source)) (IsStatus (question_of standpoint.now flags sources.tracked sources.tree (K.kind_of sources.kinds)) (S.shows (Unit {0}) result.0.tree.source) is_any) flags.form)
+        (TextOf (IsTextOf (IsIgnoreAnswer (question_of standpoint.now flags sources.tracked sources.tree (K.kind_of sources.kinds)) (S.shows (Unit {0}) result.0.tree.source)) flags.form)) (behind flags.form 10) result.1
         (R.remaining (inner records.old)) (R.remaining (inner records.new)) (W.contents (inner writer.old)) (W.contents (inner writer.new))
         (has_failed records.new) (has_failed writer.new) }
     // What is told of a path that got no answer is so.
-    ensures refused { AllByRecursion (λ fault. ((told : List ℕ) × Refuses (led standpoint.now) told fault) ⊎ (fault ≡ BadlyQuoted)) (told_refusal result.1) }
-    ensures again { question_of standpoint.now flags result.0.tree (K.kind_of result.0.kinds) ≡ question_of standpoint.now flags sources.tree (K.kind_of sources.kinds) }
+    ensures refused { AllByRecursion (λ fault. ((told : List ℕ) × Refuses (led standpoint.now) sources.tracked told fault) ⊎ (fault ≡ BadlyQuoted)) (told_refusal result.1) }
+    ensures again { question_of standpoint.now flags result.0.tracked result.0.tree (K.kind_of result.0.kinds) ≡ question_of standpoint.now flags sources.tracked sources.tree (K.kind_of sources.kinds) }
 {
     run_question::<S, K, R, W, Brand>(alloc, standpoint, flags, sources, records, writer)
 }
@@ -100,15 +103,15 @@ fn run_question<
     IgnoreSources<S, K>,
     Result<bool, RecordFault<IgnoreFault<S::Fault>>>,
 )
-    requires asked { question_of standpoint.now flags sources.tree (K.kind_of sources.kinds) ≡ Q.question }
+    requires asked { question_of standpoint.now flags sources.tracked sources.tree (K.kind_of sources.kinds) ≡ Q.question }
     requires readable { has_failed records.old ≡ false }
     requires writable { has_failed writer.old ≡ false }
     ensures ends { EndsRun (λ is_any. TextOfNamed (IsIgnoreAnswer Q.question (S.shows (Unit {0}) result.0.tree.source)) (IsStatus Q.question (S.shows (Unit {0}) result.0.tree.source) is_any) flags.form)
         (TextOf (IsTextOf (IsIgnoreAnswer Q.question (S.shows (Unit {0}) result.0.tree.source)) flags.form)) (behind flags.form 10) result.1
         (R.remaining (inner records.old)) (R.remaining (inner records.new)) (W.contents (inner writer.old)) (W.contents (inner writer.new))
         (has_failed records.new) (has_failed writer.new) }
-    ensures refused { AllByRecursion (λ fault. ((told : List ℕ) × Refuses (led standpoint.now) told fault) ⊎ (fault ≡ BadlyQuoted)) (told_refusal result.1) }
-    ensures again { question_of standpoint.now flags result.0.tree (K.kind_of result.0.kinds) ≡ Q.question }
+    ensures refused { AllByRecursion (λ fault. ((told : List ℕ) × Refuses (led standpoint.now) sources.tracked told fault) ⊎ (fault ≡ BadlyQuoted)) (told_refusal result.1) }
+    ensures again { question_of standpoint.now flags result.0.tracked result.0.tree (K.kind_of result.0.kinds) ≡ Q.question }
 {
     let asker = IgnoreAsker::<'_, S, K, Q>::new(alloc, standpoint, flags, sources);
     let (asker, told) = answer_records(alloc, asker, flags.form, records, writer);
@@ -139,19 +142,19 @@ pub fn check_ignore_paths<
 )
     requires { has_failed writer.old ≡ false }
     ensures ok { IfOk result.1 (λ is_any.
-        Writes (TextOfPaths (IsIgnoreAnswer (question_of standpoint.now flags sources.tree (K.kind_of sources.kinds)) (S.shows (Unit {0}) result.0.tree.source)) (IsStatus (question_of standpoint.now flags sources.tree (K.kind_of sources.kinds)) (S.shows (Unit {0}) result.0.tree.source) is_any) (map (λ path. path.now) paths.now))
+        Writes (TextOfPaths (IsIgnoreAnswer (question_of standpoint.now flags sources.tracked sources.tree (K.kind_of sources.kinds)) (S.shows (Unit {0}) result.0.tree.source)) (IsStatus (question_of standpoint.now flags sources.tracked sources.tree (K.kind_of sources.kinds)) (S.shows (Unit {0}) result.0.tree.source) is_any) (map (λ path. path.now) paths.now))
         (Appends (W.contents (inner writer.old)) (W.contents (inner writer.new)))) }
     // After the fault of a path, nothing was written.
     ensures refused { AllByRecursion
-        (StopsAt (IsIgnoreAnswer (question_of standpoint.now flags sources.tree (K.kind_of sources.kinds)) (S.shows (Unit {0}) result.0.tree.source)) (Refuses (led standpoint.now)) (map (λ path. path.now) paths.now) false
+        (StopsAt (IsIgnoreAnswer (question_of standpoint.now flags sources.tracked sources.tree (K.kind_of sources.kinds)) (S.shows (Unit {0}) result.0.tree.source)) (Refuses (led standpoint.now) sources.tracked) (map (λ path. path.now) paths.now) false
         (W.contents (inner writer.old)) (W.contents (inner writer.new)))
         (told_refusal result.1) }
     // After one of the writer's, a beginning of the text was.
     ensures cut { OnErr result.1
-        (Writes (IsTextOfFirst (IsIgnoreAnswer (question_of standpoint.now flags sources.tree (K.kind_of sources.kinds)) (S.shows (Unit {0}) result.0.tree.source)) (map (λ path. path.now) paths.now))
+        (Writes (IsTextOfFirst (IsIgnoreAnswer (question_of standpoint.now flags sources.tracked sources.tree (K.kind_of sources.kinds)) (S.shows (Unit {0}) result.0.tree.source)) (map (λ path. path.now) paths.now))
         (AppendsFront (W.contents (inner writer.old)) (W.contents (inner writer.new)))) }
     ensures write { is_write_fault result.1 ≡ has_failed writer.new }
-    ensures again { question_of standpoint.now flags result.0.tree (K.kind_of result.0.kinds) ≡ question_of standpoint.now flags sources.tree (K.kind_of sources.kinds) }
+    ensures again { question_of standpoint.now flags result.0.tracked result.0.tree (K.kind_of result.0.kinds) ≡ question_of standpoint.now flags sources.tracked sources.tree (K.kind_of sources.kinds) }
 {
     check_paths::<S, K, W, Brand>(alloc, standpoint, flags, sources, paths, writer)
 }
@@ -173,14 +176,14 @@ fn check_paths<
     IgnoreSources<S, K>,
     Result<bool, RecordFault<IgnoreFault<S::Fault>>>,
 )
-    requires asked { question_of standpoint.now flags sources.tree (K.kind_of sources.kinds) ≡ Q.question }
+    requires asked { question_of standpoint.now flags sources.tracked sources.tree (K.kind_of sources.kinds) ≡ Q.question }
     requires writable { has_failed writer.old ≡ false }
     ensures ok { IfOk result.1 (λ is_any.
         Writes (TextOfPaths (IsIgnoreAnswer Q.question (S.shows (Unit {0}) result.0.tree.source)) (IsStatus Q.question (S.shows (Unit {0}) result.0.tree.source) is_any) (map (λ path. path.now) paths.now))
         (Appends (W.contents (inner writer.old)) (W.contents (inner writer.new)))) }
     // After the fault of a path, nothing was written.
     ensures refused { AllByRecursion
-        (StopsAt (IsIgnoreAnswer Q.question (S.shows (Unit {0}) result.0.tree.source)) (Refuses (led standpoint.now)) (map (λ path. path.now) paths.now) false
+        (StopsAt (IsIgnoreAnswer Q.question (S.shows (Unit {0}) result.0.tree.source)) (Refuses (led standpoint.now) sources.tracked) (map (λ path. path.now) paths.now) false
         (W.contents (inner writer.old)) (W.contents (inner writer.new)))
         (told_refusal result.1) }
     // After one of the writer's, a beginning of the text was.
@@ -188,7 +191,7 @@ fn check_paths<
         (Writes (IsTextOfFirst (IsIgnoreAnswer Q.question (S.shows (Unit {0}) result.0.tree.source)) (map (λ path. path.now) paths.now))
         (AppendsFront (W.contents (inner writer.old)) (W.contents (inner writer.new)))) }
     ensures write { is_write_fault result.1 ≡ has_failed writer.new }
-    ensures again { question_of standpoint.now flags result.0.tree (K.kind_of result.0.kinds) ≡ Q.question }
+    ensures again { question_of standpoint.now flags result.0.tracked result.0.tree (K.kind_of result.0.kinds) ≡ Q.question }
 {
     let asker = IgnoreAsker::<'_, S, K, Q>::new(alloc, standpoint, flags, sources);
     let (asker, told) = answer_paths(alloc, asker, paths, false, writer);

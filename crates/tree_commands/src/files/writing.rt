@@ -46,10 +46,10 @@ impl PathLines {
     {
         match self.form {
             Form::Records => self.standpoint.append_seen(&mut self.text, path)?,
-            Form::Lines => {
+            Form::Lines(quoting) => {
                 self.seen.clear();
                 self.standpoint.append_seen(&mut self.seen, path)?;
-                append_quoted(&mut self.text, &self.seen)?;
+                append_quoted(&mut self.text, &self.seen, quoting)?;
             }
         }
         self.text.push(self.form.end())?;

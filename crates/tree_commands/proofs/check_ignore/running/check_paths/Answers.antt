@@ -1,4 +1,4 @@
-use Rattle.std.proofs.Common.{◌≡◌, ℕ, Bool, false, List, Option, Ok, Err, MatchResult, map, subst, sym, ap}
+use Rattle.std.proofs.Common.{◌≡◌, Bool, false, Ok, Err, MatchResult, map, subst, sym}
 use Rattle.std.specs.List.{AllByRecursion}
 use Rattle.gix_glob.specs.Watched.{inner}
 use Rattle.record_streams.specs.Faults.{told_refusal}
@@ -20,8 +20,8 @@ returns-clause-refused g c =
     let old = g.W.Write.contents (inner c.args.writer.now) in
     let new = g.W.Write.contents (inner c.answer_paths-asker.new.writer) in
     rw c.into_sources.ensures
-    (subst (λ (leads : List ℕ → Option (List ℕ)). AllByRecursion (StopsAt answers (Refuses leads) paths false old new) (told_refusal c.outcome_of-outcome.result)) (sym (ap (λ (q : Question). q.leads) c.requires.asked))
-    (subst (λ faults. AllByRecursion (StopsAt answers (Refuses g.Q.AskedQuestion.question.leads) paths false old new) faults)
+    (subst (λ (q : Question). AllByRecursion (StopsAt answers (Refuses q.leads q.tracked) paths false old new) (told_refusal c.outcome_of-outcome.result)) (sym c.requires.asked)
+    (subst (λ faults. AllByRecursion (StopsAt answers (Refuses g.Q.AskedQuestion.question.leads g.Q.AskedQuestion.question.tracked) paths false old new) faults)
     (same_refusal c.answer_paths-asker.result.1 c.outcome_of-outcome.result c.answer_paths-asker.result.0.is_any same) c.answer_paths-asker.ensures.refused))
 
 pub returns-clause-cut : goal.returns-clause-cut

@@ -1,4 +1,4 @@
-use Rattle.std.proofs.Common.{◌≡◌, ◌⊎◌, ℕ, Bool, List, Option, Ok, Err, MatchResult, subst, sym, ap}
+use Rattle.std.proofs.Common.{◌≡◌, ◌⊎◌, ℕ, Bool, List, Ok, Err, MatchResult, subst, sym}
 use Rattle.std.specs.List.{AllByRecursion}
 use Rattle.record_streams.specs.Faults.{told_refusal}
 use Rattle.tree_answers.specs.Records.{IsRefusal}
@@ -22,7 +22,7 @@ pub returns-clause-refused : goal.returns-clause-refused
 returns-clause-refused g c =
     let same = subst (λ (b : Bool). MatchResult c.answer_records-asker.result.1 (λ _. c.outcome_of-outcome.result ≡ Ok b) (λ fault. c.outcome_of-outcome.result ≡ Err fault)) c.is_any.ensures c.outcome_of-outcome.ensures in
     let question = g.Q.AskedQuestion.question in
-    subst (λ (leads : List ℕ → Option (List ℕ)). AllByRecursion (λ fault. ((told : List ℕ) × Refuses leads told fault) ⊎ (fault ≡ BadlyQuoted)) (told_refusal c.outcome_of-outcome.result)) (sym (ap (λ (q : Question). q.leads) c.requires.asked))
-    (subst (λ faults. AllByRecursion (λ fault. ((told : List ℕ) × Refuses question.leads told fault) ⊎ (fault ≡ BadlyQuoted)) faults)
+    subst (λ (q : Question). AllByRecursion (λ fault. ((told : List ℕ) × Refuses q.leads q.tracked told fault) ⊎ (fault ≡ BadlyQuoted)) (told_refusal c.outcome_of-outcome.result)) (sym c.requires.asked)
+    (subst (λ faults. AllByRecursion (λ fault. ((told : List ℕ) × Refuses question.leads question.tracked told fault) ⊎ (fault ≡ BadlyQuoted)) faults)
     (same_refusal c.answer_records-asker.result.1 c.outcome_of-outcome.result c.answer_records-asker.result.0.is_any same)
-    (all_weaker (IsRefusal (Refuses question.leads) IsOfName) (λ fault. ((told : List ℕ) × Refuses question.leads told fault) ⊎ (fault ≡ BadlyQuoted)) (refusal_told question.leads) (told_refusal c.answer_records-asker.result.1) c.answer_records-asker.ensures.refused))
+    (all_weaker (IsRefusal (Refuses question.leads question.tracked) IsOfName) (λ fault. ((told : List ℕ) × Refuses question.leads question.tracked told fault) ⊎ (fault ≡ BadlyQuoted)) (refusal_told question.leads question.tracked) (told_refusal c.answer_records-asker.result.1) c.answer_records-asker.ensures.refused))

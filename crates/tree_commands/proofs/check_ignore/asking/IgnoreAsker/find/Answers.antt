@@ -1,25 +1,26 @@
-use Rattle.std.proofs.Common.{◌≡◌, ℕ, Bool, List, Option, Some, IfOk, rules, false, ap, subst, sym, ◌∙◌}
+use Rattle.std.proofs.Common.{◌≡◌, ℕ, Bool, List, Option, Some, IfOk, [], rules, false, ap, subst, sym, ◌∙◌}
 use Rattle.told_paths.specs.Paths.{names_folder, parts_of}
-use Rattle.tree_commands.specs.CheckIgnore.{Question, asked_path}
+use Rattle.tree_commands.specs.CheckIgnore.{Question, asked_path, told_path}
 use Rattle.tree_commands.specs.Private.Finding.{IsFound}
-use Rattle.tree_commands.proofs.lemmas.IgnoreLemmas.{asked_bare, question_kept, told_plain}
+use Rattle.tree_commands.proofs.lemmas.IgnoreLemmas.{asked_bare, none_below, none_held, question_kept, told_plain}
 use Rattle.tree_commands.proofs.check_ignore.asking.IgnoreAsker.find.Goals as goal
 
 pub invariant_of-self : goal.invariant_of-self
 invariant_of-self g c = record {
-  asked = question_kept (g.S.FolderLists.shows (Unit {0})) c.args.self.now.finder.tree c.find.new.self.tree c.find.ensures.keeps c.args.self.now.standpoint.now c.args.self.now.flags
+  asked = question_kept (g.S.FolderLists.shows (Unit {0})) c.args.self.now.finder.tree c.find.new.self.tree c.find.ensures.keeps c.args.self.now.standpoint.now c.args.self.now.flags c.args.self.now.tracked
       (g.K.PathKinds.kind_of c.args.self.now.finder.kinds) (g.K.PathKinds.kind_of c.find.new.self.kinds) c.find.ensures.kinds
       ∙ c.args.self.now.asked;
 }
 
-pub returns-then-is_at_top-clause-found : goal.returns-then-is_at_top-clause-found
-returns-then-is_at_top-clause-found g c =
+pub returns-then-is_empty-clause-found : goal.returns-then-is_empty-clause-found
+returns-then-is_empty-clause-found g c =
     let told = c.args.told.now in
     let question = g.Q.AskedQuestion.question in
-    let shows = g.S.FolderLists.shows (Unit {0}) in
     let led : question.leads told ≡ Some told = search rules in
     let bare : names_folder false (parts_of told) ≡ false = search rules in
     let known = ap (λ (q : Question). q.kind_of) c.args.self.now.asked in
-    told_plain shows c.find.new.self.tree (question.leads told) (names_folder false (parts_of told)) question.kind_of told told led (sym (ap (λ (b : Bool). asked_path b told) bare ∙ asked_bare told)) c.find.result
+    let none : question.tracked ≡ [] = search rules in
+    let same : told ≡ told_path told told = sym (ap (λ (b : Bool). asked_path b told) bare ∙ asked_bare told) in
+    told_plain question told told told led same (none_below question.tracked told none) (none_held question.tracked told (question.literal told) none) (g.S.FolderLists.shows (Unit {0})) c.find.new.self.tree c.find.result
     (c.requires.plain c.if-is_usual.true)
-    (subst (λ (kind_of : List ℕ → Option Bool). IfOk c.find.result (IsFound shows c.find.new.self.tree told (kind_of told))) known c.find.ensures.found)
+    (subst (λ (kind_of : List ℕ → Option Bool). IfOk c.find.result (IsFound (g.S.FolderLists.shows (Unit {0})) c.find.new.self.tree told (kind_of told))) known c.find.ensures.found)

@@ -1,17 +1,13 @@
-use Rattle.std.proofs.Common.{◌∙◌}
-use Rattle.tree_commands.proofs.lemmas.IgnoreLemmas.{question_kept}
+use Rattle.std.proofs.Common.{refl, take}
+use Rattle.std.proofs.lemmas.Bool.{false≢true}
+use Rattle.tracked_paths.specs.Holding.{IsHeld, LiesInSubmodule}
+use Rattle.tree_commands.proofs.lemmas.IgnoreLemmas.{told_held}
 use Rattle.tree_commands.proofs.check_ignore.asking.IgnoreAsker.find_led.Goals as goal
 
-pub invariant_of-self : goal.invariant_of-self
-invariant_of-self g c = record {
-  asked = question_kept (g.S.FolderLists.shows (Unit {0})) c.lead.new.self.finder.tree c.find_top.new.self.tree c.find_top.ensures.keeps c.lead.new.self.standpoint.now c.lead.new.self.flags
-      (g.K.PathKinds.kind_of c.lead.new.self.finder.kinds) (g.K.PathKinds.kind_of c.find_top.new.self.kinds) c.find_top.ensures.kinds
-      ∙ c.lead.new.self.asked;
-}
-
-pub invariant_of-self-2 : goal.invariant_of-self-2
-invariant_of-self-2 g c = record {
-  asked = question_kept (g.S.FolderLists.shows (Unit {0})) c.lead.new.self.finder.tree c.find.new.self.tree c.find.ensures.keeps c.lead.new.self.standpoint.now c.lead.new.self.flags
-      (g.K.PathKinds.kind_of c.lead.new.self.finder.kinds) (g.K.PathKinds.kind_of c.find.new.self.kinds) c.find.ensures.kinds
-      ∙ c.lead.new.self.asked;
-}
+pub returns-then-is_held-clause-found : goal.returns-then-is_held-clause-found
+returns-then-is_held-clause-found g c =
+    let question = g.Q.AskedQuestion.question in
+    let asked = c.lead.new.self.path.items in
+    let outside : ¬ LiesInSubmodule question.tracked asked = λ below. false≢true (c.if-is_in_submodule.ensures.1 below) in
+    let held : IsHeld question.tracked asked (question.literal c.args.told.now) = c.if-is_held.ensures.0 refl in
+    told_held question c.args.told.now (take c.in_ok-bare.bare asked) asked c.in_ok-bare.ensures.leads.0 c.in_ok-bare.ensures.leads.1 outside (g.S.FolderLists.shows (Unit {0})) _ held
