@@ -1,7 +1,8 @@
 -- What is answered for the words. Of real files nothing is known: a folder may have any file, and anything may stand at a path.
-use Rattle.std.specs.Prelude.{◌≡◌, ◌||◌, ℕ, Bool, true, false, if◌then◌else◌, List, AllPairs, Option, Ok, drop, length, map, string_bytes, take}
+use Rattle.std.specs.Prelude.{◌≡◌, ◌||◌, ℕ, Bool, true, false, if◌then◌else◌, List, [], AllPairs, Option, Ok, drop, length, map, string_bytes, take}
 use Rattle.std.specs.Io.KnownBytes.{Appends}
 use Rattle.std.specs.List.{flat_map}
+use Rattle.git_index.specs.Entries.{Tracked}
 use Rattle.gix_glob.specs.declared.pattern.Case.{Case}
 use Rattle.gix_glob.specs.declared.pattern.Case.TheVariants.{Fold, Sensitive}
 use Rattle.gix_glob.specs.EntryLists.{EntryList}
@@ -10,7 +11,8 @@ use Rattle.glob_lists.specs.declared.rules.Rules.{Rules}
 use Rattle.glob_lists.specs.Rules.{by_git}
 use Rattle.glob_trees.specs.Ways.{Folder}
 use Rattle.record_streams.specs.Records.{AnswersAll}
-use Rattle.told_paths.specs.Standpoints.{led}
+use Rattle.told_paths.specs.declared.quoting.Quoting.{Quoting}
+use Rattle.told_paths.specs.Standpoints.{led, literal_front}
 use Rattle.told_paths.specs.declared.standpoint.Standpoint.{Standpoint}
 use Rattle.tree_answers.specs.Lines.{behind}
 use Rattle.tree_commands.specs.Answering.{TextOfNamed, TextOfPaths, Writes}
@@ -28,6 +30,7 @@ use Rattle.tree_words.specs.declared.options.Options.{Options}
 use Rattle.tree_words.specs.Operands.{dashes_at, operands_among}
 use Rattle.tree_words.specs.Words.{Ask}
 use Rattle.globtree.specs.Running.{asked_by_flags, form_by}
+use Rattle.globtree.specs.Tracked.{IsOfIndex}
 
 abbrev pub any_list : Folder → EntryList (Unit {0}) → Type 0
 any_list folder list = Unit {0}
@@ -39,33 +42,40 @@ any_file folder file = Unit {0}
 abbrev pub case_by : Options → Bool → Case
 case_by options folds = if options.ignore_case || folds then Fold else Sensitive
 
--- The text about each path that the input names was written, and all of it was read. Paths are told from the standpoint, and patterns
--- matched by these rules.
-pub record ReadsIgnore (standpoint : Standpoint) (rules : Rules) (flags : IgnoreFlags) (is_any : Bool) (left rest old new : Option (List ℕ)) : Type 0 where
+-- The text about each path that the input names was written, and all of it was read. Paths are told from the standpoint, these are
+-- tracked, and patterns are matched by these rules.
+pub record ReadsIgnore (standpoint : Standpoint) (tracked : List Tracked) (rules : Rules) (flags : IgnoreFlags) (is_any : Bool) (left rest old new : Option (List ℕ)) : Type 0 where
   pub question : Question
-  pub from : question.leads ≡ led standpoint
+  pub from : (question.leads ≡ led standpoint) × (question.literal ≡ literal_front standpoint)
+  pub beside : question.tracked ≡ tracked
   pub by_rules : question.rules ≡ rules
   pub asks : question.flags ≡ flags
   pub run : Run (ReadsWhole left rest)
       (AnswersAll (TextOfNamed (IsIgnoreAnswer question any_list) (IsStatus question any_list is_any) flags.form) (behind flags.form 10)) (Appends old new)
 
 -- the text about each of these paths was written
-pub record TellsIgnore (standpoint : Standpoint) (rules : Rules) (flags : IgnoreFlags) (paths : List (List ℕ)) (is_any : Bool) (old new : Option (List ℕ)) : Type 0 where
+pub record TellsIgnore (standpoint : Standpoint) (tracked : List Tracked) (rules : Rules) (flags : IgnoreFlags) (paths : List (List ℕ)) (is_any : Bool) (old new : Option (List ℕ)) : Type 0 where
   pub question : Question
-  pub from : question.leads ≡ led standpoint
+  pub from : (question.leads ≡ led standpoint) × (question.literal ≡ literal_front standpoint)
+  pub beside : question.tracked ≡ tracked
   pub by_rules : question.rules ≡ rules
   pub asks : question.flags ≡ flags
   pub writes : Writes (TextOfPaths (IsIgnoreAnswer question any_list) (IsStatus question any_list is_any) paths) (Appends old new)
 
--- The words behind `check-ignore` were answered from some standpoint, whatever the configuration says: with `--stdin` the paths that are
--- read, else those among the words. The status says whether a line decides about one.
+-- The words behind `check-ignore` were answered from some standpoint, whatever the configuration and the index say; with `--no-index`
+-- nothing is tracked. With `--stdin` the paths are those that are read, else those among the words. The status says whether a line
+-- decides about one.
 pub record AnswersIgnore (options : Options) (flags : CheckIgnoreFlags) (words : List (List ℕ)) (status : ℕ) (left rest old new : Option (List ℕ)) : Type 0 where
   pub standpoint : Standpoint
   pub folds : Bool
+  pub quoting : Quoting
+  pub tracked : List Tracked
+  pub of_index : IsOfIndex tracked
+  pub without : flags.no_index ≡ true → tracked ≡ []
   pub is_any : Bool
   pub ends : status ≡ (if is_any then 0 else 1)
-  pub read : flags.stdin ≡ true → ReadsIgnore standpoint (by_git (case_by options folds)) (asked_by_flags flags) is_any left rest old new
-  pub told : flags.stdin ≡ false → TellsIgnore standpoint (by_git (case_by options folds)) (asked_by_flags flags) (operands_among words) is_any old new
+  pub read : flags.stdin ≡ true → ReadsIgnore standpoint tracked (by_git (case_by options folds)) (asked_by_flags flags quoting) is_any left rest old new
+  pub told : flags.stdin ≡ false → TellsIgnore standpoint tracked (by_git (case_by options folds)) (asked_by_flags flags quoting) (operands_among words) is_any old new
 
 -- the states for each path that the input names were written, and all of it was read
 abbrev pub ReadsStates : Query → Option (List ℕ) → Option (List ℕ) → Option (List ℕ) → Option (List ℕ) → Type 0
@@ -82,8 +92,9 @@ pub record AnswersAttr (options : Options) (flags : CheckAttrFlags) (words : Lis
   pub names : names_first flags (length (operands_among words)) (dashes_at words) ≡ Ok count
   pub query : Query
   pub folds : Bool
+  pub quoting : Quoting
   pub cased : query.case ≡ case_by options folds
-  pub form : query.form ≡ form_by flags.nul
+  pub form : query.form ≡ form_by flags.nul quoting
   pub asks : query.asked ≡ (if flags.all then all else named (take count (operands_among words)))
   pub read : flags.stdin ≡ true → ReadsStates query left rest old new
   pub told : flags.stdin ≡ false → TellsStates query (drop count (operands_among words)) old new
@@ -91,9 +102,10 @@ pub record AnswersAttr (options : Options) (flags : CheckAttrFlags) (words : Lis
 -- Lines of paths were written, each once, in order of their bytes.
 pub record AnswersFiles (flags : FilesFlags) (old new : Option (List ℕ)) : Type 0 where
   pub standpoint : Standpoint
+  pub quoting : Quoting
   pub paths : List (List ℕ)
   pub ordered : AllPairs ComesBefore paths
-  pub written : Appends old new (flat_map (path_line standpoint (form_by flags.nul)) paths)
+  pub written : Appends old new (flat_map (path_line standpoint (form_by flags.nul quoting)) paths)
 
 -- A command was answered. Of how the program is used, and which it is, some text was written.
 abbrev pub AnswersCommand : Options → Command → ℕ → Option (List ℕ) → Option (List ℕ) → Option (List ℕ) → Option (List ℕ) → Type 0

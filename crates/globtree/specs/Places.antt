@@ -1,16 +1,20 @@
 -- Where a command stands: by the paths of the top and of the current folder, without the slash at their front, and by the words.
-use Rattle.std.specs.Prelude.{◌≡◌, ℕ, true, List, [], ◌∷◌, Some, is_some, option_map, string_bytes}
+use Rattle.std.specs.Prelude.{◌≡◌, ℕ, true, List, [], ◌∷◌, Some, is_some, option_map, string_bytes, codes}
 use Rattle.std.specs.Option.{option_copied, option_or, unwrap_or}
 use Rattle.git_repository.specs.declared.environment.Environment.{Environment}
 use Rattle.std.specs.Vec.{vec_items}
 use Rattle.gix_glob.specs.Bytes.{slash}
+use Rattle.core_settings.specs.Values.{last_value}
 use Rattle.git_config.specs.Configuration.{Seen}
 use Rattle.git_repository.specs.GitFolders.{told_from}
 use Rattle.opened_repository.specs.declared.opened.Opened.{Opened}
 use Rattle.told_paths.specs.declared.standpoint.Standpoint.{Standpoint}
 use Rattle.told_paths.specs.Paths.{left_below}
 use Rattle.tree_words.specs.declared.options.Options.{Options}
+use Rattle.globtree.specs.declared.tracked.IndexFile.{IndexFile}
 use Rattle.globtree.specs.declared.work_tree.WorkTree.{WorkTree}
+use Rattle.globtree.specs.Running.{quoting_by}
+use Rattle.globtree.specs.Tracked.{format_by}
 
 -- from the current folder where it lies in the work tree, and else from the top
 pub record StandsIn (top here : List ℕ) (standpoint : Standpoint) : Type 0 where
@@ -41,9 +45,10 @@ with_options options variables = record variables {
 pub record IsTreeOf (standpoint : Standpoint) (current : List ℕ) (opened : Opened (List ℕ) (List Seen)) (tree : WorkTree) : Type 0 where
   pub from : tree.standpoint ≡ standpoint
   pub folds : tree.folds ≡ opened.core.ignore_case
-  pub quotes : tree.quotes ≡ opened.core.quote_path
+  pub quoting : tree.quoting ≡ quoting_by opened.core.quote_path
   pub excludes : option_map vec_items tree.excludes ≡ opened.core.excludes
   pub attributes : option_map vec_items tree.attributes ≡ opened.core.attributes
   pub own_excludes : opened.exclude_name ≡ Some (string_bytes tree.own_excludes)
   pub own_attributes : string_bytes tree.own_attributes ≡ told_from current opened.attributes_file
-  pub index : string_bytes tree.index ≡ told_from current opened.index_file
+  pub index : option_map (λ (index : IndexFile). string_bytes index.name) tree.index ≡ Some (told_from current opened.index_file)
+  pub format : option_map (λ (index : IndexFile). index.format) tree.index ≡ Some (format_by (last_value (codes "extensions.objectformat") opened.config))

@@ -1,5 +1,7 @@
 -- What the program ends with, and what is asked of it.
 use Rattle.std.specs.Prelude.{◌≡◌, ◌⊎◌, ℕ, Bool, if◌then◌else◌}
+use Rattle.told_paths.specs.declared.quoting.Quoting.{Quoting}
+use Rattle.told_paths.specs.declared.quoting.Quoting.TheVariants.{AsciiOnly, Full}
 use Rattle.tree_answers.specs.declared.form.Form.{Form}
 use Rattle.tree_answers.specs.declared.form.Form.TheVariants.{Lines, Records}
 use Rattle.tree_commands.specs.declared.check_ignore.flags.IgnoreFlags.{IgnoreFlags}
@@ -17,10 +19,14 @@ IsRefused status = (status ≡ 129) ⊎ (status ≡ 255)
 abbrev pub IsStatus : ℕ → Type 0
 IsStatus status = IsAnswered status ⊎ (IsRefused status ⊎ (status ≡ 128))
 
+-- which names stand in quotes, by `core.quotePath`
+abbrev pub quoting_by : Bool → Quoting
+quoting_by quotes_paths = if quotes_paths then Full else AsciiOnly
+
 -- records that a NUL ends, or lines
-abbrev pub form_by : Bool → Form
-form_by is_nul = if is_nul then Records else Lines
+abbrev pub form_by : Bool → Quoting → Form
+form_by is_nul quoting = if is_nul then Records else Lines quoting
 
 -- what is written about paths, by the options of `check-ignore`
-abbrev pub asked_by_flags : CheckIgnoreFlags → IgnoreFlags
-asked_by_flags flags = record { form = form_by flags.nul; verbose = flags.verbose; non_matching = flags.non_matching; quiet = flags.quiet }
+abbrev pub asked_by_flags : CheckIgnoreFlags → Quoting → IgnoreFlags
+asked_by_flags flags quoting = record { form = form_by flags.nul quoting; verbose = flags.verbose; non_matching = flags.non_matching; quiet = flags.quiet }

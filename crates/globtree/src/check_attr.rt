@@ -63,7 +63,7 @@ pub(crate) fn check_attr<R: Files + Env + Eprint + AllocGlobal, I: Read, O: Writ
         }
     };
     let (names, paths) = operands.words.split_at(count);
-    let outer = outer_attributes(rt, alloc, options, flags)?;
+    let outer = outer_attributes(rt, alloc, options)?;
     if let Some(name) = wrong_name(names) {
         tell_line(
             rt,
@@ -131,7 +131,7 @@ fn question_of<'a>(
     flags: CheckAttrFlags,
 ) -> AttributeQuestion<'a>
     ensures case { result.case ≡ case_by options.entry outer.now.folds }
-    ensures form { result.form ≡ form_by flags.nul }
+    ensures form { result.form ≡ form_by flags.nul outer.now.quoting }
     ensures asks { result.asked ≡ (if flags.all then all else named (map (λ (name : Bor (List ℕ)). name.now) names.now)) }
 {
     let asked = if flags.all {
@@ -144,7 +144,7 @@ fn question_of<'a>(
         asked,
         case_of(options, outer.folds),
         &outer.standpoint,
-        Form::ended_by(flags.nul),
+        Form::ended_by(flags.nul, outer.quoting),
     )
 }
 

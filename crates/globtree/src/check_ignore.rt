@@ -7,14 +7,14 @@ ghost use Rattle.globtree.specs.Running.{IsAnswered, asked_by_flags};
 
 use crate::fronts::{case_of, fronts_of, tree_behind};
 use crate::running::ANSWERED;
-use crate::signs::Concerns;
+use crate::signs::IndexUse;
 use anyhow::{Context, Result, bail};
 use gix_glob::search::Watched;
 use record_streams::RecordFault;
 use std::alloc::{AllocError, Global};
 use std::io::{Read, Write};
 use std::rt::{Env, Files};
-use told_paths::Standpoint;
+use told_paths::{Quoting, Standpoint};
 use tree_answers::Form;
 use tree_commands::check_ignore::{
     IgnoreFault, IgnoreFlags, IgnoreSources, check_ignore_paths, run_check_ignore,
@@ -45,18 +45,18 @@ pub(crate) fn check_ignore<R: Files + Env + Eprint + AllocGlobal, I: Read, O: Wr
     if let Some(message) = flags.disagreement(paths.len()) {
         bail!("{message}");
     }
-    let concerns = Concerns {
-        are_attributes: false,
-        is_nul: flags.nul,
-        uses_index: !flags.no_index,
-    };
-    let fronts = fronts_of(rt, alloc, options, concerns)?;
+    let fronts = fronts_of(rt, alloc, options, index_by(flags))?;
     let case = case_of(options, fronts.folds);
     let tree = tree_behind(rt, alloc, fronts.lists, case)?;
     let kinds = FileKinds::new(rt, alloc);
-    let sources = IgnoreSources { tree, kinds };
+    let tracked = fronts.tracked;
+    let sources = IgnoreSources {
+        tree,
+        kinds,
+        tracked,
+    };
     let standpoint = fronts.standpoint;
-    let asked = asked_by_flags(flags);
+    let asked = asked_by_flags(flags, fronts.quoting);
     if flags.stdin {
         let is_any = answer_input(alloc, &standpoint, asked, sources, input, output)?;
         return Ok(status_of(is_any));
@@ -84,7 +84,7 @@ fn answer_input<R: Files + Eprint, I: Read, O: Write>(
 ) -> Result<bool>
     requires readable { has_failed input.old ≡ false }
     requires writable { has_failed output.old ≡ false }
-    ensures { IfOk result (λ is_any. ReadsIgnore standpoint.now sources.entry.tree.rules asked is_any (I.remaining (inner input.old)) (I.remaining (inner input.new)) (O.contents (inner output.old)) (O.contents (inner output.new))) }
+    ensures { IfOk result (λ is_any. ReadsIgnore standpoint.now sources.entry.tracked sources.entry.tree.rules asked is_any (I.remaining (inner input.old)) (I.remaining (inner input.new)) (O.contents (inner output.old)) (O.contents (inner output.new))) }
 {
     let (_sources, outcome) = run_check_ignore(alloc, standpoint, asked, sources, input, output);
     outcome.map_err(|fault| told_fault(alloc, fault))
@@ -100,7 +100,7 @@ fn answer_paths<R: Files + Eprint, O: Write>(
     output: &mut Watched<O>,
 ) -> Result<bool>
     requires { has_failed output.old ≡ false }
-    ensures { IfOk result (λ is_any. TellsIgnore standpoint.now sources.entry.tree.rules asked (map (λ (path : Bor (List ℕ)). path.now) paths.now) is_any (O.contents (inner output.old)) (O.contents (inner output.new))) }
+    ensures { IfOk result (λ is_any. TellsIgnore standpoint.now sources.entry.tracked sources.entry.tree.rules asked (map (λ (path : Bor (List ℕ)). path.now) paths.now) is_any (O.contents (inner output.old)) (O.contents (inner output.new))) }
 {
     let (_sources, outcome) = check_ignore_paths(alloc, standpoint, asked, sources, paths, output);
     outcome.map_err(|fault| told_fault(alloc, fault))
@@ -114,12 +114,23 @@ fn told_fault(alloc: Global, fault: RecordFault<IgnoreFault<CheckFault>>) -> any
     }
 }
 
+/// What is taken from the index: which paths are tracked, unless that is not to count.
+fn index_by(flags: CheckIgnoreFlags) -> IndexUse
+    ensures { result ≡ (if flags.no_index then IndexUse.Nothing else IndexUse.Paths) }
+{
+    if flags.no_index {
+        IndexUse::Nothing
+    } else {
+        IndexUse::Paths
+    }
+}
+
 /// What is written about paths.
-fn asked_by_flags(flags: CheckIgnoreFlags) -> IgnoreFlags
-    ensures { result ≡ asked_by_flags flags }
+fn asked_by_flags(flags: CheckIgnoreFlags, quoting: Quoting) -> IgnoreFlags
+    ensures { result ≡ asked_by_flags flags quoting }
 {
     IgnoreFlags {
-        form: Form::ended_by(flags.nul),
+        form: Form::ended_by(flags.nul, quoting),
         verbose: flags.verbose,
         non_matching: flags.non_matching,
         quiet: flags.quiet,

@@ -1,6 +1,5 @@
 //! Files of excludes, which count before those of all folders.
-use crate::refused::Refused;
-use anyhow::{Context, Result};
+use anyhow::{Context, Result, bail};
 use gix_glob::search::pattern::List;
 use glob_lines::IgnoreLines;
 use std::alloc::Global;
@@ -28,8 +27,7 @@ pub(crate) fn excludes<R: Files + Eprint>(
     file: String,
 ) -> Result<List<IgnoreLines>> {
     if fs::metadata(rt, file.as_str()).is_ok_and(|found| found.is_dir()) {
-        let text = format!(in alloc; "cannot use {file} as an exclude file")?;
-        return Err(Refused(text).into());
+        bail!("cannot use {file} as an exclude file");
     }
     let mut bytes = Vec::new(alloc);
     Ok(file_list(rt, alloc, file, &mut bytes, BY_GIT)?)

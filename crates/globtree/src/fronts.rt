@@ -1,11 +1,12 @@
 //! The lists of patterns that count before those of all folders, and the tree that they begin.
-ghost use Rattle.std.specs.Prelude.{◌≡◌, IfOk};
+ghost use Rattle.std.specs.Prelude.{◌≡◌, ◌≢◌, [], IfOk};
 ghost use Rattle.glob_lists.specs.Rules.{by_git};
 ghost use Rattle.globtree.specs.Answers.{case_by};
+ghost use Rattle.globtree.specs.Tracked.{IsOfIndex};
 
 use crate::excludes::{excludes, named_excludes};
 use crate::moving::go_to_folders;
-use crate::signs::{Concerns, tell_signs};
+use crate::signs::{IndexUse, tracked_after_signs};
 use crate::work_tree::{WorkTree, work_tree};
 use anyhow::{Context, Result};
 use gix_glob::pattern::Case;
@@ -15,20 +16,27 @@ use glob_lists::{PreparedList, Rules};
 use glob_trees::Tree;
 use std::alloc::Global;
 use std::rt::{Env, Files};
-use told_paths::Standpoint;
+use told_paths::{Quoting, Standpoint};
+use tracked_paths::TrackedPaths;
 use tree_files::{FolderFiles, path_text};
 use tree_words::Options;
 
 /// About how many bytes are kept of folders and their patterns.
 const MOST_BYTES: usize = 24 << 20;
 
-/// Where paths are told from, the lists before those of all folders, the weakest first, and whether the configuration says that the case
-/// of letters doesn't count.
+/// What counts for all paths.
 #[derive(Drop)]
 pub(crate) struct Fronts {
+    /// Where paths are told from.
     pub(crate) standpoint: Standpoint,
+    /// The lists before those of all folders, the weakest first.
     pub(crate) lists: Vec<PreparedList<IgnoreLines>>,
+    /// Whether the configuration says that the case of letters doesn't count.
     pub(crate) folds: bool,
+    /// Which names stand in quotes.
+    pub(crate) quoting: Quoting,
+    /// The paths that the index tracks, where it is read.
+    pub(crate) tracked: TrackedPaths,
 }
 
 /// Goes to the top of the work tree, and reads the files that count before those of all folders.
@@ -36,18 +44,22 @@ pub(crate) fn fronts_of<R: Files + Env + Eprint + AllocGlobal>(
     rt: &R,
     alloc: Global,
     options: Options<'_>,
-    concerns: Concerns,
-) -> Result<Fronts> {
+    index: IndexUse,
+) -> Result<Fronts>
+    ensures tracked { IfOk result (λ fronts. IsOfIndex fronts.tracked) }
+    ensures unread { IfOk result (λ fronts. index ≢ IndexUse.Paths → fronts.tracked ≡ []) }
+{
     go_to_folders(rt, alloc, options)?;
     let named = match options.excludes {
         Some(name) => Some(named_excludes(rt, alloc, name)?),
         None => None,
     };
     let tree = work_tree(rt, alloc, options)?;
-    tell_signs(rt, alloc, &tree, concerns)?;
+    let tracked = tracked_after_signs(rt, alloc, &tree, index)?;
     let WorkTree {
         standpoint,
         folds,
+        quoting,
         excludes: file,
         own_excludes,
         ..
@@ -64,6 +76,8 @@ pub(crate) fn fronts_of<R: Files + Env + Eprint + AllocGlobal>(
         standpoint,
         lists,
         folds,
+        quoting,
+        tracked,
     })
 }
 

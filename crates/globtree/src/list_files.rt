@@ -6,7 +6,7 @@ ghost use Rattle.globtree.specs.Running.{IsAnswered};
 
 use crate::fronts::{case_of, fronts_of};
 use crate::running::ANSWERED;
-use crate::signs::Concerns;
+use crate::signs::IndexUse;
 use anyhow::{Context, Result};
 use gix_glob::search::Watched;
 use std::alloc::Global;
@@ -35,15 +35,10 @@ pub(crate) fn list_files<R: Files + Env + Eprint + AllocGlobal + Clone + Drop, O
     ensures status { IfOk result IsAnswered }
     ensures answered { IfOk result (λ _. AnswersFiles flags (O.contents (inner output.old)) (O.contents (inner output.new))) }
 {
-    let concerns = Concerns {
-        are_attributes: false,
-        is_nul: flags.nul,
-        uses_index: true,
-    };
-    let fronts = fronts_of(rt, alloc, options, concerns)?;
+    let fronts = fronts_of(rt, alloc, options, IndexUse::Listing)?;
     let listing = Listing {
         standpoint: fronts.standpoint,
-        form: Form::ended_by(flags.nul),
+        form: Form::ended_by(flags.nul, fronts.quoting),
         fronts: fronts.lists,
         case: case_of(options, fronts.folds),
     };

@@ -12,9 +12,9 @@ mod moving;
 mod opening;
 mod outer_attributes;
 mod places;
-mod refused;
 mod running;
 mod signs;
+mod tracked;
 mod work_tree;
 
 use gix_glob::search::Watched;

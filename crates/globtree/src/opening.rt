@@ -5,13 +5,12 @@ ghost use Rattle.git_repository.specs.Environments.{environment_with};
 ghost use Rattle.globtree.specs.Places.{with_options};
 
 use crate::check_ignore::bytes_of;
-use crate::refused::Refused;
-use anyhow::Result;
+use anyhow::{Result, bail};
 use git_config::Config;
 use git_repository::Environment;
 use opened_repository::{Opened, Told, open};
 use repository_files::{ConfigurationVariables, DiskFiles, RepositoryVariables, User};
-use std::alloc::{AllocError, Global};
+use std::alloc::Global;
 use std::rt::{Env, Files};
 use tree_words::{Options, values_of};
 
@@ -39,7 +38,7 @@ pub(crate) fn open_here<R: Files + Env>(
     };
     match open(alloc, &files, &told) {
         Ok(opened) => Ok(opened),
-        Err(fault) => Err(Refused(format!(in alloc; "{fault}")?).into()),
+        Err(fault) => bail!("{fault}"),
     }
 }
 

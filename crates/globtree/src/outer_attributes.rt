@@ -1,16 +1,15 @@
 //! The attribute files that don't depend on a path: the system's, the user's, the top's and the repository's own.
 
 use crate::moving::go_to_folders;
-use crate::signs::{Concerns, tell_signs};
+use crate::signs::{IndexUse, tracked_after_signs};
 use crate::work_tree::{WorkTree, work_tree};
 use anyhow::Result;
 use std::alloc::Global;
 use std::rt::{Env, Files};
-use told_paths::Standpoint;
+use told_paths::{Quoting, Standpoint};
 use tree_commands::check_attr::OuterFiles;
 use tree_files::{AttributeFiles, path_text};
 use tree_words::Options;
-use tree_words::check_attr::CheckAttrFlags;
 
 /// The bytes of the files that are read before any path is asked for, and where paths are told from.
 #[derive(Drop)]
@@ -18,6 +17,8 @@ pub(crate) struct OuterAttributes {
     pub(crate) standpoint: Standpoint,
     /// Whether the configuration says that the case of letters doesn't count.
     pub(crate) folds: bool,
+    /// Which names stand in quotes.
+    pub(crate) quoting: Quoting,
     system: Vec<u8>,
     user: Vec<u8>,
     top: Vec<u8>,
@@ -41,22 +42,17 @@ pub(crate) fn outer_attributes<R: Files + Env + Eprint + AllocGlobal>(
     rt: &R,
     alloc: Global,
     options: Options<'_>,
-    flags: CheckAttrFlags,
 ) -> Result<OuterAttributes> {
     go_to_folders(rt, alloc, options)?;
     let reader = AttributeFiles::new(rt, alloc);
     let system = named_file(alloc, &reader, options.system)?;
     let named = named_file(alloc, &reader, options.attributes)?;
     let tree = work_tree(rt, alloc, options)?;
-    let concerns = Concerns {
-        are_attributes: true,
-        is_nul: flags.nul,
-        uses_index: true,
-    };
-    tell_signs(rt, alloc, &tree, concerns)?;
+    let _none = tracked_after_signs(rt, alloc, &tree, IndexUse::Attributes)?;
     let WorkTree {
         standpoint,
         folds,
+        quoting,
         attributes,
         own_attributes,
         ..
@@ -70,6 +66,7 @@ pub(crate) fn outer_attributes<R: Files + Env + Eprint + AllocGlobal>(
     Ok(OuterAttributes {
         standpoint,
         folds,
+        quoting,
         system: system.unwrap_or(Vec::new(alloc)),
         user,
         top,

@@ -1,12 +1,18 @@
 //! Signs that Git may answer otherwise, since the program doesn't read what it reads: they are looked for, and told in one line.
+ghost use Rattle.std.specs.Prelude.{◌≡◌, ◌≢◌, [], IfOk};
+ghost use Rattle.globtree.specs.Tracked.{IsOfIndex};
 
 use crate::index_head::entry_count;
+use crate::tracked::IndexFile;
 use crate::work_tree::WorkTree;
+use anyhow::Result;
+use git_index::Entry;
 use std::alloc::{AllocError, Global};
 use std::env::VarError;
 use std::io::{ErrorKind, Read};
 use std::rt::{Env, Files};
 use std::{env, fs, io};
+use tracked_paths::TrackedPaths;
 use tree_files::tell_line;
 
 /// How many bytes of the index are looked at: the name of its first extension stands behind the number of its entries.
@@ -15,36 +21,35 @@ const INDEX_FRONT: usize = 16;
 /// The variable by which Git hands the words of `-c` on.
 const PARAMETERS: &str = "GIT_CONFIG_PARAMETERS";
 
-/// What a command's answers depend on.
-#[derive(Clone, Copy, Drop)]
-pub(crate) struct Concerns {
-    /// Whether attributes are asked for, and not whether paths are ignored.
-    pub(crate) are_attributes: bool,
-    /// Whether the bytes of names are printed as they are.
-    pub(crate) is_nul: bool,
-    /// Whether Git would look into the index.
-    pub(crate) uses_index: bool,
+/// What a command takes from the index.
+#[derive(Clone, Copy, PartialEq, Eq, Drop)]
+pub(crate) enum IndexUse {
+    /// Nothing.
+    Nothing,
+    /// Which paths are tracked.
+    Paths,
+    /// Nothing, though Git takes attribute files from it.
+    Attributes,
+    /// Nothing, though Git takes tracked paths from it.
+    Listing,
 }
 
-/// Looks for signs in the environment, and in what is known of the work tree. It tells in one line those that it found. What can't be
-/// read is no sign.
-pub(crate) fn tell_signs<R: Files + Env + Eprint + AllocGlobal>(
+/// Looks for signs in the environment, in the index and in what is known of the work tree. It tells in one line those that it found, and
+/// answers the paths that are tracked, where these are asked for. What else can't be read is no sign.
+pub(crate) fn tracked_after_signs<R: Files + Env + Eprint + AllocGlobal>(
     rt: &R,
     alloc: Global,
     tree: &WorkTree,
-    concerns: Concerns,
-) -> Result<(), AllocError> {
+    index: IndexUse,
+) -> Result<TrackedPaths>
+    ensures tracked { IfOk result IsOfIndex }
+    ensures unread { IfOk result (λ tracked. index ≢ IndexUse.Paths → tracked ≡ []) }
+{
     let mut text = String::new(alloc);
     if is_set(rt, PARAMETERS)? {
         add(&mut text, &["the variable ", PARAMETERS, " isn't read"])?;
     }
-    if !tree.quotes && !concerns.is_nul {
-        add(&mut text, &["core.quotePath isn't read"])?;
-    }
-    if concerns.uses_index && has_entries(rt, tree.index.as_str())? {
-        let tracked = tracked_in(concerns);
-        add(&mut text, &["the index isn't read (tracked ", tracked, ")"])?;
-    }
+    let tracked = tracked_or_sign(rt, alloc, &tree.index, index, &mut text)?;
     if !text.is_empty() {
         tell_line(
             rt,
@@ -52,7 +57,78 @@ pub(crate) fn tell_signs<R: Files + Env + Eprint + AllocGlobal>(
             format_args!("warning: Git may answer otherwise: {text}"),
         )?;
     }
-    Ok(())
+    Ok(tracked)
+}
+
+/// The paths that an index tracks, where these are asked for. What is not taken from it, though Git does, is added as a sign.
+fn tracked_or_sign<R: Files>(
+    rt: &R,
+    alloc: Global,
+    file: &Option<IndexFile>,
+    index: IndexUse,
+    text: &mut String,
+) -> Result<TrackedPaths>
+    ensures tracked { IfOk result IsOfIndex }
+    ensures unread { IfOk result (λ tracked. index ≢ IndexUse.Paths → tracked ≡ []) }
+{
+    let Some(file) = file else {
+        return Ok(TrackedPaths::none(alloc));
+    };
+    match index {
+        IndexUse::Nothing => Ok(TrackedPaths::none(alloc)),
+        IndexUse::Paths => {
+            let tracked = file.tracked(rt, alloc)?;
+            if is_some_hidden(rt, tracked.entries(), b".gitignore") {
+                add(
+                    text,
+                    &["a .gitignore that is in the index alone isn't read"],
+                )?;
+            }
+            Ok(tracked)
+        }
+        IndexUse::Attributes => {
+            let tracked = file.tracked(rt, alloc)?;
+            if is_some_hidden(rt, tracked.entries(), b".gitattributes") {
+                add(
+                    text,
+                    &["a .gitattributes that is in the index alone isn't read"],
+                )?;
+            }
+            Ok(TrackedPaths::none(alloc))
+        }
+        IndexUse::Listing => {
+            if has_entries(rt, file.name.as_str())? {
+                add(text, &["the index isn't read (tracked paths)"])?;
+            }
+            Ok(TrackedPaths::none(alloc))
+        }
+    }
+}
+
+/// Whether the index has a file of this name that doesn't stand in the work tree.
+fn is_some_hidden<R: Files>(rt: &R, entries: &[Entry], name: &[u8]) -> bool {
+    'entries: for entry in entries {
+        if is_named(&entry.path, name) && !stands(rt, &entry.path) {
+            return true;
+        }
+    }
+    false
+}
+
+/// Whether a path ends in this name.
+fn is_named(path: &[u8], name: &[u8]) -> bool {
+    match path.strip_suffix(name) {
+        Some(folder) => folder.is_empty() || folder.ends_with(b"/"),
+        None => false,
+    }
+}
+
+/// Whether something stands at a path, as far as that can be told.
+fn stands<R: Files>(rt: &R, path: &[u8]) -> bool {
+    match str::from_utf8(path) {
+        Ok(path) => fs::symlink_metadata(rt, path).is_ok(),
+        Err(_bad) => false,
+    }
 }
 
 /// Adds a sign, by parts of the words for it.
@@ -64,15 +140,6 @@ fn add(text: &mut String, parts: &[&str]) -> Result<(), AllocError> {
         text.push_str(*part)?;
     }
     Ok(())
-}
-
-/// What Git takes from the index, in words.
-fn tracked_in(concerns: Concerns) -> &'static str {
-    if concerns.are_attributes {
-        "attribute files"
-    } else {
-        "paths"
-    }
 }
 
 /// Whether an index has entries, or is split, so that they lie elsewhere, or is none.

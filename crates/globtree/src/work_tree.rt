@@ -1,19 +1,26 @@
 //! The work tree that a command is called in: where paths are told from, and the files that count in all of it.
-ghost use Rattle.std.specs.Prelude.{IfOk};
+ghost use Rattle.std.specs.Prelude.{◌≡◌, codes, option_map, IfOk, Some};
+ghost use Rattle.std.specs.Vec.{vec_items};
+ghost use Rattle.core_settings.specs.Values.{last_value};
+ghost use Rattle.core_settings.specs.Views.{seen_settings};
 ghost use Rattle.opened_repository.specs.Results.{opened_of};
 ghost use Rattle.globtree.specs.Places.{IsTreeOf};
+ghost use Rattle.globtree.specs.Running.{quoting_by};
+ghost use Rattle.globtree.specs.Tracked.{format_by};
 
 use crate::moving::{current_folder, go_to_top};
 use crate::opening::open_here;
 use crate::places::{from_root, standpoint_at, standpoint_in};
+use crate::tracked::IndexFile;
 use anyhow::{Context, Result};
 use core_settings::settings_file;
 use git_config::Config;
+use git_index::ObjectFormat;
 use opened_repository::{Opened, told_from};
 use repository_files::variable;
 use std::alloc::Global;
 use std::rt::{Env, Files};
-use told_paths::Standpoint;
+use told_paths::{Quoting, Standpoint};
 use tree_files::path_text;
 use tree_words::Options;
 
@@ -24,8 +31,8 @@ pub(crate) struct WorkTree {
     pub(crate) standpoint: Standpoint,
     /// Whether the configuration says that the case of letters doesn't count.
     pub(crate) folds: bool,
-    /// Whether bytes above 127 are a reason to quote a name, by the configuration.
-    pub(crate) quotes: bool,
+    /// Which names stand in quotes, by the configuration.
+    pub(crate) quoting: Quoting,
     /// The file of excludes for all repositories.
     pub(crate) excludes: Option<Vec<u8>>,
     /// The file of attributes for all repositories.
@@ -34,8 +41,8 @@ pub(crate) struct WorkTree {
     pub(crate) own_excludes: String,
     /// The repository's own file of attributes.
     pub(crate) own_attributes: String,
-    /// The index.
-    pub(crate) index: String,
+    /// The index; `None` where no repository is looked for.
+    pub(crate) index: Option<IndexFile>,
 }
 
 /// Goes to the top of the work tree: the folder that is named, or that of the repository of the current folder.
@@ -57,12 +64,12 @@ fn named_tree<R: Files + Env + AllocGlobal>(rt: &R, alloc: Global, top: &str) ->
     Ok(WorkTree {
         standpoint: standpoint_at(alloc, &here, top)?,
         folds: false,
-        quotes: true,
+        quoting: Quoting::Full,
         excludes: users_file(rt, alloc, b"ignore")?,
         attributes: users_file(rt, alloc, b"attributes")?,
         own_excludes: String::from_str(alloc, ".git/info/exclude")?,
         own_attributes: String::from_str(alloc, ".git/info/attributes")?,
-        index: String::from_str(alloc, ".git/index")?,
+        index: None,
     })
 }
 
@@ -101,14 +108,49 @@ fn tree_at(
     let own_excludes = opened.exclude_name.context("there is no work tree")?;
     let own_attributes = told_from(alloc, current, &opened.attributes_file)?;
     let index = told_from(alloc, current, &opened.index_file)?;
+    let format = format_of(&opened.config);
     Ok(WorkTree {
         standpoint,
         folds: opened.core.ignore_case,
-        quotes: opened.core.quote_path,
+        quoting: quoting_of(opened.core.quote_path),
         excludes: opened.core.excludes,
         attributes: opened.core.attributes,
         own_excludes: path_text(alloc, &own_excludes)?,
         own_attributes: path_text(alloc, &own_attributes)?,
-        index: path_text(alloc, &index)?,
+        index: Some(IndexFile {
+            name: path_text(alloc, &index)?,
+            format,
+        }),
     })
+}
+
+/// Which names stand in quotes: all with bytes past ASCII, unless that is configured otherwise.
+fn quoting_of(quotes_paths: bool) -> Quoting
+    ensures { result ≡ quoting_by quotes_paths }
+{
+    if quotes_paths {
+        Quoting::Full
+    } else {
+        Quoting::AsciiOnly
+    }
+}
+
+/// The digest that names objects, by the configuration.
+fn format_of(config: &Config) -> ObjectFormat
+    ensures { result ≡ format_by (last_value (codes "extensions.objectformat") (seen_settings config.now)) }
+{
+    match config.last_of(b"extensions.objectformat") {
+        Some(setting) => format_named(&setting.entry.value),
+        None => ObjectFormat::Sha1,
+    }
+}
+
+/// The digest that a value names.
+fn format_named(value: &Option<Vec<u8>>) -> ObjectFormat
+    ensures { result ≡ format_by (Some (option_map vec_items value.now)) }
+{
+    match value {
+        Some(name) if name.as_slice() == b"sha256".as_slice() => ObjectFormat::Sha256,
+        _ => ObjectFormat::Sha1,
+    }
 }

@@ -11,6 +11,7 @@ returns-in-Ok-clause-answered g c =
     let standpoint = c.in_ok-fronts.fronts.standpoint in
     record {
       standpoint = standpoint;
+      quoting = c.in_ok-fronts.fronts.quoting;
       paths = lists.0;
       ordered = lists.1;
       written = subst (λ form. Appends (g.O.Write.contents (inner c.args.output.now)) (g.O.Write.contents (inner c.run_files.new.writer)) (flat_map (path_line standpoint form) lists.0)) c.ended_by.ensures lists.2;
@@ -22,6 +23,7 @@ returns-in-Ok-2-clause-answered g c =
     let standpoint = c.in_ok-fronts.fronts.standpoint in
     record {
       standpoint = standpoint;
+      quoting = c.in_ok-fronts.fronts.quoting;
       paths = lists.0;
       ordered = lists.1;
       written = subst (λ form. Appends (g.O.Write.contents (inner c.args.output.now)) (g.O.Write.contents (inner c.run_files.new.writer)) (flat_map (path_line standpoint form) lists.0)) c.ended_by.ensures lists.2;
