@@ -1,5 +1,5 @@
 #!/usr/bin/env python3
-"""Answers rows of work trees, of attributes, of configuration and of repositories by Git: tools/vectors examples/vectors/git.py [PROGRAM]
+"""Answers rows of work trees, of attributes, of configuration, of repositories and of tracked paths by Git: tools/vectors examples/vectors/git.py [PROGRAM]
 
 PROGRAM is another one that takes Git's words, as `globtree` does."""
 import contextlib
@@ -264,8 +264,6 @@ def core_settings(home, config_home, sources, words, *fields):
         ran = asked("check-ignore", "-v", "-n", "A", "\u00e4", "x")
         if fault := re.search(rb"^fatal: (.*)$", ran.stderr, re.M):
             return [fault[1].replace(top, b"/top"), None, None, None]
-        if not IS_GIT and b"quotepath" in b"\n".join([words, *fields]).lower():
-            return ()
         folded, quoted, excluded = ran.stdout.split(b"\n")[:3]
         named = asked("check-attr", "n", "x").stdout.removeprefix(b"x: n: ").rstrip(b"\n")
         excludes = excluded.rsplit(b"\t", 1)[0].rsplit(b":", 2)[0].replace(top, b"/top")
@@ -280,6 +278,20 @@ def config_booleans(value):
     with rows.repository_of([(b".git/config", b"[core]ignoreCase" + quoted), (b".gitignore", b"a\n")]) as top:
         ran = subprocess.run([PROGRAM, "-C", top, "check-ignore", "A"], env=ALONE, capture_output=True, check=False)
         return [{0: "yes", 1: "no"}.get(ran.returncode)]
+
+
+def tracked_paths(format_, index, asked, literal):
+    """Whether no line decides about a path, though one ignores all: it is told from the folder of its literal front."""
+    folder, told = asked[:int(literal)], asked[int(literal):].lstrip(b"/")
+    config = b"[core]\nrepositoryFormatVersion=1\n[extensions]\nobjectFormat=%s\n" % format_
+    with rows.repository_of([(b".git/config", config), (b".git/index", index), (b".gitignore", b"*\n")]) as top:
+        start = os.path.join(os.fsencode(top), folder)
+        os.makedirs(start, exist_ok=True)
+        ran = subprocess.run([PROGRAM, "check-ignore", "-v", "-n", "-z", "--stdin"], cwd=start, input=(told or b".") + b"\0", env=ALONE, capture_output=True, check=False)
+    if b"submodule" in ran.stderr:
+        named = re.search(rb"is in submodule '(.*)'$", ran.stderr, re.M)
+        return [*rows.told(False), named[1]] if named else ()
+    return [*rows.told(ran.stdout.startswith(b"\0")), None]
 
 
 COMMON = ["rev-parse", "--path-format=absolute", "--git-common-dir"]
@@ -349,4 +361,4 @@ def exclude_names(current, words, *fields):
 
 OF_PATTERNS = (matching, git_paths, trees, trees_told, git_told, git_attributes, attribute_states, all_states, attribute_streams, attribute_names)
 OF_CONFIGURATION = (config_files, config_includes, config_sources, core_settings, config_booleans)
-rows.answer({it.__name__: it for it in (*OF_PATTERNS, *OF_CONFIGURATION, repositories, work_trees, exclude_names)})
+rows.answer({it.__name__: it for it in (*OF_PATTERNS, *OF_CONFIGURATION, repositories, work_trees, exclude_names, tracked_paths)})

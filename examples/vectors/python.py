@@ -87,7 +87,7 @@ def git_files(text):
 
 
 def patterns_of(text, read_by):
-    found = shown(IgnoreFile(text, reading=read_by))
+    found = shown(IgnoreFile.from_text(text, reading=read_by))
     # (each of the lines of from_lines ends in a line feed)
     return agreed(found, shown(IgnoreFile.from_lines(text[:-1].split(b"\n"), reading=read_by))) if text.endswith(b"\n") else found
 
@@ -96,11 +96,13 @@ def list_of(fields):
     """The files of a row, or None: the binding takes no base that isn't a folder's below the top."""
     files = [(base or b"", text) for base, text in rows.pairs(fields)]
     are_folders = all(not base or base.endswith(b"/") and rows.is_plain(base) for base, _ in files)
-    return IgnoreList([IgnoreFile(text, base, reading=READING) for base, text in files]) if are_folders else None
+    return IgnoreList([IgnoreFile.from_text(text, base, reading=READING) for base, text in files]) if are_folders else None
 
 
 def place_of(rules, found):
-    return f"{rules.files.index(found.file) + 1}:{found.line}"
+    # (two files with the same patterns are equal)
+    place = next(at for at, file in enumerate(rules.files, 1) if file is found.file)
+    return f"{place}:{found.line}"
 
 
 def decided(case, paths, *fields):
@@ -111,7 +113,7 @@ def decided(case, paths, *fields):
     for path in paths.removesuffix(b"\n").split(b"\n") if paths else []:
         try:
             found = rules.decide(path, ignore_case=case == b"fold")
-            text += f"{'ignored' if found.is_ignored else 'kept'} {place_of(rules, found)}\n" if found else "none\n"
+            text += f"{'ignored' if found.is_ignored else 'kept'} {place_of(rules, found)}\n" if found is not None else "none\n"
         except ValueError:
             text += "!\n"
     return [text]
@@ -126,7 +128,7 @@ def trees(case, path, *fields):
     matched = list(rules.match_files([path, path], ignore_case=fold))
     if rules.match_file(path, ignore_case=fold) != is_ignored or matched != [path, path] * is_ignored:
         return ["differs"]
-    return [place_of(rules, found) if found else None]
+    return [None if found is None else place_of(rules, found)]
 
 
 def trees_told(case, _there, path, *fields):

@@ -9,7 +9,7 @@ use glob_trees::list_in_folder;
 use std::alloc::{AllocError, Global};
 use std::process::Abort;
 use std::test::Fail;
-use told_paths::Standpoint;
+use told_paths::{Quoting, Standpoint};
 use tree_answers::Form;
 use tree_commands::files::source::{EntryKind, FileSource, FolderNames};
 use tree_commands::files::{Listing, run_files};
@@ -149,7 +149,7 @@ fn ask(rt: &(impl Abort + AllocGlobal), question: Question, row: usize) -> Resul
     };
     let listing = Listing {
         standpoint,
-        form: Form::Lines,
+        form: Form::Lines(Quoting::Full),
         fronts: Vec::new(alloc),
         case: Case::Sensitive,
     };

@@ -1,38 +1,14 @@
 //! Asks the libraries what rows of data ask, and tells each row whose answer is another one.
 #![tactic(auto)]
 
-mod answer;
-mod as_git;
 mod asking;
-mod attempts;
-mod attribute_files;
-mod attribute_states;
-mod bases;
-mod config_files;
-mod config_includes;
-mod config_sources;
-mod core_values;
-mod fault;
-mod file_table;
-mod ignore_runs;
-mod index_files;
-mod lines;
-mod lists;
-mod matching;
-mod patterns;
-mod question;
-mod repositories;
-mod row;
-mod streams;
 mod subjects;
-mod texts;
-mod trees;
 
 use crate::asking::ask;
-use crate::fault::RowFault;
-use crate::row::{WrittenOut, row_of};
 use crate::subjects::{FILES, RowFile};
 use anyhow::{Context, Result};
+use row_texts::{RowFault, WrittenOut, row_of};
+use std::alloc::{AllocError, Global};
 use std::fs;
 use std::process::ExitCode;
 use std::rt::Files;
@@ -46,23 +22,28 @@ fn main(rt: HostRuntime) -> Result<ExitCode> {
             answers,
             subject,
         };
-        let name = format!(in rt.alloc(); "{subject}.tsv", subject = file.name)?;
-        let bytes = fs::read(&rt, name.as_str()).context(file.name)?;
-        let tally = ask_rows(&rt, file, &bytes)?;
-        wrong = wrong.saturating_add(tally.wrong);
-        println!(rt;
-            "{subject}{whose}: {rows} rows, {wrong} wrong",
-            subject = file.name,
-            whose = file.subject.title(),
-            rows = tally.rows,
-            wrong = tally.wrong
-        )?;
+        wrong = wrong.saturating_add(ask_file(&rt, file)?);
     }
     Ok(if wrong == 0 {
         ExitCode::SUCCESS
     } else {
         ExitCode::FAILURE
     })
+}
+
+/// Asks the rows of a file, and tells how many they are and how many of them have another answer. It answers the second number.
+fn ask_file<R: Files + Print + AllocGlobal>(rt: &R, file: RowFile) -> Result<usize> {
+    let name = format!(in rt.alloc(); "{subject}.tsv", subject = file.name)?;
+    let bytes = fs::read(rt, name.as_str()).context(file.name)?;
+    let tally = ask_rows(rt, file, &bytes)?;
+    println!(rt;
+        "{subject}{whose}: {rows} rows, {wrong} wrong",
+        subject = file.name,
+        whose = file.subject.title(),
+        rows = tally.rows,
+        wrong = tally.wrong
+    )?;
+    Ok(tally.wrong)
 }
 
 /// How many rows a file has, and how many of them have another answer.
@@ -98,12 +79,15 @@ fn difference<R: AllocGlobal>(rt: &R, file: RowFile, line: &[u8]) -> Result<Opti
     let row = row_of(rt.alloc(), line.text(), file.answers, file.subject.whose())?;
     match ask(rt.alloc(), file.subject, &row.question) {
         Ok(answer) if answer.text() == row.wanted => Ok(None),
-        Ok(answer) => {
-            let wanted = String::from_utf8_lossy(rt.alloc(), row.wanted)?;
-            let text = String::from_utf8_lossy(rt.alloc(), answer.text())?;
-            Ok(Some(format!(in rt.alloc(); "wanted {wanted}, answered {text}")?))
-        }
+        Ok(answer) => Ok(Some(both_answers(rt.alloc(), row.wanted, answer.text())?)),
         Err(RowFault::Memory) => Err(RowFault::Memory.into()),
         Err(fault) => Ok(Some(format!(in rt.alloc(); "{fault}")?)),
     }
+}
+
+/// The answer of a row and another one that was given.
+fn both_answers(alloc: Global, wanted: &[u8], given: &[u8]) -> Result<String, AllocError> {
+    let wanted = String::from_utf8_lossy(alloc, wanted)?;
+    let given = String::from_utf8_lossy(alloc, given)?;
+    format!(in alloc; "wanted {wanted}, answered {given}")
 }

@@ -1,6 +1,10 @@
 //! The subjects of the rows: each has a file, and says what its rows ask.
 
-use crate::row::Whose;
+use command_rows::CommandSubject;
+use pattern_rows::{LineSubject, ListSubject, PatternSubject};
+use repository_rows::RepositorySubject;
+use row_texts::Whose;
+use tree_rows::{AttributeSubject, StreamSubject, TreeSubject};
 
 /// A file of rows.
 #[derive(Clone, Copy)]
@@ -19,103 +23,17 @@ pub(crate) enum Subject {
     List(ListSubject),
     Line(LineSubject),
     Tree(TreeSubject),
+    Command(CommandSubject),
     Attribute(AttributeSubject),
+    Stream(StreamSubject),
     Repository(RepositorySubject),
-}
-
-/// What rows ask of patterns.
-#[derive(Clone, Copy)]
-pub(crate) enum PatternSubject {
-    Matching,
-    Starts,
-    Attempts,
-    Reading,
-    Wildcards,
-    Parts,
-    Shown,
-    Values,
-    Basenames,
-    RepositoryPaths,
-    GitReading,
-    GitPaths,
-}
-
-/// What rows ask of lists, and of what the engines of lines write.
-#[derive(Clone, Copy)]
-pub(crate) enum ListSubject {
-    FileParts,
-    Bases,
-    Stripping,
-    Answered,
-    Listed,
-    Decided,
-    Folders,
-}
-
-/// What rows ask of lines and records.
-#[derive(Clone, Copy)]
-pub(crate) enum LineSubject {
-    IgnoreFiles,
-    IgnoreLines,
-    GitFiles,
-    GitLines,
-    Marks,
-    Labels,
-    Records,
-}
-
-/// What rows ask of work trees.
-#[derive(Clone, Copy)]
-pub(crate) enum TreeSubject {
-    Told,
-    Decided,
-    ToldAsGit,
-    DecidedAsGit,
-    GitTold,
-    Asked,
-    IgnoreRuns,
-}
-
-/// What rows ask of attributes.
-#[derive(Clone, Copy)]
-pub(crate) enum AttributeSubject {
-    Lines,
-    Names,
-    Files,
-    Macros,
-    Matches,
-    Folders,
-    Kept,
-    States,
-    StatesAsGit,
-    GitTold,
-    Streams,
-    SilentLines,
-    NamesRead,
-    AllStates,
-}
-
-/// What rows ask of Git's index, configuration and repositories.
-#[derive(Clone, Copy)]
-pub(crate) enum RepositorySubject {
-    IndexFiles,
-    IndexPaths,
-    ConfigFiles,
-    ConfigIncludes,
-    ConfigSources,
-    CoreSettings,
-    ConfigBooleans,
-    Repositories,
-    WorkTrees,
-    ExcludeNames,
-    SafeDirectories,
 }
 
 impl Subject {
     /// Whose answers count: where Git's reading is asked, those of Git.
     pub(crate) fn whose(self) -> Whose {
         match self {
-            Subject::Tree(TreeSubject::DecidedAsGit | TreeSubject::ToldAsGit)
+            Subject::Command(CommandSubject::Decided | CommandSubject::Told)
             | Subject::Attribute(AttributeSubject::StatesAsGit) => Whose::Git,
             _ => Whose::Own,
         }
@@ -131,7 +49,7 @@ impl Subject {
 }
 
 /// All files of rows, in the order in which they are asked: the name of each, how many fields are the answer, and what is asked.
-pub(crate) const FILES: [(&str, usize, Subject); 58] = [
+pub(crate) const FILES: [(&str, usize, Subject); 59] = [
     ("matching", 1, Subject::Pattern(PatternSubject::Matching)),
     ("starts", 1, Subject::Pattern(PatternSubject::Starts)),
     ("attempts", 1, Subject::Pattern(PatternSubject::Attempts)),
@@ -167,11 +85,15 @@ pub(crate) const FILES: [(&str, usize, Subject); 58] = [
     ("folders", 1, Subject::List(ListSubject::Folders)),
     ("trees", 1, Subject::Tree(TreeSubject::Decided)),
     ("trees_told", 1, Subject::Tree(TreeSubject::Told)),
-    ("trees", 1, Subject::Tree(TreeSubject::DecidedAsGit)),
-    ("trees_told", 1, Subject::Tree(TreeSubject::ToldAsGit)),
-    ("git_told", 1, Subject::Tree(TreeSubject::GitTold)),
+    ("trees", 1, Subject::Command(CommandSubject::Decided)),
+    ("trees_told", 1, Subject::Command(CommandSubject::Told)),
+    ("git_told", 1, Subject::Command(CommandSubject::GitTold)),
     ("trees_asked", 2, Subject::Tree(TreeSubject::Asked)),
-    ("ignore_runs", 3, Subject::Tree(TreeSubject::IgnoreRuns)),
+    (
+        "ignore_runs",
+        3,
+        Subject::Command(CommandSubject::IgnoreRuns),
+    ),
     (
         "attribute_lines",
         1,
@@ -220,12 +142,12 @@ pub(crate) const FILES: [(&str, usize, Subject); 58] = [
     (
         "git_attributes",
         1,
-        Subject::Attribute(AttributeSubject::GitTold),
+        Subject::Command(CommandSubject::Attributes),
     ),
     (
         "attribute_streams",
         1,
-        Subject::Attribute(AttributeSubject::Streams),
+        Subject::Stream(StreamSubject::Attributes),
     ),
     (
         "silent_lines",
@@ -242,7 +164,7 @@ pub(crate) const FILES: [(&str, usize, Subject); 58] = [
         1,
         Subject::Attribute(AttributeSubject::AllStates),
     ),
-    ("records", 1, Subject::Line(LineSubject::Records)),
+    ("records", 1, Subject::Stream(StreamSubject::Records)),
     (
         "index_files",
         1,
@@ -252,6 +174,11 @@ pub(crate) const FILES: [(&str, usize, Subject); 58] = [
         "index_paths",
         2,
         Subject::Repository(RepositorySubject::IndexPaths),
+    ),
+    (
+        "tracked_paths",
+        2,
+        Subject::Repository(RepositorySubject::TrackedPaths),
     ),
     (
         "config_files",

@@ -1,0 +1,61 @@
+//! Rows of the section `core`: what files and words set of matching and printing.
+
+use crate::config_includes::{Files, around_home, sources_of};
+use core_settings::{CoreFault, core_settings as settings_of};
+use git_config::{Config, ReadFault, Source, Surroundings};
+use row_texts::{Answer, Question, RowFault};
+use std::alloc::Global;
+
+/// What files and then words set, or the first fault.
+pub(crate) fn core_settings(
+    alloc: Global,
+    question: &Question,
+    answer: &mut Answer,
+) -> Result<(), RowFault> {
+    let files = Files {
+        alloc,
+        fields: question.rest(4),
+    };
+    let around = around_home(alloc, question.option(0)?)?;
+    let sources = sources_of(alloc, question.bytes(2)?, question.bytes(3)?)?;
+    let config = config_of(alloc, &files, &around, &sources)?;
+    match settings_of(alloc, &config, &around, question.option(1)?) {
+        Ok(core) => {
+            answer.push_bool(core.ignore_case)?;
+            answer.push_bool(core.quote_path)?;
+            answer.push_option(core.excludes.as_deref())?;
+            answer.push_option(core.attributes.as_deref())
+        }
+        Err(fault) => push_fault(alloc, &fault, answer),
+    }
+}
+
+/// What files and words say. Rows of core settings have none that is wrong.
+fn config_of(
+    alloc: Global,
+    files: &Files<'_>,
+    around: &Surroundings,
+    sources: &[Source<'_>],
+) -> Result<Config, RowFault> {
+    match Config::read(alloc, files, around, sources) {
+        Ok(config) => Ok(config),
+        Err(ReadFault::Setting(_)) => Err(RowFault::Field("a configuration")),
+        // (the files of a row fail for want of memory alone)
+        Err(ReadFault::Memory | ReadFault::File(_)) => Err(RowFault::Memory),
+    }
+}
+
+/// Adds a fault, but want of memory.
+fn push_fault(
+    alloc: Global,
+    fault: &CoreFault<Vec<u8>>,
+    answer: &mut Answer,
+) -> Result<(), RowFault> {
+    if let CoreFault::Memory = fault {
+        return Err(RowFault::Memory);
+    }
+    answer.push_shown(alloc, fault)?;
+    answer.push_option(None)?;
+    answer.push_option(None)?;
+    answer.push_option(None)
+}

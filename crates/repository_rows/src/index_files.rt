@@ -1,0 +1,82 @@
+//! Rows of Git's index: what a file says, and which paths are tracked in it.
+
+use git_index::{Entry, Index, IndexFault, Kind, ObjectFormat};
+use row_texts::{Answer, Question, RowFault};
+use std::alloc::{AllocError, Global};
+
+/// What an index file says: a line for each entry, or the fault.
+pub(crate) fn index_files(
+    alloc: Global,
+    question: &Question,
+    answer: &mut Answer,
+) -> Result<(), RowFault> {
+    let format = format_of(question)?;
+    match Index::from_bytes(alloc, question.bytes(1)?, format) {
+        Ok(index) => push_lines(alloc, index.entries(), answer),
+        Err(IndexFault::Memory) => Err(RowFault::Memory),
+        Err(fault) => answer.push_shown(alloc, &fault),
+    }
+}
+
+/// Whether a path is tracked in an index file, and whether something below it is.
+pub(crate) fn index_paths(
+    alloc: Global,
+    question: &Question,
+    answer: &mut Answer,
+) -> Result<(), RowFault> {
+    let format = format_of(question)?;
+    let path = question.bytes(2)?;
+    match Index::from_bytes(alloc, question.bytes(1)?, format) {
+        Ok(index) => {
+            answer.push_bool(index.is_tracked(path))?;
+            answer.push_bool(index.has_below(path))
+        }
+        Err(IndexFault::Memory) => Err(RowFault::Memory),
+        Err(_fault) => Err(RowFault::Call("Index::from_bytes")),
+    }
+}
+
+/// How objects are named, by the first field.
+pub(crate) fn format_of(question: &Question) -> Result<ObjectFormat, RowFault> {
+    match question.bytes(0)? {
+        b"sha1" => Ok(ObjectFormat::Sha1),
+        b"sha256" => Ok(ObjectFormat::Sha256),
+        _ => Err(RowFault::Field("an object format")),
+    }
+}
+
+/// Adds the lines of entries as one field.
+fn push_lines(alloc: Global, entries: &[Entry], answer: &mut Answer) -> Result<(), RowFault> {
+    let mut text = Vec::new(alloc);
+    for entry in entries {
+        push_line(&mut text, entry)?;
+    }
+    answer.push(&text)
+}
+
+/// Adds a line: the mode of an entry, its stage, a sign for each of its bits, and its path.
+fn push_line(text: &mut Vec<u8>, entry: &Entry) -> Result<(), AllocError> {
+    text.extend_from_slice(mode_of(entry.kind))?;
+    let signs = [
+        b'0'.wrapping_add(entry.stage),
+        b' ',
+        if entry.assume_valid { b'v' } else { b'.' },
+        if entry.skip_worktree { b'S' } else { b'.' },
+        if entry.intent_to_add { b'i' } else { b'.' },
+        b' ',
+    ];
+    text.extend_from_slice(&signs)?;
+    text.extend_from_slice(&entry.path)?;
+    text.push(b'\n')?;
+    Ok(())
+}
+
+/// The mode of a kind, and a space.
+fn mode_of(kind: Kind) -> &'static [u8] {
+    match kind {
+        Kind::File => b"100644 ",
+        Kind::Executable => b"100755 ",
+        Kind::Link => b"120000 ",
+        Kind::Submodule => b"160000 ",
+    }
+}

@@ -1,0 +1,343 @@
+//! Rows of repositories: where the one of a current folder is, and which are its folders.
+
+use crate::file_table::FileTable;
+use git_config::{
+    ConfigFault, ConfigFile, Entry, Item, boolean, integer, last_boolean, split_word,
+};
+use git_repository::{
+    Environment, FileSystem, FindFault, Folders, Found, RepositoryFile, Safety, Settings,
+    check_format, exclude_name, file_path, find, folders_of, trusts, work_tree_of,
+};
+use row_texts::{Answer, Question, RowFault, text_of};
+use std::alloc::{AllocError, Global};
+
+/// The git folder of the repository of a current folder, or the fault.
+pub(crate) fn repositories(
+    alloc: Global,
+    question: &Question,
+    answer: &mut Answer,
+) -> Result<(), RowFault> {
+    let row = Row::new(alloc, question)?;
+    match row.find(alloc) {
+        Ok(found) => answer.push_option(row.table.real_path(&found.git_folder)?.as_deref()),
+        Err(fault) => push_fault(alloc, fault, answer),
+    }
+}
+
+/// Whether values of `safe.directory`, a line each, name a path.
+pub(crate) fn safe_directories(
+    alloc: Global,
+    question: &Question,
+    answer: &mut Answer,
+) -> Result<(), RowFault> {
+    let mut values = Vec::new(alloc);
+    for line in question.bytes(1)?.split(|byte| *byte == b'\n') {
+        values.push(Vec::from_slice(alloc, line)?)?;
+    }
+    answer.push_bool(trusts(&values, question.bytes(0)?))
+}
+
+/// The common folder of a repository and its work tree, with what its configuration says; or the fault.
+pub(crate) fn work_trees(
+    alloc: Global,
+    question: &Question,
+    answer: &mut Answer,
+) -> Result<(), RowFault> {
+    let row = Row::new(alloc, question)?;
+    match row.folders(alloc) {
+        Ok(folders) => {
+            answer.push_option(row.table.real_path(&folders.common)?.as_deref())?;
+            answer.push_option(folders.top.as_deref())
+        }
+        Err(Told::Found(fault)) => {
+            push_fault(alloc, fault, answer)?;
+            answer.push_option(None)
+        }
+        Err(Told::Text(text)) => {
+            answer.push(text.as_bytes())?;
+            answer.push_option(None)
+        }
+    }
+}
+
+/// How Git names the file `info/exclude` of a repository; or the fault.
+pub(crate) fn exclude_names(
+    alloc: Global,
+    question: &Question,
+    answer: &mut Answer,
+) -> Result<(), RowFault> {
+    match Row::new(alloc, question)?.folders(alloc) {
+        Ok(folders) => answer.push_option(folders.exclude.as_deref()),
+        Err(Told::Found(fault)) => push_fault(alloc, fault, answer),
+        Err(Told::Text(text)) => answer.push(text.as_bytes()),
+    }
+}
+
+/// Adds a fault, but want of memory.
+fn push_fault(
+    alloc: Global,
+    fault: FindFault<Vec<u8>>,
+    answer: &mut Answer,
+) -> Result<(), RowFault> {
+    match fault {
+        FindFault::Memory => Err(RowFault::Memory),
+        other => answer.push_shown(alloc, &other),
+    }
+}
+
+/// What a repository's configuration tells: its common folder, the top of its work tree, and with that the name of `info/exclude`.
+#[derive(Drop)]
+struct Tops {
+    common: Vec<u8>,
+    top: Option<Vec<u8>>,
+    exclude: Option<Vec<u8>>,
+}
+
+/// Why a repository's folders aren't told.
+#[derive(Drop)]
+enum Told {
+    Found(FindFault<Vec<u8>>),
+    Text(String),
+}
+
+impl From<AllocError> for Told {
+    fn from(_refused: AllocError) -> Told {
+        Told::Found(FindFault::Memory)
+    }
+}
+
+impl From<FindFault<Vec<u8>>> for Told {
+    fn from(fault: FindFault<Vec<u8>>) -> Told {
+        Told::Found(fault)
+    }
+}
+
+/// What the configuration of a repository says: the entries of its file, and behind them those of the file of the work tree alone.
+#[derive(Drop)]
+struct Said {
+    file: ConfigFile,
+    has_version: bool,
+    has_worktree_config: bool,
+}
+
+impl Said {
+    /// What it sets.
+    fn settings(&self, alloc: Global) -> Result<Settings<&[u8]>, AllocError> {
+        let is_bare = is_true(alloc, &self.file, b"core.bare")?;
+        let work_tree = last_value(&self.file.entries_of(alloc, b"core.worktree")?);
+        Ok(Settings {
+            has_version: self.has_version,
+            has_worktree_config: self.has_worktree_config,
+            is_bare,
+            work_tree,
+        })
+    }
+}
+
+/// What a row says: the current folder, the variables and settings, and the files.
+#[derive(Drop)]
+struct Row<'a> {
+    current: &'a [u8],
+    words: Environment<&'a [u8]>,
+    directories: Vec<Vec<u8>>,
+    bare_is_refused: bool,
+    table: FileTable<'a>,
+}
+
+impl<'a> Row<'a> {
+    /// The row of a question.
+    fn new(alloc: Global, question: &'a Question) -> Result<Row<'a>, RowFault> {
+        let current = question.bytes(0)?;
+        let mut row = Row {
+            current,
+            words: Environment {
+                git_dir: None,
+                work_tree: None,
+                common_dir: None,
+                index_file: None,
+                object_directory: None,
+                ceiling_directories: None,
+                across_file_systems: false,
+            },
+            directories: Vec::new(alloc),
+            bare_is_refused: false,
+            table: FileTable::new(alloc, current, question.rest(2))?,
+        };
+        for line in question.bytes(1)?.split(|byte| *byte == b'\n') {
+            row.take(alloc, line)?;
+        }
+        Ok(row)
+    }
+
+    /// Takes a line of the second field.
+    fn take(&mut self, alloc: Global, line: &'a [u8]) -> Result<(), RowFault> {
+        let (key, value) = split_word(line);
+        match key {
+            _ if set_variable(&mut self.words, key, value) => {}
+            b"GIT_TEST_ASSUME_DIFFERENT_OWNER" => self.table.is_ours = false,
+            b"device" => self.table.device = value,
+            b"safe.bareRepository" => self.bare_is_refused = value == Some(b"explicit"),
+            b"safe.directory" => {
+                let path = Vec::from_slice(alloc, value.unwrap_or(b""))?;
+                self.directories.push(path)?;
+            }
+            b"" => {}
+            _ => return Err(RowFault::Field("a variable")),
+        }
+        Ok(())
+    }
+
+    /// The repository that is found.
+    fn find(&self, alloc: Global) -> Result<Found<Vec<u8>>, FindFault<Vec<u8>>> {
+        let safety = Safety {
+            directories: &self.directories,
+            bare_is_refused: self.bare_is_refused,
+        };
+        find(alloc, &self.table, &self.words, &safety, self.current)
+    }
+
+    /// Its folders, by its configuration.
+    fn folders(&self, alloc: Global) -> Result<Tops, Told> {
+        let found = self.find(alloc)?;
+        let folders = folders_of(alloc, &self.table, &self.words, &found)?;
+        let said = self.said(alloc, &folders)?;
+        let settings = said.settings(alloc)?;
+        let top = work_tree_of(alloc, &self.table, &self.words, &settings, &found)?;
+        let exclude = self.exclude(alloc, &settings, &found, top.as_deref())?;
+        Ok(Tops {
+            common: folders.common_folder,
+            top,
+            exclude,
+        })
+    }
+
+    /// How the file `info/exclude` is named, where there is a work tree.
+    fn exclude(
+        &self,
+        alloc: Global,
+        settings: &Settings<&[u8]>,
+        found: &Found<Vec<u8>>,
+        top: Option<&[u8]>,
+    ) -> Result<Option<Vec<u8>>, FindFault<Vec<u8>>> {
+        let Some(top) = top else {
+            return Ok(None);
+        };
+        let (table, words) = (&self.table, &self.words);
+        match exclude_name(alloc, table, words, settings, found, self.current, top) {
+            Ok(name) => Ok(Some(name)),
+            Err(fault) => Err(fault),
+        }
+    }
+
+    /// What its configuration says, with that of the work tree alone where the first tells so.
+    fn said(&self, alloc: Global, folders: &Folders<Vec<u8>>) -> Result<Said, Told> {
+        let mut file = self.config(alloc, folders, RepositoryFile::Config)?;
+        let has_version = checked_version(alloc, &file)?;
+        let has_worktree_config = is_true(alloc, &file, b"extensions.worktreeconfig")?;
+        if has_worktree_config {
+            let mut own = self.config(alloc, folders, RepositoryFile::WorktreeConfig)?;
+            // (what stands there before the first section has none)
+            file.items
+                .push(Item::Section(Vec::new(alloc)))
+                .map_err(AllocError::from)?;
+            file.items.append(&mut own.items)?;
+        }
+        Ok(Said {
+            file,
+            has_version,
+            has_worktree_config,
+        })
+    }
+
+    /// A file of configuration; one that isn't there has no entries.
+    fn config(
+        &self,
+        alloc: Global,
+        folders: &Folders<Vec<u8>>,
+        file: RepositoryFile,
+    ) -> Result<ConfigFile, Told> {
+        let path = file_path(alloc, &self.words, folders, file)?;
+        let bytes = self.table.bytes(&path, usize::MAX)?;
+        match ConfigFile::from_bytes(alloc, bytes.as_deref().unwrap_or(b"")) {
+            Ok(config) => Ok(config),
+            Err(ConfigFault::Memory) => Err(Told::Found(FindFault::Memory)),
+            Err(fault) => Err(Told::Text(text_of(alloc, &fault)?)),
+        }
+    }
+}
+
+/// Sets a variable of the environment that Git asks for. It answers whether the key is one of these.
+fn set_variable<'a>(
+    words: &mut Environment<&'a [u8]>,
+    key: &[u8],
+    value: Option<&'a [u8]>,
+) -> bool {
+    match key {
+        b"GIT_DIR" => words.git_dir = value,
+        b"GIT_WORK_TREE" => words.work_tree = value,
+        b"GIT_COMMON_DIR" => words.common_dir = value,
+        b"GIT_INDEX_FILE" => words.index_file = value,
+        b"GIT_OBJECT_DIRECTORY" => words.object_directory = value,
+        b"GIT_CEILING_DIRECTORIES" => words.ceiling_directories = value,
+        b"GIT_DISCOVERY_ACROSS_FILESYSTEM" => {
+            words.across_file_systems = boolean(value).unwrap_or(false);
+        }
+        _ => return false,
+    }
+    true
+}
+
+/// Whether the last entry of a key is true.
+fn is_true(alloc: Global, file: &ConfigFile, key: &[u8]) -> Result<bool, AllocError> {
+    let last = last_boolean(&file.entries_of(alloc, key)?);
+    Ok(last == Ok(Some(true)))
+}
+
+/// The value of the last entry.
+fn last_value<'b>(entries: &[&'b Entry<Vec<u8>>]) -> Option<&'b [u8]> {
+    let mut last = None;
+    for entry in entries {
+        last = entry.value.as_deref();
+    }
+    last
+}
+
+/// Whether a file says a version that isn't negative; or the fault of the version and the extensions.
+fn checked_version(alloc: Global, file: &ConfigFile) -> Result<bool, Told> {
+    let version = version_of(alloc, file)?;
+    match check_format(version, &extensions_of(alloc, file)?) {
+        Ok(()) => Ok(version.is_some()),
+        Err(fault) => Err(Told::Text(text_of(alloc, &fault)?)),
+    }
+}
+
+/// The version that a file says, unless it is negative.
+fn version_of(alloc: Global, config: &ConfigFile) -> Result<Option<u32>, AllocError> {
+    let entries = config.entries_of(alloc, b"core.repositoryformatversion")?;
+    let Some(value) = last_value(&entries) else {
+        return Ok(None);
+    };
+    Ok(match integer(value).map(u32::try_from) {
+        Some(Ok(version)) => Some(version),
+        _ => None,
+    })
+}
+
+/// The names of the extensions of a file.
+fn extensions_of(alloc: Global, config: &ConfigFile) -> Result<Vec<Vec<u8>>, AllocError> {
+    let mut names = Vec::new(alloc);
+    let mut section: &[u8] = b"";
+    for item in &config.items {
+        match item {
+            Item::Section(next) => section = next,
+            Item::Sets(entry) => {
+                if let Some(front) = section.strip_prefix(b"extensions.") {
+                    let mut name = Vec::from_slice(alloc, front)?;
+                    name.extend_from_slice(&entry.name)?;
+                    names.push(name)?;
+                }
+            }
+        }
+    }
+    Ok(names)
+}

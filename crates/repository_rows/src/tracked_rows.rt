@@ -1,0 +1,27 @@
+//! Rows of tracked paths: which asked paths an index file holds, and in which submodule they lie.
+
+use crate::index_files::format_of;
+use git_index::{Index, IndexFault};
+use row_texts::{Answer, Question, RowFault};
+use std::alloc::Global;
+use tracked_paths::TrackedPaths;
+
+/// Whether an entry of an index file holds a path, and the submodule in which the path lies.
+pub(crate) fn tracked_paths(
+    alloc: Global,
+    question: &Question,
+    answer: &mut Answer,
+) -> Result<(), RowFault> {
+    let format = format_of(question)?;
+    let asked = question.bytes(2)?;
+    let literal = question.number(3)?.ok_or(RowFault::Field("a number"))?;
+    match Index::from_bytes(alloc, question.bytes(1)?, format) {
+        Ok(index) => {
+            let paths = TrackedPaths::new(index);
+            answer.push_bool(paths.holds(asked, literal))?;
+            answer.push_option(paths.submodule_of(asked))
+        }
+        Err(IndexFault::Memory) => Err(RowFault::Memory),
+        Err(_fault) => Err(RowFault::Call("Index::from_bytes")),
+    }
+}
