@@ -23,9 +23,13 @@ MOST = 1.05
 
 
 def build(out, library):
-    """Builds the binding, without its dependencies, and the drivers."""
+    """Builds the binding, over small stubs of its dependencies, and the drivers."""
     os.makedirs(out, exist_ok=True)
-    rustc(out, "gix_glob", f"{HERE}/../bindings/rust/src/lib.rs", "--crate-type=rlib", "--out-dir", out)
+    kind = ["--crate-type=rlib", "--out-dir", out]
+    for stub in ("bitflags", "bstr"):
+        rustc(out, stub, f"{HERE}/stubs/{stub}.rs", *kind)
+    uses = [word for it in ("bitflags", "bstr") for word in ("--extern", f"{it}={out}/lib{it}.rlib")]
+    rustc(out, "gix_glob", f"{HERE}/../bindings/rust/src/lib.rs", *kind, *uses)
     for name in ("binding", "lists"):
         rustc(out, name, f"{HERE}/{name}.rs", "--extern", f"gix_glob={out}/libgix_glob.rlib", "-o", f"{out}/{name}", f"-Clink-arg={os.path.abspath(library)}")
 

@@ -39,11 +39,14 @@
 //! assert_eq!(decided("src/keep.log"), Some((true, "!keep.log".into())));
 //! assert_eq!(decided("src/main.c"), None);
 //! ```
+use std::fmt;
+
+use bstr::BStr;
+
 use crate::library;
 use crate::pattern::Case;
 use crate::search::Pattern;
 use crate::search::pattern::{List, Mapping};
-use crate::text::BStr;
 
 /// Lists of patterns, laid out once for many questions. A later list comes after an earlier one.
 pub struct Lists<'a, T: Pattern> {
@@ -64,10 +67,7 @@ impl<'a, T: Pattern> Lists<'a, T> {
     }
 
     fn by(lists: &'a [List<T>], reading: u32) -> Self {
-        let texts = lists.iter().map(|list| {
-            let base = list.base.as_ref().map_or(&b""[..], |base| base.as_slice());
-            (base, parts_of(list, reading))
-        });
+        let texts = lists.iter().map(|list| (base_of(list), parts_of(list, reading)));
         Lists { lists, laid_out: library::Lists::new(texts) }
     }
 
@@ -91,6 +91,12 @@ impl<'a, T: Pattern> Lists<'a, T> {
     }
 }
 
+impl<T: Pattern> fmt::Debug for Lists<'_, T> {
+    fn fmt(&self, f: &mut fmt::Formatter<'_>) -> fmt::Result {
+        f.debug_struct("Lists").field("lists", &self.lists).finish_non_exhaustive()
+    }
+}
+
 /// A list with an index: where few of its patterns can match a path, those alone are tested. It takes 48 bytes a pattern, and 2 KB.
 pub struct Index<'a, T: Pattern> {
     list: &'a List<T>,
@@ -100,23 +106,47 @@ pub struct Index<'a, T: Pattern> {
 impl<'a, T: Pattern> Index<'a, T> {
     /// The index of a list; `None` where it has 2^32 patterns or more.
     pub fn new(list: &'a List<T>) -> Option<Self> {
-        Some(Index { list, prepared: library::Index::new(parts_of(list, library::AS_CRATE))? })
+        Index::by(list, library::AS_CRATE)
     }
 
     /// The same, where patterns match as Git has it, as for [`Lists::as_git`].
     pub fn as_git(list: &'a List<T>) -> Option<Self> {
-        Some(Index { list, prepared: library::Index::new(parts_of(list, library::AS_GIT))? })
+        Index::by(list, library::AS_GIT)
+    }
+
+    fn by(list: &'a List<T>, reading: u32) -> Option<Self> {
+        // what says nothing has no patterns
+        let patterns = if is_folder(base_of(list)) { parts_of(list, reading) } else { Box::default() };
+        Some(Index { list, prepared: library::Index::new(patterns)? })
     }
 
     /// The last pattern that matches what the base of the list leaves of a path; `None` where none does, or the path doesn't lie
     /// below the base. It decides about the path by itself: folders above aren't asked about.
     ///
-    /// The path is told from the root on, as for [`Lists::decide_in_tree`].
+    /// The path is told from the root on, as for [`Lists::decide_in_tree`], and the same bases say nothing: no pattern matches where
+    /// the base is neither empty nor ends in a slash.
     pub fn last_match(&self, path: &BStr, is_dir: bool, case: Case) -> Option<&'a Mapping<T::Value>> {
         let (rest, _) = self.list.strip_base_handle_recompute_basename_pos(path, None, case)?;
         let place = self.prepared.last_match(rest, is_dir, case == Case::Fold)?;
         self.list.patterns.get(place)
     }
+}
+
+impl<T: Pattern> fmt::Debug for Index<'_, T> {
+    fn fmt(&self, f: &mut fmt::Formatter<'_>) -> fmt::Result {
+        f.debug_struct("Index").field("list", &self.list).finish_non_exhaustive()
+    }
+}
+
+/// The base of a list, which is empty where it has none.
+fn base_of<T: Pattern>(list: &List<T>) -> &[u8] {
+    list.base.as_ref().map_or(b"", |base| base.as_slice())
+}
+
+/// Whether a path can begin with a base: it is empty, or parts with one slash after each.
+fn is_folder(base: &[u8]) -> bool {
+    let is_path = |folder: &[u8]| folder.split(|&byte| byte == b'/').all(|part| !part.is_empty());
+    base.is_empty() || base.strip_suffix(b"/").is_some_and(is_path)
 }
 
 /// The patterns of a list, of a reading, as the library takes them.

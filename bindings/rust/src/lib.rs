@@ -32,22 +32,19 @@
 //!
 //! # Features
 //!
-//! Both are on unless they are turned off, since the other crate always has them.
+//! None is on unless it is asked for, and none changes a type or an answer.
 //!
-//! - `bstr`: texts are `BStr` and `BString` of the crate `bstr`. Without it they are `[u8]` and `Vec<u8>`; then `.into()` makes
-//!   an argument of a byte slice all the same.
-//! - `bitflags`: the two modes are made by the crate `bitflags`. Without it they have the same methods and operators, but for
-//!   iteration, names and number formats.
+//! - `serde`: `Serialize` and `Deserialize` for [`Pattern`] and both modes, in the other crate's form.
+//! - `vendored`: the C library that lies in a released package is linked, in place of an installed one.
 
 pub mod decide;
-#[cfg(not(feature = "bitflags"))]
-mod flags;
 mod library;
 mod parse;
 pub mod pattern;
 pub mod search;
-mod text;
 pub mod wildmatch;
+
+use bstr::BString;
 
 pub use wildmatch::function::wildmatch;
 
@@ -55,9 +52,10 @@ pub use wildmatch::function::wildmatch;
 ///
 /// The fields of a pattern that was read belong together. Others may give a wrong answer, and nothing worse.
 #[derive(PartialEq, Eq, Debug, Hash, Ord, PartialOrd, Clone)]
+#[cfg_attr(feature = "serde", derive(serde::Serialize, serde::Deserialize))]
 pub struct Pattern {
     /// What is matched: the line without its `!` and without the slash at each end.
-    pub text: text::BString,
+    pub text: BString,
     /// What else was read of the line.
     pub mode: pattern::Mode,
     /// The place of the first `*`, `?`, `[` or `\` in the text, escaped or not.

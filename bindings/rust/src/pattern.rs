@@ -1,16 +1,14 @@
 //! What was read of a pattern line, and what it matches.
 use std::fmt;
 
-#[cfg(feature = "bitflags")]
 use bitflags::bitflags;
+use bstr::BStr;
 
-#[cfg(not(feature = "bitflags"))]
-use crate::flags::bitflags;
-use crate::text::{self, BStr};
 use crate::{Pattern, library, wildmatch};
 
 bitflags! {
     /// What was read of a pattern line besides its text.
+    #[cfg_attr(feature = "serde", derive(serde::Serialize, serde::Deserialize))]
     #[derive(Debug, PartialEq, Eq, Hash, Copy, Clone, Ord, PartialOrd)]
     pub struct Mode: u32 {
         /// The text has no slash.
@@ -168,7 +166,7 @@ impl fmt::Display for Pattern {
         if self.mode.contains(Mode::ABSOLUTE) {
             "/".fmt(f)?;
         }
-        text::fmt(&self.text, f)?;
+        self.text.fmt(f)?;
         if self.mode.contains(Mode::MUST_BE_DIR) {
             "/".fmt(f)?;
         }

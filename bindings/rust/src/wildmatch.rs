@@ -1,12 +1,9 @@
 //! Matching a text against the whole of a value.
-#[cfg(feature = "bitflags")]
 use bitflags::bitflags;
-
-#[cfg(not(feature = "bitflags"))]
-use crate::flags::bitflags;
 
 bitflags! {
     /// How a text is matched. Other bits than these change no answer.
+    #[cfg_attr(feature = "serde", derive(serde::Serialize, serde::Deserialize))]
     #[derive(Debug, Default, Copy, Clone, Eq, PartialEq)]
     pub struct Mode: u8 {
         /// Values are paths: a wildcard matches no slash, save two or more `*` that stand alone between slashes or ends.
@@ -17,9 +14,10 @@ bitflags! {
 }
 
 pub(crate) mod function {
+    use bstr::BStr;
+
     use super::Mode;
     use crate::library;
-    use crate::text::BStr;
 
     /// Whether a pattern's text matches the whole of a value.
     ///

@@ -39,6 +39,52 @@ fn a_base_that_is_no_folder_leaves_nothing() {
     let mut lists = [list("a/", "x")];
     lists[0].base = Some("a".into());
     assert!(!is_decided(&lists, "ax", false));
+    assert_eq!(Index::new(&lists[0]).unwrap().last_match(b"ax"[..].into(), false, Case::Sensitive), None);
+}
+
+/// All texts of up to `most` of these bytes.
+fn texts(bytes: &str, most: usize) -> Vec<String> {
+    let mut all = vec![String::new()];
+    let mut longest = all.clone();
+    for _ in 0..most {
+        longest = longest.iter().flat_map(|text| bytes.chars().map(move |byte| format!("{text}{byte}"))).collect();
+        all.extend_from_slice(&longest);
+    }
+    all
+}
+
+/// Under negative lines no folder is ignored, so in a tree, too, the last line that matches the path decides.
+#[test]
+fn an_index_says_of_each_base_what_lists_say() {
+    let mut list = list("", "!s\n!/a\n!a/s/\n!S*");
+    for base in texts("sA/", 4) {
+        list.base = Some(base.as_str().into());
+        let lists = std::slice::from_ref(&list);
+        let pairs =
+            [(Index::new(&list).unwrap(), Lists::new(lists)), (Index::as_git(&list).unwrap(), Lists::as_git(lists))];
+        let mut has_answer = false;
+        for path in texts("Sa/", 5) {
+            let path = path.as_bytes().into();
+            for (is_dir, case) in [(false, Case::Fold), (true, Case::Fold), (true, Case::Sensitive)] {
+                for (index, lists) in &pairs {
+                    let last = index.last_match(path, is_dir, case);
+                    let decides = lists.decide_in_tree(path, is_dir, case).map(|(_, mapping)| mapping);
+                    assert_eq!(last, decides, "{base:?} {path:?} {is_dir} {case:?}");
+                    has_answer |= last.is_some();
+                }
+            }
+        }
+        let is_folder = base.is_empty() || base.ends_with('/') && !base.starts_with('/') && !base.contains("//");
+        assert_eq!(has_answer, is_folder, "{base:?}");
+    }
+}
+
+#[test]
+fn lists_and_indexes_are_shown() {
+    let lists = [list("a/", "x")];
+    let said = [format!("{:?}", Lists::new(&lists)), format!("{:?}", Index::new(&lists[0]).unwrap())];
+    assert!(said[0].starts_with("Lists { lists: [List { patterns") && said[0].ends_with(", .. }"), "{}", said[0]);
+    assert!(said[1].starts_with("Index { list: List { patterns") && said[1].ends_with(", .. }"), "{}", said[1]);
 }
 
 #[test]

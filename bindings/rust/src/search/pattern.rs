@@ -4,9 +4,10 @@ use std::io::{self, ErrorKind, Read};
 use std::os::unix::fs::OpenOptionsExt;
 use std::path::{Component, Path, PathBuf};
 
+use bstr::{BStr, BString};
+
 use super::Pattern;
 use crate::pattern::Case;
-use crate::text::{BStr, BString};
 
 /// The patterns of one source.
 #[derive(PartialEq, Eq, Debug, Hash, Ord, PartialOrd, Clone, Default)]
