@@ -1,4 +1,5 @@
-"""The calls of the C library gix_glob_c, as gix_glob.h declares them. All that could harm memory is in this module.
+"""What the package asks of the C library, with the memory that it asks about. All that could harm memory is in this module, and in
+the questions of `_answers`, which are the same ones each time.
 
 What the header asks of a caller, and who keeps it:
 
@@ -15,134 +16,15 @@ Objects of this module don't change once they are made, so threads may share the
 from __future__ import annotations
 
 import ctypes
-import os
 from array import array
 from itertools import accumulate
 from typing import Any, Iterable, Optional, Sequence
 
-#: The file's name, with the version of its calls.
-NAME = "libgix_glob_c.so.0"
-#: The environment variable that names the file.
-VARIABLE = "GIX_GLOB_LIBRARY"
-#: GIX_GLOB_NONE: no place, and no index.
-NONE = ctypes.c_size_t(-1).value
-#: GIX_GLOB_NEGATIVE: the bit of a pattern's mode.
-NEGATIVE = 8
-#: GIX_GLOB_AS_CRATE and GIX_GLOB_AS_GIT: whose reading a pattern is.
-AS_CRATE, AS_GIT = 0, 1
+from . import _loading
+from ._calls import AS_CRATE, NEGATIVE, NONE, Heads, Index, Lines, Parts, Row, blank
+from ._reading import Reading
 
-
-class Parts(ctypes.Structure):
-    """struct gix_glob_pattern: a pattern that was read, whose text lies in the line's memory."""
-
-    _fields_ = [
-        ("text", ctypes.c_void_p),
-        ("text_len", ctypes.c_size_t),
-        ("first_wildcard_pos", ctypes.c_size_t),
-        ("mode", ctypes.c_uint32),
-        ("reading", ctypes.c_uint32),
-    ]
-
-
-class Row(ctypes.Structure):
-    """struct gix_glob_row: what a pattern asks of a path, as the library writes it."""
-
-    _fields_ = [
-        ("asked", ctypes.c_uint64),
-        ("before", ctypes.c_uint32),
-        ("spare", ctypes.c_uint8),
-        ("part", ctypes.c_uint8),
-    ]
-
-
-class Heads(ctypes.Structure):
-    """struct gix_glob_heads: where the chains of rows begin."""
-
-    _fields_ = [("links", ctypes.c_uint32 * 512)]
-
-
-class Index(ctypes.Structure):
-    """struct gix_glob_index: patterns that were prepared."""
-
-    _fields_ = [
-        ("patterns", ctypes.c_void_p),
-        ("count", ctypes.c_size_t),
-        ("rows", ctypes.c_void_p),
-        ("row_count", ctypes.c_size_t),
-        ("heads", ctypes.c_void_p),
-    ]
-
-
-class Asked(ctypes.Structure):
-    """struct gix_glob_path: a path that is asked about, in three words."""
-
-    _fields_ = [("bytes", ctypes.c_void_p), ("len", ctypes.c_size_t), ("is_dir", ctypes.c_bool)]
-
-
-class Lines(ctypes.Structure):
-    """struct gix_glob_lines: what is left to read of an ignore file."""
-
-    _fields_ = [("rest", ctypes.c_void_p), ("rest_len", ctypes.c_size_t), ("number", ctypes.c_size_t)]
-
-
-#: The calls that are used, each with its parameters and its answer. A `bytes` is handed over as c_char_p, an address as c_void_p.
-CALLS = {
-    "gix_glob_parse": ([ctypes.c_void_p, ctypes.c_size_t, ctypes.POINTER(Parts)], ctypes.c_bool),
-    "gix_glob_parse_as_git": ([ctypes.c_void_p, ctypes.c_size_t, ctypes.POINTER(Parts)], None),
-    "gix_glob_parse_ignore_line": (
-        [ctypes.POINTER(Lines), ctypes.POINTER(Parts), ctypes.POINTER(ctypes.c_bool)],
-        ctypes.c_bool,
-    ),
-    "gix_glob_parse_ignore_line_as_git": (
-        [ctypes.POINTER(Lines), ctypes.POINTER(Parts), ctypes.POINTER(ctypes.c_bool)],
-        ctypes.c_bool,
-    ),
-    "gix_glob_pattern_matches_path": (
-        [ctypes.POINTER(Parts), ctypes.c_char_p, ctypes.c_size_t, ctypes.c_bool, ctypes.c_bool],
-        ctypes.c_bool,
-    ),
-    "gix_glob_prepare": (
-        [ctypes.c_void_p, ctypes.c_size_t, ctypes.c_void_p, ctypes.c_size_t, ctypes.POINTER(Heads)],
-        ctypes.c_bool,
-    ),
-    "gix_glob_index_last_match": (
-        [ctypes.POINTER(Index), ctypes.c_char_p, ctypes.c_size_t, ctypes.c_bool, ctypes.c_bool],
-        ctypes.c_size_t,
-    ),
-    "gix_glob_index_last_matches": (
-        [ctypes.POINTER(Index), ctypes.c_void_p, ctypes.c_size_t, ctypes.c_bool, ctypes.c_void_p, ctypes.c_size_t],
-        ctypes.c_bool,
-    ),
-    "gix_glob_wildmatch": (
-        [ctypes.c_char_p, ctypes.c_size_t, ctypes.c_char_p, ctypes.c_size_t, ctypes.c_uint8],
-        ctypes.c_bool,
-    ),
-    "gix_glob_matches": (
-        [ctypes.c_void_p, ctypes.c_size_t, ctypes.c_uint32, ctypes.c_size_t]
-        + [ctypes.c_char_p, ctypes.c_size_t, ctypes.c_uint8],
-        ctypes.c_bool,
-    ),
-}
-
-
-def _open() -> ctypes.CDLL:
-    """The library: the file that the environment names, else the one beside this module, else the system's."""
-    beside = os.path.join(os.path.dirname(os.path.abspath(__file__)), NAME)
-    file = os.environ.get(VARIABLE) or (beside if os.path.exists(beside) else NAME)
-    try:
-        library = ctypes.CDLL(file)
-        for name, (parameters, answer) in CALLS.items():
-            call = getattr(library, name)
-            call.argtypes, call.restype = parameters, answer
-    except (OSError, AttributeError) as error:
-        raise OSError(
-            f"the shared library {NAME} can't be used: {error}. A checkout of Girvuzhan makes it by "
-            f"`examples/c/install PREFIX`; then set {VARIABLE}=PREFIX/lib/{NAME}, or put the file into {os.path.dirname(beside)}"
-        ) from None
-    return library
-
-
-_c: Any = _open()
+_c: Any = _loading.load()
 
 
 def _check(*texts: bytes) -> None:
@@ -167,7 +49,7 @@ class Memory:
         return ctypes.string_at(self.address, self.length)
 
 
-class Reading:
+class Line:
     """What was read of a line, and the memory that its text lies in."""
 
     __slots__ = ("_memory", "_parts")
@@ -185,9 +67,9 @@ class Reading:
         return int(self._parts.mode)
 
     @property
-    def is_gits(self) -> bool:
-        """Whether it is Git's reading of its line."""
-        return bool(self._parts.reading != AS_CRATE)
+    def reading(self) -> Reading:
+        """Whose reading it is."""
+        return Reading.CRATE if self._parts.reading == AS_CRATE else Reading.GIT
 
     @property
     def first_wildcard_pos(self) -> Optional[int]:
@@ -204,26 +86,15 @@ class Reading:
         return bool(_c.gix_glob_matches(it.text, it.text_len, it.mode, it.first_wildcard_pos, value, len(value), mode))
 
 
-def _blank() -> Parts:
-    """GIX_GLOB_PATTERN_INIT."""
-    return Parts(ctypes.addressof(_EMPTY), 0, NONE, 0, AS_CRATE)
-
-
-_EMPTY = ctypes.create_string_buffer(1)
-
-
-def parse(line: bytes) -> Optional[Reading]:
-    """Reads a pattern line; None where it is blank."""
-    memory, parts = Memory(line), _blank()
-    has_pattern = _c.gix_glob_parse(memory.address, memory.length, ctypes.byref(parts))
-    return Reading(memory, parts) if has_pattern else None
-
-
-def parse_as_git(line: bytes) -> Reading:
-    """Reads a pattern line as Git does; each has a pattern."""
-    memory, parts = Memory(line), _blank()
-    _c.gix_glob_parse_as_git(memory.address, memory.length, ctypes.byref(parts))
-    return Reading(memory, parts)
+def parse(line: bytes, reading: Reading) -> Optional[Line]:
+    """Reads a pattern line; None where it is blank, which no line is for Git."""
+    memory, parts = Memory(line), blank()
+    told = memory.address, memory.length, ctypes.byref(parts)
+    if reading is Reading.GIT:
+        _c.gix_glob_parse_as_git(*told)
+    elif not _c.gix_glob_parse(*told):
+        return None
+    return Line(memory, parts)
 
 
 class Rules:
@@ -231,10 +102,11 @@ class Rules:
 
     __slots__ = ("_heads", "_index", "_memory", "_patterns", "_pointer", "_rows", "numbers")
 
-    def __init__(self, file: bytes, as_git: bool) -> None:
+    def __init__(self, file: bytes, reading: Reading) -> None:
         memory = Memory(file)
-        take_line = _c.gix_glob_parse_ignore_line_as_git if as_git else _c.gix_glob_parse_ignore_line
-        lines, parts, has_pattern = Lines(memory.address, memory.length, 0), _blank(), ctypes.c_bool()
+        is_gits = reading is Reading.GIT
+        take_line = _c.gix_glob_parse_ignore_line_as_git if is_gits else _c.gix_glob_parse_ignore_line
+        lines, parts, has_pattern = Lines(memory.address, memory.length, 0), blank(), ctypes.c_bool()
         readings = bytearray()
         numbers = array("Q")
         while take_line(ctypes.byref(lines), ctypes.byref(parts), ctypes.byref(has_pattern)):
@@ -242,7 +114,7 @@ class Rules:
                 readings += parts
                 numbers.append(lines.number)
         # (one more, so that there is an address where there is no pattern)
-        readings += _blank()
+        readings += blank()
         self._memory = memory
         # (this keeps `readings`, and from then on they stay where they are)
         self._patterns = (Parts * (len(numbers) + 1)).from_buffer(readings)
@@ -263,9 +135,9 @@ class Rules:
         """The bytes of the file."""
         return self._memory.text()
 
-    def reading(self, index: int) -> Reading:
-        """The pattern at an index."""
-        return Reading(self._memory, Parts.from_buffer_copy(self._patterns[range(len(self.numbers))[index]]))
+    def line(self, index: int) -> Line:
+        """What was read of the pattern at an index."""
+        return Line(self._memory, Parts.from_buffer_copy(self._patterns[range(len(self.numbers))[index]]))
 
     def is_negative(self, index: int) -> bool:
         """Whether the pattern at an index began with `!`."""

@@ -7,6 +7,7 @@ import operator
 from typing import Optional, Tuple
 
 from . import _library
+from ._reading import Reading, checked
 from ._texts import Path, Text, encoded, split
 
 
@@ -34,16 +35,6 @@ class PatternMode(enum.IntFlag):
     ABSOLUTE = 16
 
 
-class Reading(enum.Enum):
-    """Whose reading of a line counts, and of what its pattern matches."""
-
-    #: That of the Rust crate `gix-glob`.
-    CRATE = "crate"
-    #: Git's own: what a pattern with a slash has before its first `*`, `?`, `[` or `\\` is compared by itself, what follows is a
-    #: pattern of its own, and where the case of letters doesn't count, members of sets and escaped letters stay as they are.
-    GIT = "git"
-
-
 def _bits(mode: int) -> int:
     return operator.index(mode) & 3
 
@@ -69,44 +60,41 @@ class Pattern:
     (False, True)
     """
 
-    __slots__ = ("_reading",)
-    _reading: _library.Reading
+    __slots__ = ("_line",)
+    _line: _library.Line
 
     def __init__(self, line: Text, reading: Reading = Reading.CRATE) -> None:
         text = encoded(line, "a line")
-        if reading is Reading.GIT:
-            self._reading = _library.parse_as_git(text)
-            return
-        read = _library.parse(text)
+        read = _library.parse(text, checked(reading))
         if read is None:
             raise ValueError(f"the line {text[:40]!r} is blank")
-        self._reading = read
+        self._line = read
 
     @classmethod
-    def _of(cls, reading: _library.Reading) -> "Pattern":
+    def _of(cls, line: _library.Line) -> "Pattern":
         pattern = cls.__new__(cls)
-        pattern._reading = reading
+        pattern._line = line
         return pattern
 
     @property
     def text(self) -> bytes:
         """What is matched: the line without its `!` and without the slash at each end."""
-        return self._reading.text
+        return self._line.text
 
     @property
     def mode(self) -> PatternMode:
         """What else was read of the line."""
-        return PatternMode(self._reading.mode)
+        return PatternMode(self._line.mode)
 
     @property
     def reading(self) -> Reading:
         """Whose reading it is."""
-        return Reading.GIT if self._reading.is_gits else Reading.CRATE
+        return self._line.reading
 
     @property
     def first_wildcard_pos(self) -> Optional[int]:
         """The place of the first `*`, `?`, `[` or `\\` in the text, or None."""
-        return self._reading.first_wildcard_pos
+        return self._line.first_wildcard_pos
 
     @property
     def is_negative(self) -> bool:
@@ -140,7 +128,7 @@ class Pattern:
             ValueError: the path is empty, begins with a slash, or has two in a row.
         """
         text, has_slash = split(path)
-        return self._reading.matches_path(text, bool(is_dir or has_slash), bool(ignore_case))
+        return self._line.matches_path(text, bool(is_dir or has_slash), bool(ignore_case))
 
     def matches(self, value: Text, mode: int = Mode(0)) -> bool:
         """Whether the text matches the whole of a value, as `wildmatch` answers.
@@ -148,7 +136,7 @@ class Pattern:
         >>> Pattern("*.RS").matches("src/lib.rs", Mode.IGNORE_CASE)
         True
         """
-        return self._reading.matches(encoded(value, "a value"), _bits(mode))
+        return self._line.matches(encoded(value, "a value"), _bits(mode))
 
     def __bytes__(self) -> bytes:
         r"""A line that is read back to this pattern.
@@ -166,8 +154,8 @@ class Pattern:
     def __repr__(self) -> str:
         return f"Pattern({bytes(self)!r})" if self.reading is Reading.CRATE else f"Pattern({bytes(self)!r}, {self.reading})"
 
-    def _parts(self) -> Tuple[bytes, int, bool]:
-        return self._reading.text, self._reading.mode, self._reading.is_gits
+    def _parts(self) -> Tuple[bytes, int, Reading]:
+        return self._line.text, self._line.mode, self._line.reading
 
     def __eq__(self, other: object) -> bool:
         if not isinstance(other, Pattern):

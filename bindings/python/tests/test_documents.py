@@ -8,13 +8,13 @@ import re
 import unittest
 
 import gix_glob
-from gix_glob import _ignore, _pattern
+from gix_glob import _decision, _ignore, _matching, _pattern
 
 TOP = os.path.join(os.path.dirname(os.path.abspath(__file__)), "..", "..", "..")
 
 
 def load_tests(loader, tests, pattern):
-    for module in (gix_glob, _ignore, _pattern):
+    for module in (gix_glob, _decision, _ignore, _matching, _pattern):
         tests.addTests(doctest.DocTestSuite(module))
     return tests
 

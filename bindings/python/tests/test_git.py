@@ -70,7 +70,7 @@ class BesideGit(unittest.TestCase):
                     if os.path.exists(file)
                 )
                 found = [rules.decide_in_tree(path, is_dir) for path, is_dir in paths]
-                here = [it and (os.path.relpath(it.file.name, top), it.line) for it in found]
+                here = [None if it is None else (os.path.relpath(it.file.name, top), it.line) for it in found]
                 there = git_tells(top, [path for path, _ in paths])
                 self.assertEqual(len(here), len(there))
                 self.assertEqual([row for row in zip(paths, here, there) if row[1] != row[2]][:3], [])

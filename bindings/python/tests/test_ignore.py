@@ -10,12 +10,12 @@ import tempfile
 import unittest
 from unittest import mock
 
-from gix_glob import IgnoreFile, IgnoreList, Pattern, Reading, _ignore
+from gix_glob import IgnoreFile, IgnoreList, Pattern, Reading, _deciding
 
 
 def place(decision):
     """What decides, as (name, line, whether the path is ignored)."""
-    return decision and (decision.file.name, decision.line, decision.is_ignored)
+    return None if decision is None else (decision.file.name, decision.line, decision.is_ignored)
 
 
 def random_list(draw):
@@ -72,15 +72,21 @@ class TwoReadings(unittest.TestCase):
         for text, path, is_dir, fold, by_crate, by_git in self.ROWS:
             for reading, line in ((Reading.CRATE, by_crate), (Reading.GIT, by_git)):
                 with self.subTest(text=text, path=path, reading=reading):
-                    file = IgnoreFile(text, reading=reading)
+                    file = IgnoreFile.from_text(text, reading=reading)
                     for rules in (file, IgnoreList([file]), pickle.loads(pickle.dumps(file))):
                         found = rules.decide_in_tree(path, is_dir, ignore_case=fold)
-                        self.assertEqual(found and found.line, line)
+                        self.assertEqual(None if found is None else found.line, line)
 
     def test_each_file_by_its_own(self):
         text = "a**/b\n"
-        files = [IgnoreFile(text, "", "git", Reading.GIT), IgnoreFile(text, "", "crate")]
+        files = [IgnoreFile.from_text(text, "", "git", Reading.GIT), IgnoreFile.from_text(text, "", "crate")]
         self.assertEqual(place(IgnoreList(files).decide_in_tree("ax/y/b")), ("git", 1, True))
+
+    def test_other_values_are_no_reading(self):
+        for call in (lambda it: IgnoreFile.from_text("a", reading=it), lambda it: Pattern("a", it)):
+            for it in ("git", None, 1, True):
+                with self.subTest(it=it), self.assertRaisesRegex(TypeError, "Reading.GIT"):
+                    call(it)
 
     def test_patterns(self):
         for reading, matches in ((Reading.CRATE, False), (Reading.GIT, True)):
@@ -92,7 +98,7 @@ class TwoReadings(unittest.TestCase):
 
 class Deciding(unittest.TestCase):
     def test_directories_are_told_in_two_ways(self):
-        rules = IgnoreFile("*.log\n!keep.log\nbuild/\n")
+        rules = IgnoreFile.from_text("*.log\n!keep.log\nbuild/\n")
         self.assertIsNone(rules.decide("build"))
         self.assertEqual(rules.decide("build/"), rules.decide("build", True))
         self.assertEqual(rules.decide("build", is_dir=True).pattern, Pattern("build/"))
@@ -101,7 +107,7 @@ class Deciding(unittest.TestCase):
         self.assertFalse(rules.decide("keep.log").is_ignored)
 
     def test_files_are_told(self):
-        top, web = IgnoreFile("*.o\n", name="1"), IgnoreFile("!web.o\n", "web", "2")
+        top, web = IgnoreFile.from_text("*.o\n", name="1"), IgnoreFile.from_text("!web.o\n", "web", "2")
         for rules in (IgnoreList([top, web]), IgnoreList(iter((top, web)))):
             self.assertEqual(place(rules.decide("web/web.o")), ("2", 1, False))
             self.assertEqual(place(rules.decide("web/a.o")), ("1", 1, True))
@@ -110,20 +116,20 @@ class Deciding(unittest.TestCase):
     def test_bases_are_written_in_several_ways(self):
         for base in ("web", "web/", b"web", b"./web/", pathlib.PurePath("web")):
             with self.subTest(base=base):
-                file = IgnoreFile("/dist", base)
+                file = IgnoreFile.from_text("/dist", base)
                 self.assertEqual(file.base, b"web/")
                 self.assertTrue(file.match_file("web/dist"))
                 self.assertFalse(file.match_file("webdist"))
                 self.assertFalse(file.match_file("WEB/dist"))
                 self.assertTrue(file.match_file("WEB/dist", ignore_case=True))
         for base in ("", ".", "./", b"", pathlib.PurePath("")):
-            self.assertEqual(IgnoreFile("/dist", base).base, b"")
+            self.assertEqual(IgnoreFile.from_text("/dist", base).base, b"")
         for base in ("/web", "a//b", "web//"):
             with self.subTest(base=base), self.assertRaises(ValueError):
-                IgnoreFile("/dist", base)
+                IgnoreFile.from_text("/dist", base)
 
     def test_match_files_yields_what_it_was_given(self):
-        rules = IgnoreFile("build/\n*.o")
+        rules = IgnoreFile.from_text("build/\n*.o")
         paths = ["a.o", b"a.o", pathlib.PurePath("build/x"), "build", "build/", "a.c", "./build/x", "./a.o"]
         found = list(rules.match_files(paths))
         self.assertEqual(found, [paths[at] for at in (0, 1, 2, 4, 6, 7)])
@@ -137,7 +143,7 @@ class Deciding(unittest.TestCase):
     def test_random_lists_and_paths(self):
         draw = random.Random(1)
         kinds = set()
-        with mock.patch.multiple(_ignore, _MOST_FOLDERS=5, _PARTS_AT_ONCE=9):
+        with mock.patch.multiple(_deciding, MOST_FOLDERS=5, PARTS_AT_ONCE=9):
             for _ in range(1000):
                 rules, fold = random_list(draw), draw.random() < 0.3
                 paths = [
@@ -156,12 +162,110 @@ class Deciding(unittest.TestCase):
         self.assertEqual(len(kinds), 6, kinds)
 
     def test_few_folders_are_remembered(self):
-        with mock.patch.object(_ignore, "_MOST_FOLDERS", 5):
-            tree = _ignore._Tree(IgnoreFile("x")._bases(False))
+        with mock.patch.object(_deciding, "MOST_FOLDERS", 5):
+            tree = _deciding.Tree(IgnoreFile.from_text("x")._bases(False))
             for number in range(100):
                 self.assertNotEqual(tree.decide([(b"d%d/e/x" % number, False)]), [None])
                 # (the top is one more)
                 self.assertLessEqual(len(tree._folders), 6)
+
+
+class Constructors(unittest.TestCase):
+    """A text, lines and a file each have a call of their own, and the wrong one tells the right one."""
+
+    def test_the_class_itself_makes_none(self):
+        for words in ((), (".gitignore",), (b"*.o\n",), (pathlib.Path("x"),), (["*.o"],)):
+            with self.subTest(words=words), self.assertRaisesRegex(TypeError, "from_file.*from_text.*from_lines"):
+                IgnoreFile(*words)
+        with self.assertRaisesRegex(TypeError, "from_text"):
+            IgnoreFile(text="*.o", base="web")
+
+    def test_no_text(self):
+        for it in (pathlib.Path(".gitignore"), ["*.o"], io.BytesIO(b"*.o"), None):
+            with self.subTest(it=it), self.assertRaisesRegex(TypeError, r"from_file\(path\).*from_lines\(lines\)"):
+                IgnoreFile.from_text(it)
+
+    def test_no_lines(self):
+        for it in ("*.o\n", b"*.o", pathlib.Path(".gitignore")):
+            with self.subTest(it=it), self.assertRaisesRegex(TypeError, r"from_text\(text\).*from_file\(path\)"):
+                IgnoreFile.from_lines(it)
+
+    def test_no_path(self):
+        for it in (["*.o"], io.BytesIO(b"*.o"), 0, None):
+            with self.subTest(it=it), self.assertRaisesRegex(TypeError, r"from_lines\(lines\)"):
+                IgnoreFile.from_file(it)
+        # (the last name is longer than a file's can be)
+        for it in ("*.o\n!a.o\n", b"*.o\n", "*.o\n" * 100000):
+            with self.subTest(it=it[:20]), self.assertRaisesRegex(ValueError, r"no file.*from_text\(text\)"):
+                IgnoreFile.from_file(it)
+        with self.assertRaises(FileNotFoundError):
+            IgnoreFile.from_file("there is no such file")
+
+    def test_a_file_whose_name_has_a_line_feed(self):
+        with tempfile.TemporaryDirectory() as top:
+            name = os.path.join(top, "a\nb")
+            with open(name, "wb") as file:
+                file.write(b"*.o")
+            self.assertEqual(len(IgnoreFile.from_file(name)), 1)
+
+
+class Rules(unittest.TestCase):
+    """Patterns, numbers of them, sums and equality, as `pathspec` has them."""
+
+    def test_patterns(self):
+        one, two = IgnoreFile.from_lines(["*.o", "", "# x", "!a.o"]), IgnoreFile.from_lines(["/b/"], "web")
+        self.assertEqual(one.patterns, (Pattern("*.o"), Pattern("!a.o")))
+        both = IgnoreList([one, two])
+        self.assertEqual(both.patterns, (*one.patterns, Pattern("/b/")))
+        self.assertEqual((len(one), len(both), len(IgnoreList([]))), (2, 3, 0))
+        self.assertTrue(IgnoreList([]) and IgnoreFile.from_text(""))
+
+    def test_equality(self):
+        one = IgnoreFile.from_lines(["*.o", "!a.o"], "web", "name")
+        same = IgnoreFile.from_text("# other\n*.o\n\n!a.o", "./web/", "other name")
+        parts = IgnoreList([IgnoreFile.from_text("*.o", "web"), IgnoreFile.from_text("!a.o", "web")])
+        for other in (one, same, parts, IgnoreList([one]), pickle.loads(pickle.dumps(one))):
+            self.assertTrue(one == other and other == one and not one != other)
+            self.assertEqual(hash(one), hash(other))
+        others = [
+            IgnoreFile.from_lines(["*.o", "!a.o"]),
+            IgnoreFile.from_lines(["!a.o", "*.o"], "web"),
+            IgnoreFile.from_lines(["*.o"], "web"),
+            IgnoreFile.from_lines(["*.o", "!a.o/"], "web"),
+            IgnoreFile.from_lines(["*.o", "!a.o"], "web", reading=Reading.GIT),
+            IgnoreList([one, one]),
+            IgnoreFile.from_text(""),
+        ]
+        for other in others:
+            self.assertFalse(one == other or other == one)
+        self.assertEqual(len({one, same, parts, *others}), 1 + len(others))
+        self.assertNotEqual(one, "*.o")
+        self.assertEqual(IgnoreFile.from_text("", "a"), IgnoreList([]))
+
+    def test_sums(self):
+        one, two = IgnoreFile.from_lines(["*.o"], name="1"), IgnoreFile.from_lines(["!a.o"], "web", "2")
+        both = one + two
+        self.assertIs(type(both), IgnoreList)
+        self.assertEqual(both.files, (one, two))
+        self.assertEqual(place(both.decide("web/a.o")), ("2", 1, False))
+        for other in (IgnoreList([one]) + two, one + IgnoreList([two]), IgnoreList([one]) + IgnoreList([two])):
+            self.assertEqual(other.files, (one, two))
+        rules = one
+        rules += two
+        self.assertEqual((rules, one.patterns), (both, (Pattern("*.o"),)))
+        for it in (None, "*.o", ["*.o"], Pattern("*.o")):
+            with self.assertRaises(TypeError):
+                one + it
+
+    def test_a_decision_that_keeps_is_false(self):
+        rules = IgnoreFile.from_lines(["*.o", "!a.o"])
+        ignored, kept = rules.decide("b.o"), rules.decide_in_tree("a.o")
+        self.assertTrue(ignored)
+        self.assertFalse(kept)
+        self.assertIsNotNone(kept)
+        self.assertEqual((kept.line, kept.is_ignored), (2, False))
+        for fold in (False, True):
+            self.assertEqual(bool(rules.decide("a.o", ignore_case=fold)), rules.match_file("a.o", ignore_case=fold))
 
 
 class Lines(unittest.TestCase):
@@ -176,8 +280,8 @@ class Lines(unittest.TestCase):
             iter(text.split(b"\n")),
         ):
             self.assertEqual([(line, it.text) for line, it in IgnoreFile.from_lines(lines)], wanted)
-        self.assertEqual([(line, it.text) for line, it in IgnoreFile(text)], wanted)
-        self.assertEqual(list(IgnoreFile.from_lines(text.decode().split("\n"))), list(IgnoreFile(text)))
+        self.assertEqual([(line, it.text) for line, it in IgnoreFile.from_text(text)], wanted)
+        self.assertEqual(list(IgnoreFile.from_lines(text.decode().split("\n"))), list(IgnoreFile.from_text(text)))
         with self.assertRaisesRegex(ValueError, "line feed"):
             IgnoreFile.from_lines(["a\nb"])
         with self.assertRaisesRegex(ValueError, "line feed"):
@@ -200,11 +304,11 @@ class Lines(unittest.TestCase):
                 IgnoreFile.from_file(top)
 
     def test_copies(self):
-        file = IgnoreFile("*.o\n#\n!a.o", "d", "name")
-        rules = IgnoreList([file, IgnoreFile("")])
+        file = IgnoreFile.from_text("*.o\n#\n!a.o", "d", "name")
+        rules = IgnoreList([file, IgnoreFile.from_text("")])
         for other in (copy.deepcopy(rules), pickle.loads(pickle.dumps(rules))):
             self.assertEqual(place(other.decide("d/a.o")), ("name", 3, False))
         for other in (copy.copy(file), pickle.loads(pickle.dumps(file))):
             self.assertEqual((list(other), other.base, other.name), (list(file), b"d/", "name"))
-        self.assertTrue(IgnoreFile(""))
-        self.assertEqual((len(IgnoreFile("")), list(IgnoreFile(""))), (0, []))
+        self.assertTrue(IgnoreFile.from_text(""))
+        self.assertEqual((len(IgnoreFile.from_text("")), list(IgnoreFile.from_text(""))), (0, []))

@@ -11,7 +11,7 @@ import threading
 import unittest
 import weakref
 
-from gix_glob import IgnoreFile, IgnoreList, Pattern, _library, wildmatch
+from gix_glob import IgnoreFile, IgnoreList, Pattern, Reading, _answers, _calls, _library, _loading, wildmatch
 
 HERE = os.path.dirname(os.path.abspath(__file__))
 PACKAGE = os.path.dirname(HERE)
@@ -20,16 +20,16 @@ HEADER = os.path.join(PACKAGE, "..", "..", "crates", "gix_glob_c", "include", "g
 #: types of the header, and those that declare them here
 TYPES = {
     "const uint8_t *": (ctypes.c_void_p, ctypes.c_char_p),
-    "const struct gix_glob_pattern *": (ctypes.c_void_p, ctypes.POINTER(_library.Parts)),
+    "const struct gix_glob_pattern *": (ctypes.c_void_p, ctypes.POINTER(_calls.Parts)),
     "struct gix_glob_row *": (ctypes.c_void_p,),
     "const struct gix_glob_row *": (ctypes.c_void_p,),
-    "struct gix_glob_heads *": (ctypes.POINTER(_library.Heads),),
+    "struct gix_glob_heads *": (ctypes.POINTER(_calls.Heads),),
     "const struct gix_glob_heads *": (ctypes.c_void_p,),
-    "const struct gix_glob_index *": (ctypes.POINTER(_library.Index),),
+    "const struct gix_glob_index *": (ctypes.POINTER(_calls.Index),),
     "const struct gix_glob_path *": (ctypes.c_void_p,),
     "size_t *": (ctypes.c_void_p,),
-    "struct gix_glob_pattern *": (ctypes.POINTER(_library.Parts),),
-    "struct gix_glob_lines *": (ctypes.POINTER(_library.Lines),),
+    "struct gix_glob_pattern *": (ctypes.POINTER(_calls.Parts),),
+    "struct gix_glob_lines *": (ctypes.POINTER(_calls.Lines),),
     "bool *": (ctypes.POINTER(ctypes.c_bool),),
     "void ": (None,),
     "bool ": (ctypes.c_bool,),
@@ -65,7 +65,11 @@ class Declarations(unittest.TestCase):
         with open(HEADER, encoding="utf-8") as file:
             code = re.sub(r"/\*.*?\*/", "", file.read(), flags=re.S)
         calls = {name: (words, answer) for answer, name, words in re.findall(r"^(\w+ )(\w+)\(([^)]*)\);", code, re.M)}
-        for name, (types, answer) in _library.CALLS.items():
+        self.assertEqual({*_calls.CALLS, *_calls.OTHERS}, set(calls))
+        self.assertEqual({name for name, _ in _answers.QUESTIONS}, set(_calls.CALLS))
+        version = [re.search(rf"GIX_GLOB_VERSION_{part} (\d+)", code)[1] for part in ("MAJOR", "MINOR", "PATCH")]
+        self.assertEqual(_calls.VERSION, ".".join(version))
+        for name, (types, answer) in _calls.CALLS.items():
             with self.subTest(call=name):
                 wanted = parameters(calls[name][0])
                 self.assertEqual(len(wanted), len(types))
@@ -73,12 +77,12 @@ class Declarations(unittest.TestCase):
                     self.assertIn(it, TYPES[one])
                 self.assertIn(answer, TYPES[calls[name][1]])
         structs = {
-            "gix_glob_pattern": _library.Parts,
-            "gix_glob_row": _library.Row,
-            "gix_glob_heads": _library.Heads,
-            "gix_glob_index": _library.Index,
-            "gix_glob_path": _library.Asked,
-            "gix_glob_lines": _library.Lines,
+            "gix_glob_pattern": _calls.Parts,
+            "gix_glob_row": _calls.Row,
+            "gix_glob_heads": _calls.Heads,
+            "gix_glob_index": _calls.Index,
+            "gix_glob_path": _calls.Asked,
+            "gix_glob_lines": _calls.Lines,
         }
         for name, struct in structs.items():
             body = re.search(r"struct %s \{(.*?)\}" % name, code, re.S)[1]
@@ -91,16 +95,16 @@ class Declarations(unittest.TestCase):
                 self.assertEqual([field for _, field in fields], [field for field, _ in struct._fields_])
                 for (one, _), (_, it) in zip(fields, struct._fields_):
                     self.assertIn(it, TYPES[one])
-        self.assertEqual(ctypes.sizeof(_library.Asked), 24)
-        for name, number in (("NEGATIVE", _library.NEGATIVE), ("AS_CRATE", _library.AS_CRATE), ("AS_GIT", _library.AS_GIT)):
+        self.assertEqual(ctypes.sizeof(_calls.Asked), 24)
+        for name, number in (("NEGATIVE", _calls.NEGATIVE), ("AS_CRATE", _calls.AS_CRATE), ("AS_GIT", _calls.AS_GIT)):
             self.assertEqual(int(re.search(rf"GIX_GLOB_{name} (\d+)u", code)[1]), number)
-        self.assertEqual(_library.NONE, 2**64 - 1)
+        self.assertEqual(_calls.NONE, 2**64 - 1)
 
     def test_the_package_exports_what_it_says(self):
         said = run(
             "from gix_glob import *; import gix_glob; print(len([globals()[name] for name in gix_glob.__all__]))"
         )
-        self.assertEqual(said.stdout, "8\n", said.stderr)
+        self.assertEqual(said.stdout, "10\n", said.stderr)
 
 
 class Finding(unittest.TestCase):
@@ -120,7 +124,7 @@ class Finding(unittest.TestCase):
             self.assert_told(run("import gix_glob", GIX_GLOB_LIBRARY=folder), folder)
             # a library without the calls
             os.symlink(sys.modules["_ctypes"].__file__, other)
-            self.assert_told(run("import gix_glob", GIX_GLOB_LIBRARY=other), "gix_glob_parse")
+            self.assert_told(run("import gix_glob", GIX_GLOB_LIBRARY=other), "gix_glob_last_match")
 
     def test_the_file_beside_the_package_and_the_systems(self):
         program = "import gix_glob; print(gix_glob.wildmatch('*', 'a'))"
@@ -134,11 +138,11 @@ class Finding(unittest.TestCase):
             loaded = os.path.abspath(_library._c._name)
             self.assertTrue(os.path.exists(loaded), "run the tests with GIX_GLOB_LIBRARY")
             system = {"GIX_GLOB_LIBRARY": "", "PYTHONPATH": folder}
-            self.assert_told(run(program, **system), _library.NAME)
-            os.symlink(loaded, os.path.join(libraries, _library.NAME))
+            self.assert_told(run(program, **system), _loading.NAME)
+            os.symlink(loaded, os.path.join(libraries, _loading.NAME))
             said = run(program, LD_LIBRARY_PATH=libraries, **system)
             self.assertEqual(said.stdout, "True\n", said.stderr)
-            os.symlink(loaded, os.path.join(package, _library.NAME))
+            os.symlink(loaded, os.path.join(package, _loading.NAME))
             said = run(program, **system)
             self.assertEqual(said.stdout, "True\n", said.stderr)
 
@@ -154,7 +158,7 @@ class Memory(unittest.TestCase):
         del other
 
     def test_a_pattern_outlives_its_file(self):
-        file = IgnoreFile(b"\n".join(b"name%d*" % number for number in range(1000)), name="x")
+        file = IgnoreFile.from_text(b"\n".join(b"name%d*" % number for number in range(1000)), name="x")
         gone = weakref.ref(file)
         patterns = [pattern for _, pattern in file]
         matched = IgnoreList([file]).match_files(["name7/x", "name8", "other"])
@@ -173,7 +177,7 @@ class Memory(unittest.TestCase):
         # (no cycle keeps it until a collection)
         gc.disable()
         try:
-            file = IgnoreFile("a")
+            file = IgnoreFile.from_text("a")
             gone = weakref.ref(file)
             file.decide("a"), file.match_file("a"), list(file.match_files(["a", "a/b"]))
             del file
@@ -187,7 +191,7 @@ class Memory(unittest.TestCase):
         self.assertEqual((pattern.text, pattern.matches("bc")), (b"b*", True))
 
     def test_threads_share_objects(self):
-        rules = IgnoreList([IgnoreFile("*.o\n!keep.o\nbuild/"), IgnoreFile("!x.o", "web")])
+        rules = IgnoreList([IgnoreFile.from_text("*.o\n!keep.o\nbuild/"), IgnoreFile.from_text("!x.o", "web")])
         paths = ["a.o", "keep.o", "build/x", "web/x.o", "web/y.o", "c"] * 200
         wanted, found = ["a.o", "build/x", "web/y.o"] * 200, []
         threads = [threading.Thread(target=lambda: found.append(list(rules.match_files(paths)))) for _ in range(8)]
@@ -214,15 +218,15 @@ class Memory(unittest.TestCase):
 
 class Misuse(unittest.TestCase):
     def test_types(self):
-        rules = IgnoreFile("a")
+        rules = IgnoreFile.from_text("a")
         calls = [
             lambda it: Pattern(it),
             lambda it: wildmatch(it, "a"),
             lambda it: wildmatch("a", it),
             lambda it: Pattern("a").matches(it),
             lambda it: Pattern("a").matches_path(it),
-            lambda it: IgnoreFile(it),
-            lambda it: IgnoreFile("a", it),
+            lambda it: IgnoreFile.from_text(it),
+            lambda it: IgnoreFile.from_text("a", it),
             lambda it: IgnoreFile.from_lines(it),
             lambda it: IgnoreFile.from_lines([it]),
             lambda it: IgnoreFile.from_file(it),
@@ -231,8 +235,13 @@ class Misuse(unittest.TestCase):
             lambda it: rules.decide(it),
             lambda it: rules.decide_in_tree(it),
             lambda it: rules.match_file(it),
+            lambda it: rules.check_file(it),
             lambda it: list(rules.match_files(it)),
             lambda it: list(rules.match_files([it])),
+            lambda it: list(rules.check_files(it)),
+            lambda it: list(rules.check_files([it])),
+            lambda it: rules.match_tree_files(it),
+            lambda it: rules.match_files([], [it]),
         ]
         for at, call in enumerate(calls):
             for it in (None, 0, 1.5, object(), [1], bytearray(b"a")):
@@ -242,20 +251,18 @@ class Misuse(unittest.TestCase):
             with self.assertRaises(TypeError):
                 rules.match_files(paths)
             with self.assertRaises(TypeError):
+                rules.check_files(paths)
+            with self.assertRaises(TypeError):
                 IgnoreFile.from_lines(paths)
         with self.assertRaises(TypeError):
             wildmatch("a", "a", "1")
 
     def test_paths_that_are_none(self):
-        rules = IgnoreFile("*\na")
+        rules = IgnoreFile.from_text("*\na")
         for path in ("", "/", "./", "/a", "//", "a//b", "a//", b"/a", ".//a"):
             for call in (rules.decide, rules.decide_in_tree, rules.match_file, Pattern("*").matches_path):
                 with self.subTest(path=path), self.assertRaisesRegex(ValueError, "is no path"):
                     call(path)
-            found = rules.match_files(["a", path])
-            self.assertEqual(next(found), "a")
-            with self.assertRaises(ValueError):
-                next(found)
 
     def test_texts_that_lie(self):
         class Bytes(bytes):
@@ -279,26 +286,27 @@ class Misuse(unittest.TestCase):
         for text in (Bytes(b"ab"), Str("ab")):
             self.assertEqual(Pattern(text).text, b"ab")
             self.assertTrue(wildmatch(text, text))
-            self.assertEqual([it.text for _, it in IgnoreFile(text)], [b"ab"])
+            self.assertEqual([it.text for _, it in IgnoreFile.from_text(text)], [b"ab"])
         for path in (Bytes(b"ab"), Str("ab"), Path()):
-            self.assertEqual(IgnoreFile("/ab").decide(path).line, 1)
-            self.assertEqual(list(IgnoreFile("/ab").match_files([path])), [path])
-            self.assertEqual(IgnoreFile("x", path).base, b"ab/")
-        others = (lambda it: _library.Rules(it, False), lambda it: _library.wildmatch(b"", it, 0))
-        for call in (_library.parse, _library.parse_as_git, _library.Memory, *others):
+            self.assertEqual(IgnoreFile.from_text("/ab").decide(path).line, 1)
+            self.assertEqual(list(IgnoreFile.from_text("/ab").match_files([path])), [path])
+            self.assertEqual(IgnoreFile.from_text("x", path).base, b"ab/")
+        others = (lambda it: _library.Rules(it, Reading.CRATE), lambda it: _library.wildmatch(b"", it, 0))
+        parses = [lambda it, reading=reading: _library.parse(it, reading) for reading in Reading]
+        for call in (*parses, _library.Memory, *others):
             with self.assertRaises(TypeError):
                 call(Bytes(b"ab"))
-        rules = _library.Rules(b"a", False)
-        for call in (rules.last_match, _library.parse(b"a").matches_path):
+        rules = _library.Rules(b"a", Reading.CRATE)
+        for call in (rules.last_match, _library.parse(b"a", Reading.CRATE).matches_path):
             with self.assertRaises(TypeError):
                 call(Bytes(b"ab"), False, False)
         with self.assertRaises(TypeError):
             rules.last_matches([Bytes(b"ab")], [False], False)
 
     def test_several_paths_at_once(self):
-        rules = _library.Rules(b"a\n!b/", False)
+        rules = _library.Rules(b"a\n!b/", Reading.CRATE)
         found = rules.last_matches([b"x/a", b"b", b"b", b"", b"a\0"], [False, True, False, False, False], False)
-        self.assertEqual(list(found), [0, 1] + [_library.NONE] * 3)
+        self.assertEqual(list(found), [0, 1] + [_calls.NONE] * 3)
         self.assertEqual(list(rules.last_matches([], [], False)), [])
         for paths in (["a"], [b"a", None], [bytearray(b"a")]):
             with self.assertRaises(TypeError):
@@ -308,10 +316,10 @@ class Misuse(unittest.TestCase):
                 rules.last_matches([b"a"], are_dirs, False)
 
     def test_places_outside_a_file(self):
-        rules = _library.Rules(b"a\nb", False)
+        rules = _library.Rules(b"a\nb", Reading.CRATE)
         for at in (2, -3, 1 << 70):
             with self.assertRaises(IndexError):
-                rules.reading(at)
+                rules.line(at)
 
     def test_objects_that_were_not_made(self):
         with self.assertRaises(AttributeError):
@@ -326,23 +334,48 @@ class Misuse(unittest.TestCase):
                 self.assertEqual(Pattern(b"x" + byte).matches(b"x" + byte), byte not in b"\\[")
             if byte not in b"/":
                 self.assertTrue(Pattern("a?").matches_path(b"d/a" + byte))
-        self.assertEqual([it.text for _, it in IgnoreFile(b"a\0b\n\0\n\0")], [b"a\0b", b"\0", b"\0"])
-        self.assertEqual(IgnoreFile(b"a\0b").decide("a\0b").line, 1)
-        self.assertIsNone(IgnoreFile(b"a\0b").decide("a"))
+        self.assertEqual([it.text for _, it in IgnoreFile.from_text(b"a\0b\n\0\n\0")], [b"a\0b", b"\0", b"\0"])
+        self.assertEqual(IgnoreFile.from_text(b"a\0b").decide("a\0b").line, 1)
+        self.assertIsNone(IgnoreFile.from_text(b"a\0b").decide("a"))
 
     def test_names_that_are_no_text(self):
         name = os.fsdecode(b"caf\xe9.o")
-        rules = IgnoreFile("caf?.o")
+        rules = IgnoreFile.from_text("caf?.o")
         self.assertEqual(list(rules.match_files([name, "café.o"])), [name])
-        self.assertEqual(list(IgnoreFile(b"caf\xe9.o").match_files([name])), [name])
+        self.assertEqual(list(IgnoreFile.from_text(b"caf\xe9.o").match_files([name])), [name])
         self.assertEqual(list(IgnoreFile.from_lines([name]).match_files([name])), [name])
-        for call in (rules.decide, Pattern, lambda it: IgnoreFile.from_lines([it])):
+
+    def test_texts_that_are_no_names(self):
+        rules = IgnoreFile.from_text("*")
+        calls = [
+            Pattern,
+            IgnoreFile.from_text,
+            IgnoreFile.from_file,
+            lambda it: IgnoreFile.from_text("a", it),
+            lambda it: IgnoreFile.from_lines([it]),
+            lambda it: wildmatch(it, "a"),
+            lambda it: wildmatch("a", it),
+            Pattern("a").matches,
+            Pattern("a").matches_path,
+            rules.decide,
+            rules.decide_in_tree,
+            rules.match_file,
+            rules.check_file,
+            lambda it: rules.match_files([], [it]),
+            lambda it: list(rules.check_files([it])),
+        ]
+        for it in ("\ud800", "a\udfff", "\udc7f", "\ud83d\ude00"):
+            for at, call in enumerate(calls):
+                with self.subTest(at=at, it=it), self.assertRaises(UnicodeEncodeError):
+                    call(it)
+            found = rules.match_files(["a", it, "b"])
+            self.assertEqual(next(found), "a")
             with self.assertRaises(UnicodeEncodeError):
-                call("\ud800")
+                next(found)
 
     def test_empty_files(self):
         for text in ("", "\n", "#", "\ufeff", "\ufeff#", " \n!\n"):
-            rules = IgnoreFile(text)
+            rules = IgnoreFile.from_text(text)
             self.assertEqual((len(rules), rules.decide("a"), list(rules.match_files(["a/b"]))), (0, None, []))
         self.assertEqual(list(IgnoreList([]).match_files(["a", "b/c"])), [])
         self.assertIsNone(IgnoreList([]).decide("a"))
@@ -352,9 +385,9 @@ class Misuse(unittest.TestCase):
         long = b"a" * 100_000_000
         self.assertTrue(Pattern(long).matches(long))
         self.assertFalse(Pattern(long + b"b").matches(long))
-        rules = IgnoreFile(b"x\n" + long)
+        rules = IgnoreFile.from_text(b"x\n" + long)
         self.assertEqual((len(rules), rules.decide(long).line, rules.decide(b"d/" + long[1:])), (2, 2, None))
-        self.assertEqual(len(IgnoreFile(b"\n" * 1_000_000 + b"a")), 1)
+        self.assertEqual(len(IgnoreFile.from_text(b"\n" * 1_000_000 + b"a")), 1)
         # a path of many folders costs one decision for each
         deep = "d/" * 2000 + "x"
-        self.assertEqual(list(IgnoreFile("x").match_files([deep, deep])), [deep, deep])
+        self.assertEqual(list(IgnoreFile.from_text("x").match_files([deep, deep])), [deep, deep])

@@ -1,0 +1,125 @@
+"""The calls of the C library gix_glob_c as its header gix_glob.h declares them: numbers, structures, parameters and answers."""
+
+from __future__ import annotations
+
+import ctypes
+
+#: The version of the header that is declared here, and of this package.
+VERSION = "0.1.0"
+#: GIX_GLOB_NONE: no place, and no index.
+NONE = ctypes.c_size_t(-1).value
+#: GIX_GLOB_NEGATIVE: the bit of a pattern's mode.
+NEGATIVE = 8
+#: GIX_GLOB_AS_CRATE and GIX_GLOB_AS_GIT: whose reading a pattern is.
+AS_CRATE, AS_GIT = 0, 1
+
+
+class Parts(ctypes.Structure):
+    """struct gix_glob_pattern: a pattern that was read, whose text lies in the line's memory."""
+
+    _fields_ = [
+        ("text", ctypes.c_void_p),
+        ("text_len", ctypes.c_size_t),
+        ("first_wildcard_pos", ctypes.c_size_t),
+        ("mode", ctypes.c_uint32),
+        ("reading", ctypes.c_uint32),
+    ]
+
+
+class Row(ctypes.Structure):
+    """struct gix_glob_row: what a pattern asks of a path, as the library writes it."""
+
+    _fields_ = [
+        ("asked", ctypes.c_uint64),
+        ("before", ctypes.c_uint32),
+        ("spare", ctypes.c_uint8),
+        ("part", ctypes.c_uint8),
+    ]
+
+
+class Heads(ctypes.Structure):
+    """struct gix_glob_heads: where the chains of rows begin."""
+
+    _fields_ = [("links", ctypes.c_uint32 * 512)]
+
+
+class Index(ctypes.Structure):
+    """struct gix_glob_index: patterns that were prepared."""
+
+    _fields_ = [
+        ("patterns", ctypes.c_void_p),
+        ("count", ctypes.c_size_t),
+        ("rows", ctypes.c_void_p),
+        ("row_count", ctypes.c_size_t),
+        ("heads", ctypes.c_void_p),
+    ]
+
+
+class Asked(ctypes.Structure):
+    """struct gix_glob_path: a path that is asked about, in three words."""
+
+    _fields_ = [("bytes", ctypes.c_void_p), ("len", ctypes.c_size_t), ("is_dir", ctypes.c_bool)]
+
+
+class Lines(ctypes.Structure):
+    """struct gix_glob_lines: what is left to read of an ignore file."""
+
+    _fields_ = [("rest", ctypes.c_void_p), ("rest_len", ctypes.c_size_t), ("number", ctypes.c_size_t)]
+
+
+#: The calls that are used, each with its parameters and its answer. A `bytes` is handed over as c_char_p, an address as c_void_p.
+CALLS = {
+    "gix_glob_wildmatch": (
+        [ctypes.c_char_p, ctypes.c_size_t, ctypes.c_char_p, ctypes.c_size_t, ctypes.c_uint8],
+        ctypes.c_bool,
+    ),
+    "gix_glob_matches": (
+        [ctypes.c_void_p, ctypes.c_size_t, ctypes.c_uint32, ctypes.c_size_t]
+        + [ctypes.c_char_p, ctypes.c_size_t, ctypes.c_uint8],
+        ctypes.c_bool,
+    ),
+    "gix_glob_parse": ([ctypes.c_void_p, ctypes.c_size_t, ctypes.POINTER(Parts)], ctypes.c_bool),
+    "gix_glob_parse_as_git": ([ctypes.c_void_p, ctypes.c_size_t, ctypes.POINTER(Parts)], None),
+    "gix_glob_parse_ignore_line": (
+        [ctypes.POINTER(Lines), ctypes.POINTER(Parts), ctypes.POINTER(ctypes.c_bool)],
+        ctypes.c_bool,
+    ),
+    "gix_glob_parse_ignore_line_as_git": (
+        [ctypes.POINTER(Lines), ctypes.POINTER(Parts), ctypes.POINTER(ctypes.c_bool)],
+        ctypes.c_bool,
+    ),
+    "gix_glob_pattern_matches_path": (
+        [ctypes.POINTER(Parts), ctypes.c_char_p, ctypes.c_size_t, ctypes.c_bool, ctypes.c_bool],
+        ctypes.c_bool,
+    ),
+    "gix_glob_prepare": (
+        [ctypes.c_void_p, ctypes.c_size_t, ctypes.c_void_p, ctypes.c_size_t, ctypes.POINTER(Heads)],
+        ctypes.c_bool,
+    ),
+    "gix_glob_index_last_match": (
+        [ctypes.POINTER(Index), ctypes.c_char_p, ctypes.c_size_t, ctypes.c_bool, ctypes.c_bool],
+        ctypes.c_size_t,
+    ),
+    "gix_glob_index_last_matches": (
+        [ctypes.POINTER(Index), ctypes.c_void_p, ctypes.c_size_t, ctypes.c_bool, ctypes.c_void_p, ctypes.c_size_t],
+        ctypes.c_bool,
+    ),
+}
+
+#: The header's other calls: a library of this version has them, too.
+OTHERS = (
+    "gix_glob_last_match",
+    "gix_glob_decide_in_tree",
+    "gix_glob_parse_attribute_line",
+    "gix_glob_parse_attribute_line_as_git",
+    "gix_glob_attribute_of",
+    "gix_glob_matches_path",
+)
+
+
+_EMPTY = ctypes.create_string_buffer(1)
+
+
+def blank() -> Parts:
+    """GIX_GLOB_PATTERN_INIT: a pattern before one was read."""
+    return Parts(ctypes.addressof(_EMPTY), 0, NONE, 0, AS_CRATE)
