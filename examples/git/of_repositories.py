@@ -10,15 +10,15 @@ import tempfile
 from documents import kinds_in
 from of_globtree import GLOBTREE, Told, pieces, shown, told_kinds
 from repositories import NAMES, Repository
+from repository_indexes import ASKED
 
 HOW_MANY_SHOWN = 3
 # how check-ignore is asked by words, and check-attr and files
 BY_WORDS = [["--"], ["-v", "--"], ["-v", "-n", "--"], ["--no-index", "--"], ["--no-index", "-v", "--"]]
 ATTRIBUTES = [["-a", "--"], ["one", "two", "--"], ["-z", "two", "--"], ["-a", "-z", "--"]]
 OUTSIDE = [b"../../../../../../x", b"/", b"", b"../../x", b"l/x"]
-WARNING, QUOTES = b"warning: Git may answer otherwise: ", b"core.quotePath"
 # kinds of differences that the documents name: the first in "From Git" of docs/GLOBTREE.md
-NESTED, MESSAGES, BARE, QUOTED, UNKNOWN, REMOTES = "`.git`", "messages", "no work tree", "core.quotePath", "another's folder", "files read for remotes alone"
+NESTED, INDEX, MESSAGES, BARE, UNKNOWN, REMOTES = "`.git`", "the index", "messages", "no work tree", "another's folder", "files read for remotes alone"
 NAMED = kinds_in("GLOBTREE.md")
 # and those that "From Git" of docs/REPOSITORIES.md has: what tells a path otherwise, by the variables, options, links and texts of a repository
 TOLD = {
@@ -26,6 +26,7 @@ TOLD = {
     "a slash behind GIT_DIR": lambda made, question: made.git_dir().endswith(b"/"),
     "relative files of the environment": lambda made, question: any(made.is_relative(name) for name in FILES_OF_VARIABLES),
     "`.git` as a link": lambda made, question: any(os.path.basename(link) == b".git" for link in made.links),
+    "safe.bareRepository without a value": lambda made, question: made.says(rb"(?im)bareRepository[ \t]*([#;].*)?\r?$"),
     "an empty core.worktree": lambda made, question: made.says(rb'(?im)worktree[ \t]*=[ \t"]*([#;].*)?\r?$'),
 }
 FILES_OF_VARIABLES = (b"GIT_CONFIG_GLOBAL", b"GIT_CONFIG_SYSTEM", b"XDG_CONFIG_HOME", b"HOME")
@@ -98,7 +99,6 @@ class Comparison:
         made.make(room)
         self.constructs.update(made.constructs)
         self.pair = Pair(made, room)
-        self.has_quotes = any(b"quotepath" in text.lower() for text in made.texts_that_count())
         for folder in self.those_there(made.inside):
             self.ask_some(folder, 5 if made.is_sound else 2)
         outside = self.those_there(made.outside)
@@ -110,20 +110,20 @@ class Comparison:
 
     def ask_some(self, folder, count):
         """Asks so many questions of different kinds from a folder."""
-        for words, asked in self.random.sample(self.questions(), count):
+        for words, asked in self.random.sample(self.questions(), min(count, 5)):
             self.ask(Question(folder, words, asked))
 
     # ---- questions
 
     def questions(self):
         """Words of each kind, with what they read."""
-        return [
-            (["check-ignore", "--no-index", "-v", "-n", "-z", "--stdin"], self.records()),
+        questions = [] if self.pair.made.index is not None else [(["files", *self.random.choice(([], ["-z"]))], b"")]
+        return questions + [
+            (["check-ignore", *self.random.choice(([], ["--no-index"])), "-v", "-n", "-z", "--stdin"], self.records()),
             (["check-ignore", *self.random.choice(BY_WORDS), *self.names()], b""),
             (["check-ignore", "-q", self.random.choice(self.names())], b""),
             (["check-attr", "-z", "--stdin", "one", "two"], self.records()),
             (["check-attr", *self.random.choice(ATTRIBUTES), *self.names()], b""),
-            (["files", *self.random.choice(([], ["-z"]))], b""),
         ]
 
     def records(self):
@@ -131,9 +131,11 @@ class Comparison:
 
     def names(self):
         names = self.random.sample(NAMES, 7)
+        if self.pair.made.index is not None:
+            names = self.random.sample(NAMES + ASKED, 9)
         if self.random.random() < 0.04:
             names.insert(self.random.randrange(8), self.random.choice(OUTSIDE))
-        return names if self.has_quotes else names + [b"\xc3\xa4"]
+        return names + [b"\xc3\xa4"]
 
     # ---- both
 
@@ -149,8 +151,6 @@ class Comparison:
             self.judge(question, expected, self.pair.globtree(question, is_there))
 
     def judge(self, question, expected, found):
-        if self.has_quotes and not found.is_as(expected):
-            found = self.without_sign(found)
         kind = self.named_kind(question, expected, found)
         if kind:
             self.named[kind] += 1
@@ -170,6 +170,8 @@ class Comparison:
         # (Git reads a file under such a condition, where it doesn't hold, too)
         if "condition: hasconfig" in self.pair.made.constructs and is_answer(found) and OF_INCLUDED.match(fault(expected)):
             return REMOTES
+        if b"index: bad index file checksum" in found.errors and INDEX in NAMED:
+            return INDEX
         if command == "files" and NESTED in NAMED and not found.is_as(expected) and is_nested(expected, found):
             return NESTED
         if found.is_as(expected):
@@ -177,13 +179,6 @@ class Comparison:
         if RELATIVE_CONDITION in expected.errors and found.is_as(expected._replace(errors=found.errors)):
             return MESSAGES
         return next((kind for kind, holds in TOLD.items() if holds(self.pair.made, question)), None)
-
-    def without_sign(self, found):
-        """The same without the line that tells of core.quotePath."""
-        lines = found.errors.split(b"\n")
-        left = [line for line in lines if not (line.startswith(WARNING) and QUOTES in line)]
-        self.named[QUOTED] += len(left) < len(lines)
-        return found._replace(errors=b"\n".join(left))
 
     # ---- texts of faults
 

@@ -5,6 +5,7 @@ import random
 
 from configuration_texts import Writer
 from repository_faults import Faults
+from repository_indexes import Indexes
 from repository_settings import STRANGER, Settings
 from repository_shapes import Shapes
 from trees import write
@@ -16,7 +17,7 @@ IGNORE_LINES = [
 NAMES = [b"a", b"b", b"c", b"e", b"f", b"x.o", b"A", b"E", b"B.O", b"ig", b"d", b"d/", b"d/a", b"d/b", b"d/x.o", b"d/e/c", b"n/a", b"s/b"]
 
 
-class Repository(Shapes, Settings, Faults):
+class Repository(Shapes, Settings, Faults, Indexes):
     """The repository of a number. In all texts `@` stands for the folder in which it is made. `inside` are folders from which it
     answers, `outside` others; `options` are words in front of a command, and `standing` such as stand for configuration, as Git and as
     globtree has them."""
@@ -38,6 +39,7 @@ class Repository(Shapes, Settings, Faults):
         self.draw_includes()
         self.draw_words()
         self.draw_owner()
+        self.draw_index()
         if not self.is_sound:
             self.draw_faults()
         self.write_configuration()
@@ -115,5 +117,7 @@ class Repository(Shapes, Settings, Faults):
             os.makedirs(os.path.dirname(path), exist_ok=True)
             if not os.path.lexists(path):
                 os.symlink(self.placed(room, target), path)
+        if self.index is not None and not os.path.isdir(os.path.join(room, self.index_file)):
+            write(os.path.join(room, self.index_file), self.index)
         for path in self.strangers:
             os.chown(os.path.join(room, path), STRANGER, STRANGER)

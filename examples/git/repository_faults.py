@@ -64,6 +64,10 @@ class Faults(Chances):
             path = self.top + b"/d/.git"
         self.files[path] = self.random.choice(WRONG_GITFILES)
 
+    def fault_in_index(self):
+        if self.index is not None:
+            self.spoil_index()
+
     def fault_in_commondir(self):
         self.files[self.git + b"/commondir"] = self.one_of(b"", b"\n", b"nowhere", b"@/x\n", b".. \n")
 
