@@ -1,2 +1,4 @@
-pub mod Words
+pub mod Names
 pub mod Private
+pub mod Topics
+pub mod Words
