@@ -15,23 +15,26 @@ from repository_indexes import ASKED
 HOW_MANY_SHOWN = 3
 # how check-ignore is asked by words, and check-attr and files
 BY_WORDS = [["--"], ["-v", "--"], ["-v", "-n", "--"], ["--no-index", "--"], ["--no-index", "-v", "--"]]
+SHOWN = [["--list", "--show-origin", "-z"], ["--list"], ["--show-origin", "--get-all", "core.excludesFile"], ["-z", "CORE.ignorecase"]]
 ATTRIBUTES = [["-a", "--"], ["one", "two", "--"], ["-z", "two", "--"], ["-a", "-z", "--"]]
 OUTSIDE = [b"../../../../../../x", b"/", b"", b"../../x", b"l/x"]
 # kinds of differences that the documents name: the first in "From Git" of docs/GLOBTREE.md
-NESTED, INDEX, MESSAGES, BARE, UNKNOWN, REMOTES = "`.git`", "the index", "messages", "no work tree", "another's folder", "files read for remotes alone"
+NESTED, MESSAGES, BARE, UNKNOWN, REMOTES = "`.git`", "messages", "no work tree", "another's folder", "files read for remotes alone"
 NAMED = kinds_in("GLOBTREE.md")
+OF_CONFIG = "`config`"
 # and those that "From Git" of docs/REPOSITORIES.md has: what tells a path otherwise, by the variables, options, links and texts of a repository
 TOLD = {
     "a listing from outside": lambda made, question: question.words[0] == "files" and made.says(rb'(?im)excludesfile *= *"?[^/~@%\s"]'),
     "a slash behind GIT_DIR": lambda made, question: made.git_dir().endswith(b"/"),
     "relative files of the environment": lambda made, question: any(made.is_relative(name) for name in FILES_OF_VARIABLES),
     "`.git` as a link": lambda made, question: any(os.path.basename(link) == b".git" for link in made.links),
-    "safe.bareRepository without a value": lambda made, question: made.says(rb"(?im)bareRepository[ \t]*([#;].*)?\r?$"),
     "an empty core.worktree": lambda made, question: made.says(rb'(?im)worktree[ \t]*=[ \t"]*([#;].*)?\r?$'),
 }
 FILES_OF_VARIABLES = (b"GIT_CONFIG_GLOBAL", b"GIT_CONFIG_SYSTEM", b"XDG_CONFIG_HOME", b"HOME")
 UNKNOWN_FOLDER = re.compile(rb"fatal: failed to expand user dir in: '(~root|%\(prefix\))/[^\n]*\n")
 OF_INCLUDED = re.compile(rb"remote URLs cannot|unable to parse command-line config|bad config line|exceeded maximum include depth")
+OF_FORMAT = re.compile(rb"repo version|unknown repository extension")
+WARNINGS = re.compile(rb"(warning: [^\n]*\n)+")
 RELATIVE_CONDITION = b"error: relative config include conditionals must come from files\n"
 NO_WORK_TREE = b"fatal: this operation must be run in a work tree\n"
 FILES_OF_GIT = ["ls-files", "-co", "--exclude-standard"]
@@ -57,7 +60,9 @@ class Pair:
     def run(self, program, standing, question, words, is_there):
         """Runs a program in a folder, or with a word that leads to it."""
         folder = os.path.join(self.room, question.folder)
-        options = [self.made.placed(self.room, word) if isinstance(word, bytes) else word for word in self.made.options + standing]
+        # (what stands for configuration isn't the same for both)
+        words_before = self.made.options + ([] if question.words[0] == "config" else standing)
+        options = [self.made.placed(self.room, word) if isinstance(word, bytes) else word for word in words_before]
         front = program if is_there else [*program, "-C", folder]
         at = folder if is_there else self.room
         ran = subprocess.run([*front, *options, *words], cwd=at, input=question.asked, env=self.environment, capture_output=True)
@@ -124,6 +129,7 @@ class Comparison:
             (["check-ignore", "-q", self.random.choice(self.names())], b""),
             (["check-attr", "-z", "--stdin", "one", "two"], self.records()),
             (["check-attr", *self.random.choice(ATTRIBUTES), *self.names()], b""),
+            (["config", *self.random.choice(SHOWN)], b""),
         ]
 
     def records(self):
@@ -170,15 +176,22 @@ class Comparison:
         # (Git reads a file under such a condition, where it doesn't hold, too)
         if "condition: hasconfig" in self.pair.made.constructs and is_answer(found) and OF_INCLUDED.match(fault(expected)):
             return REMOTES
-        if b"index: bad index file checksum" in found.errors and INDEX in NAMED:
-            return INDEX
         if command == "files" and NESTED in NAMED and not found.is_as(expected) and is_nested(expected, found):
             return NESTED
         if found.is_as(expected):
             return None
+        if command == "config" and OF_CONFIG in NAMED and self.is_shown_otherwise(expected, found):
+            return OF_CONFIG
         if RELATIVE_CONDITION in expected.errors and found.is_as(expected._replace(errors=found.errors)):
             return MESSAGES
         return next((kind for kind, holds in TOLD.items() if holds(self.pair.made, question)), None)
+
+    def is_shown_otherwise(self, expected, found):
+        """Whether `config` answers otherwise as "From Git" says."""
+        if WARNINGS.fullmatch(expected.errors) and found.is_as(expected._replace(errors=found.errors)):
+            return True
+        is_fault = not is_answer(expected) and not is_answer(found) and not found.output
+        return is_fault or OF_FORMAT.search(found.errors) or b"fatal: cannot chdir to" in expected.errors or b"/." in self.pair.made.variables.get(b"GIT_CONFIG_SYSTEM", b"")
 
     # ---- texts of faults
 

@@ -1,7 +1,10 @@
 -- What is answered for the words. Of real files nothing is known: a folder may have any file, and anything may stand at a path.
-use Rattle.std.specs.Prelude.{◌≡◌, ◌||◌, ℕ, Bool, true, false, if◌then◌else◌, List, [], AllPairs, Option, Ok, drop, length, map, string_bytes, take}
+use Rattle.std.specs.Prelude.{◌≡◌, ◌||◌, ℕ, Bool, true, false, if◌then◌else◌, List, [], ◌∷◌, AllPairs, MatchOption, Option, Ok, drop, length, map, string_bytes, take}
 use Rattle.std.specs.Io.KnownBytes.{Appends}
 use Rattle.std.specs.List.{flat_map}
+use Rattle.config_answers.specs.Answers.{Asked, All, Last, Values, answer_of, has_answer}
+use Rattle.git_config.specs.Configuration.{Seen}
+use Rattle.git_config.specs.Words.{canonical_of}
 use Rattle.git_index.specs.Entries.{Tracked}
 use Rattle.gix_glob.specs.declared.pattern.Case.{Case}
 use Rattle.gix_glob.specs.declared.pattern.Case.TheVariants.{Fold, Sensitive}
@@ -25,11 +28,12 @@ use Rattle.tree_words.specs.declared.check_attr.CheckAttrFlags.{CheckAttrFlags}
 use Rattle.tree_words.specs.declared.check_ignore.CheckIgnoreFlags.{CheckIgnoreFlags}
 use Rattle.tree_words.specs.declared.command.Command.{Command}
 use Rattle.tree_words.specs.declared.command.Command.TheVariants as command
+use Rattle.tree_words.specs.declared.config.ConfigFlags.{ConfigFlags}
 use Rattle.tree_words.specs.declared.files.FilesFlags.{FilesFlags}
 use Rattle.tree_words.specs.declared.options.Options.{Options}
 use Rattle.tree_words.specs.Operands.{dashes_at, operands_among}
 use Rattle.tree_words.specs.Words.{Ask}
-use Rattle.globtree.specs.Running.{asked_by_flags, form_by}
+use Rattle.globtree.specs.Running.{asked_by_flags, form_by, manner_by}
 use Rattle.globtree.specs.Tracked.{IsOfIndex}
 
 abbrev pub any_list : Folder → EntryList (Unit {0}) → Type 0
@@ -107,12 +111,34 @@ pub record AnswersFiles (flags : FilesFlags) (old new : Option (List ℕ)) : Typ
   pub ordered : AllPairs ComesBefore paths
   pub written : Appends old new (flat_map (path_line standpoint (form_by flags.nul quoting)) paths)
 
+-- what entries answer was written, and the status says whether there is an answer
+pub record IsShown (flags : ConfigFlags) (asked : Asked) (settings : List Seen) (status : ℕ) (old new : Option (List ℕ)) : Type 0 where
+  pub ends : status ≡ (if has_answer asked settings then 0 else 1)
+  pub written : Appends old new (answer_of (manner_by flags) asked settings)
+
+-- of a key: all values, or the last one
+abbrev pub asked_by_key : ConfigFlags → List ℕ → Asked
+asked_by_key flags key = if flags.get_all then Values key else Last key
+
+-- of the key that a word tells; a word that is none has no value
+abbrev pub KeyIsShown : ConfigFlags → List Seen → List ℕ → ℕ → Option (List ℕ) → Option (List ℕ) → Type 0
+KeyIsShown flags settings word status old new =
+    MatchOption (canonical_of word) ((status ≡ 1) × (new ≡ old)) (λ key. IsShown flags (asked_by_key flags key) settings status old new)
+
+-- The words behind `config` were answered by some entries, in the order in which they were read: what they say of the one operand, or
+-- all of them.
+pub record AnswersConfig (flags : ConfigFlags) (words : List (List ℕ)) (status : ℕ) (old new : Option (List ℕ)) : Type 0 where
+  pub settings : List Seen
+  pub all : flags.list ≡ true → IsShown flags All settings status old new
+  pub one : flags.list ≡ false → (word : List ℕ) × (operands_among words ≡ word ∷ []) × KeyIsShown flags settings word status old new
+
 -- A command was answered. Of how the program is used, and which it is, some text was written.
 abbrev pub AnswersCommand : Options → Command → ℕ → Option (List ℕ) → Option (List ℕ) → Option (List ℕ) → Option (List ℕ) → Type 0
 AnswersCommand options command.Help status left rest old new = (text : List ℕ) × Appends old new text
 AnswersCommand options command.Version status left rest old new = (text : List ℕ) × Appends old new text
 AnswersCommand options (command.CheckIgnore flags words) status left rest old new = AnswersIgnore options flags (map string_bytes words.now) status left rest old new
 AnswersCommand options (command.CheckAttr flags words) status left rest old new = AnswersAttr options flags (map string_bytes words.now) left rest old new
+AnswersCommand options (command.Config flags words) status left rest old new = AnswersConfig flags (map string_bytes words.now) status old new
 AnswersCommand options (command.Files flags folder) status left rest old new = AnswersFiles flags old new
 
 -- the words were answered with this status, by the command that they ask for

@@ -5,7 +5,9 @@ use Rattle.told_paths.specs.declared.quoting.Quoting.TheVariants.{AsciiOnly, Ful
 use Rattle.tree_answers.specs.declared.form.Form.{Form}
 use Rattle.tree_answers.specs.declared.form.Form.TheVariants.{Lines, Records}
 use Rattle.tree_commands.specs.declared.check_ignore.flags.IgnoreFlags.{IgnoreFlags}
+use Rattle.config_answers.specs.declared.origin.Manner.{Manner}
 use Rattle.tree_words.specs.declared.check_ignore.CheckIgnoreFlags.{CheckIgnoreFlags}
+use Rattle.tree_words.specs.declared.config.ConfigFlags.{ConfigFlags}
 
 -- all is answered; or something is, and no path is ignored, or not all could be listed
 abbrev pub IsAnswered : ℕ → Type 0
@@ -30,3 +32,7 @@ form_by is_nul quoting = if is_nul then Records else Lines quoting
 -- what is written about paths, by the options of `check-ignore`
 abbrev pub asked_by_flags : CheckIgnoreFlags → Quoting → IgnoreFlags
 asked_by_flags flags quoting = record { form = form_by flags.nul quoting; verbose = flags.verbose; non_matching = flags.non_matching; quiet = flags.quiet }
+
+-- how entries of a configuration are shown, by the options of `config`
+abbrev pub manner_by : ConfigFlags → Manner
+manner_by flags = record { nul = flags.nul; origin = flags.show_origin }

@@ -1,5 +1,5 @@
 //! Says of the paths of a work tree what Git says: which line of which file ignores them, which files aren't ignored, and which
-//! states attributes have for paths.
+//! states attributes have for paths; and what the configuration says.
 #![tactic(auto)]
 
 mod check_attr;
@@ -13,6 +13,7 @@ mod opening;
 mod outer_attributes;
 mod places;
 mod running;
+mod show_config;
 mod signs;
 mod tracked;
 mod work_tree;

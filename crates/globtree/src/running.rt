@@ -9,6 +9,7 @@ ghost use Rattle.globtree.specs.Running.{IsAnswered, IsRefused, IsStatus};
 use crate::check_attr::check_attr;
 use crate::check_ignore::check_ignore;
 use crate::list_files::list_files;
+use crate::show_config::show_config;
 use anyhow::{Context, Result};
 use gix_glob::search::Watched;
 use std::alloc::Global;
@@ -33,6 +34,8 @@ usage: globtree [OPTION..] check-ignore [-v] [-n] [-z] PATH..
        globtree [OPTION..] check-attr [-z] ATTR [--] PATH..
        globtree [OPTION..] check-attr [-z] ATTR.. -- PATH..
        globtree [OPTION..] check-attr [-z] --stdin [-a | ATTR..]
+       globtree [OPTION..] config [-z] [--show-origin] [--get-all] KEY
+       globtree [OPTION..] config [-z] [--show-origin] --list
 
 options:
   -C DIR             go to DIR first
@@ -99,6 +102,9 @@ fn answer_command<R: Files + Env + Eprint + AllocGlobal + Clone + Drop, I: Read,
         Command::Files { flags, folder } => list_files(rt, alloc, options, flags, folder, output),
         Command::CheckAttr { flags, words } => {
             check_attr(rt, alloc, options, flags, words, input, output)
+        }
+        Command::Config { flags, words } => {
+            show_config(rt, alloc, options, flags, words, output)
         }
     }
 }

@@ -8,11 +8,11 @@ use std::alloc::{AllocError, Global};
 
 /// What is known of a repository while its configuration is read.
 #[derive(Debug, Drop)]
-pub(crate) struct KnownRepository {
+pub struct KnownRepository {
     /// The paths of the git folder; none outside a repository.
-    pub(crate) folders: Vec<Vec<u8>>,
+    pub folders: Vec<Vec<u8>>,
     /// The branch that `HEAD` names.
-    pub(crate) branch: Option<Vec<u8>>,
+    pub branch: Option<Vec<u8>>,
 }
 
 /// The surroundings of a reading: the user and the installation, and what is known of the repository.

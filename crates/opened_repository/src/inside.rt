@@ -59,7 +59,7 @@ fn path_if(counts: bool, path: &[u8]) -> Option<&[u8]>
 }
 
 /// What is known of the repository with a git folder.
-fn known_in<S: FileSystem + ConfigFiles>(
+pub(crate) fn known_in<S: FileSystem + ConfigFiles>(
     alloc: Global,
     source: &S,
     told: &Told<'_>,

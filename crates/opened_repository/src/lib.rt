@@ -10,6 +10,7 @@ mod inside;
 mod opened;
 mod order;
 mod own;
+mod place;
 mod reading;
 mod safe;
 mod told;
@@ -18,8 +19,10 @@ mod urls;
 mod values;
 mod words;
 
+pub use around::KnownRepository;
 pub use fault::{OpenFault, RepositoryFault};
 pub use inside::told_from;
 pub use opened::Opened;
 pub use order::open;
+pub use place::{ConfigPlace, config_place, read_config};
 pub use told::Told;

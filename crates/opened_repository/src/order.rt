@@ -79,7 +79,7 @@ fn open_found<S: FileSystem + ConfigFiles>(
 }
 
 /// The folders of the repository that was found.
-fn folders<S: FileSystem + ConfigFiles>(
+pub(crate) fn folders<S: FileSystem + ConfigFiles>(
     alloc: Global,
     source: &S,
     told: &Told<'_>,
@@ -102,7 +102,7 @@ fn core<F>(
 }
 
 /// The top of the work tree.
-fn work_tree<S: FileSystem + ConfigFiles>(
+pub(crate) fn work_tree<S: FileSystem + ConfigFiles>(
     alloc: Global,
     source: &S,
     told: &Told<'_>,
@@ -156,7 +156,7 @@ fn name_of<S: FileSystem + ConfigFiles>(
 }
 
 /// How Git names the file `info/exclude` from the top of a work tree.
-fn name_from<S: FileSystem + ConfigFiles>(
+pub(crate) fn name_from<S: FileSystem + ConfigFiles>(
     alloc: Global,
     source: &S,
     told: &Told<'_>,

@@ -72,7 +72,7 @@ fn read_trusted<F: ConfigFiles>(
 }
 
 /// What is known outside of a repository.
-fn nothing_known(alloc: Global) -> KnownRepository
+pub(crate) fn nothing_known(alloc: Global) -> KnownRepository
     ensures { known_of result ≡ nothing_known }
 {
     KnownRepository {

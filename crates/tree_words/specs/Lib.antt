@@ -1,5 +1,6 @@
 pub mod CheckAttr
 pub mod CheckIgnore
+pub mod Config
 pub mod Files
 pub mod Operands
 pub mod Private

@@ -5,6 +5,7 @@ ghost use Rattle.tree_words.specs.Words.{AreWrong, Ask, IsCommand};
 
 use crate::check_attr::CheckAttrFlags;
 use crate::check_ignore::CheckIgnoreFlags;
+use crate::config::ConfigFlags;
 use crate::files::FilesFlags;
 use crate::flags::flags_of;
 use crate::operands::only_operand;
@@ -25,6 +26,11 @@ pub enum Command<'a> {
     /// Tell which state attributes have for paths, by the words behind the command.
     CheckAttr {
         flags: CheckAttrFlags,
+        words: &'a [String],
+    },
+    /// Tell what the configuration says, by the words behind the command.
+    Config {
+        flags: ConfigFlags,
         words: &'a [String],
     },
     /// List the files below a folder that aren't ignored; below the current one where none is told.
@@ -59,6 +65,10 @@ fn command_of(words: &[String]) -> Option<Command<'_>>
         }),
         "check-attr" => Some(Command::CheckAttr {
             flags: flags_of(CheckAttrFlags::none(), rest)?,
+            words: rest,
+        }),
+        "config" => Some(Command::Config {
+            flags: flags_of(ConfigFlags::none(), rest)?,
             words: rest,
         }),
         "--help" | "-h" => Some(Command::Help),

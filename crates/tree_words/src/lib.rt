@@ -4,6 +4,7 @@
 pub mod check_attr;
 pub mod check_ignore;
 mod command;
+pub mod config;
 pub mod files;
 mod flags;
 mod operands;
