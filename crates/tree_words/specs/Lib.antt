@@ -4,4 +4,5 @@ pub mod Config
 pub mod Files
 pub mod Operands
 pub mod Private
+pub mod Status
 pub mod Words

@@ -8,6 +8,7 @@ use Rattle.tree_words.specs.CheckIgnore as check_ignore
 use Rattle.tree_words.specs.Config as config
 use Rattle.tree_words.specs.Files as files
 use Rattle.tree_words.specs.Operands.{IsOnly, flags_among}
+use Rattle.tree_words.specs.Status as status
 use Rattle.tree_words.specs.declared.command.Command.{Command}
 use Rattle.tree_words.specs.declared.command.Command.TheVariants as command
 use Rattle.tree_words.specs.declared.options.Options.{Options}
@@ -61,8 +62,10 @@ IsCommand words (command.CheckAttr flags rest) =
     (words ≡ codes "check-attr" ∷ map string_bytes rest.now) × (flags_among check_attr.with_name check_attr.with_letter check_attr.none (map string_bytes rest.now) ≡ Some flags)
 IsCommand words (command.Config flags rest) =
     (words ≡ codes "config" ∷ map string_bytes rest.now) × (flags_among config.with_name config.with_letter config.none (map string_bytes rest.now) ≡ Some flags)
+IsCommand words (command.Status flags rest) =
+    (words ≡ codes "status" ∷ map string_bytes rest.now) × (flags_among status.with_name status.with_letter status.none (map string_bytes rest.now) ≡ Some flags)
 IsCommand words (command.Files flags folder) =
-    (rest : List (List ℕ)) × (words ≡ codes "files" ∷ rest) × (flags_among files.with_name (λ _ _. None) files.none rest ≡ Some flags) × IsOnly rest (codes ".") folder.now
+    (rest : List (List ℕ)) × (words ≡ codes "files" ∷ rest) × (flags_among files.with_name files.with_letter files.none rest ≡ Some flags) × IsOnly rest (codes ".") folder.now
 
 -- ---- both
 

@@ -10,6 +10,7 @@ use crate::files::FilesFlags;
 use crate::flags::flags_of;
 use crate::operands::only_operand;
 use crate::options::{Options, options_of};
+use crate::status::StatusFlags;
 
 /// What is to be done.
 #[derive(Clone, Copy, Drop)]
@@ -33,10 +34,15 @@ pub enum Command<'a> {
         flags: ConfigFlags,
         words: &'a [String],
     },
-    /// List the files below a folder that aren't ignored; below the current one where none is told.
+    /// List files below a folder, as its flags choose them; below the current one where none is told.
     Files {
         flags: FilesFlags,
         folder: &'a str,
+    },
+    /// Tell which files aren't tracked, and which are ignored, by the words behind the command.
+    Status {
+        flags: StatusFlags,
+        words: &'a [String],
     },
 }
 
@@ -60,7 +66,7 @@ fn command_of(words: &[String]) -> Option<Command<'_>>
             words: rest,
         }),
         "files" => Some(Command::Files {
-            flags: flags_of(FilesFlags { nul: false }, rest)?,
+            flags: flags_of(FilesFlags::none(), rest)?,
             folder: only_operand(rest, ".")?,
         }),
         "check-attr" => Some(Command::CheckAttr {
@@ -69,6 +75,10 @@ fn command_of(words: &[String]) -> Option<Command<'_>>
         }),
         "config" => Some(Command::Config {
             flags: flags_of(ConfigFlags::none(), rest)?,
+            words: rest,
+        }),
+        "status" => Some(Command::Status {
+            flags: flags_of(StatusFlags::none(), rest)?,
             words: rest,
         }),
         "--help" | "-h" => Some(Command::Help),

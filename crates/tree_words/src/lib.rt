@@ -9,6 +9,7 @@ pub mod files;
 mod flags;
 mod operands;
 mod options;
+pub mod status;
 
 pub use command::{Command, asked_by};
 pub use operands::{Operands, operands_of};

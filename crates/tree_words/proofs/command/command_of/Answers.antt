@@ -3,7 +3,8 @@ use Rattle.tree_words.specs.CheckAttr as check_attr
 use Rattle.tree_words.specs.CheckIgnore as check_ignore
 use Rattle.tree_words.specs.Config as config
 use Rattle.tree_words.specs.Operands.{flags_among}
-use Rattle.tree_words.proofs.lemmas.CommandLemmas.{no_check_attr, no_check_ignore, no_config, no_files}
+use Rattle.tree_words.specs.Status as status
+use Rattle.tree_words.proofs.lemmas.CommandLemmas.{no_check_attr, no_check_ignore, no_config, no_files, no_status}
 use Rattle.tree_words.proofs.command.command_of.Goals as goal
 
 pub returns-in_err-flags_of-in-text : goal.returns-in_err-flags_of-in-text
@@ -46,6 +47,18 @@ pub returns-in_ok-flags_of-in-config : goal.returns-in_ok-flags_of-in-config
 returns-in_ok-flags_of-in-config c = (
   ap (map string_bytes) c.in_ok-command.ensures.cases.0 ∙ ap (λ w. w ∷ map string_bytes c.in_ok-command.rest.now) (sym c.as_str.ensures.value ∙ c.in-config.is),
   ap (λ none. flags_among config.with_name config.with_letter none (map string_bytes c.in_ok-command.rest.now)) (sym c.none-in-config.ensures) ∙ sym c.flags_of-in-config.ensures ∙ c.in_ok-flags_of-in-config.was,
+)
+
+pub returns-in_err-flags_of-in-status : goal.returns-in_err-flags_of-in-status
+returns-in_err-flags_of-in-status c =
+    let rest = map string_bytes c.in_ok-command.rest.now in
+    let are = ap (map string_bytes) c.in_ok-command.ensures.cases.0 ∙ ap (λ w. w ∷ rest) (sym c.as_str.ensures.value ∙ c.in-status.is) in
+    rw c.from_residual-in_err-flags_of-in-status.ensures (no_status _ rest are (ap (λ none. flags_among status.with_name status.with_letter none (map string_bytes c.in_ok-command.rest.now)) (sym c.none-in-status.ensures) ∙ sym c.flags_of-in-status.ensures ∙ c.in_err-flags_of-in-status.was))
+
+pub returns-in_ok-flags_of-in-status : goal.returns-in_ok-flags_of-in-status
+returns-in_ok-flags_of-in-status c = (
+  ap (map string_bytes) c.in_ok-command.ensures.cases.0 ∙ ap (λ w. w ∷ map string_bytes c.in_ok-command.rest.now) (sym c.as_str.ensures.value ∙ c.in-status.is),
+  ap (λ none. flags_among status.with_name status.with_letter none (map string_bytes c.in_ok-command.rest.now)) (sym c.none-in-status.ensures) ∙ sym c.flags_of-in-status.ensures ∙ c.in_ok-flags_of-in-status.was,
 )
 
 pub returns-in-text-4 : goal.returns-in-text-4
