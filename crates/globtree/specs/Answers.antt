@@ -1,5 +1,5 @@
 -- What is answered for the words. Of real files nothing is known: a folder may have any file, and anything may stand at a path.
-use Rattle.std.specs.Prelude.{◌≡◌, ◌||◌, ℕ, Bool, true, false, if◌then◌else◌, List, [], ◌∷◌, AllPairs, MatchOption, Option, Ok, drop, length, map, string_bytes, take}
+use Rattle.std.specs.Prelude.{◌≡◌, ◌||◌, ℕ, Bool, true, false, if◌then◌else◌, List, [], ◌∷◌, AllPairs, MatchBool, MatchOption, Option, Ok, Some, drop, length, map, string_bytes, take}
 use Rattle.std.specs.Io.KnownBytes.{Appends}
 use Rattle.std.specs.List.{flat_map}
 use Rattle.config_answers.specs.Answers.{Asked, All, Last, Values, answer_of, has_answer}
@@ -21,8 +21,11 @@ use Rattle.tree_answers.specs.Lines.{behind}
 use Rattle.tree_commands.specs.Answering.{TextOfNamed, TextOfPaths, Writes}
 use Rattle.tree_commands.specs.CheckAttr.{IsStatesText, Query, all, named}
 use Rattle.tree_commands.specs.CheckIgnore.{IsIgnoreAnswer, IsStatus, Question}
+use Rattle.tree_answers.specs.declared.form.Form.{Form}
 use Rattle.tree_commands.specs.Files.{ComesBefore, path_line}
+use Rattle.tree_commands.specs.TrackedFiles.{AreIgnored, names_alone, paths_asked}
 use Rattle.tree_commands.specs.declared.check_ignore.flags.IgnoreFlags.{IgnoreFlags}
+use Rattle.tree_commands.specs.declared.path_lines.Mark.TheVariants as marks
 use Rattle.tree_words.specs.CheckAttr.{names_first}
 use Rattle.tree_words.specs.declared.check_attr.CheckAttrFlags.{CheckAttrFlags}
 use Rattle.tree_words.specs.declared.check_ignore.CheckIgnoreFlags.{CheckIgnoreFlags}
@@ -31,6 +34,7 @@ use Rattle.tree_words.specs.declared.command.Command.TheVariants as command
 use Rattle.tree_words.specs.declared.config.ConfigFlags.{ConfigFlags}
 use Rattle.tree_words.specs.declared.files.FilesFlags.{FilesFlags}
 use Rattle.tree_words.specs.declared.options.Options.{Options}
+use Rattle.tree_words.specs.Files.{are_usual, lists_tracked}
 use Rattle.tree_words.specs.Operands.{dashes_at, operands_among}
 use Rattle.tree_words.specs.Words.{Ask}
 use Rattle.globtree.specs.Running.{asked_by_flags, form_by, manner_by}
@@ -103,13 +107,45 @@ pub record AnswersAttr (options : Options) (flags : CheckAttrFlags) (words : Lis
   pub read : flags.stdin ≡ true → ReadsStates query left rest old new
   pub told : flags.stdin ≡ false → TellsStates query (drop count (operands_among words)) old new
 
--- Lines of paths were written, each once, in order of their bytes.
-pub record AnswersFiles (flags : FilesFlags) (old new : Option (List ℕ)) : Type 0 where
-  pub standpoint : Standpoint
-  pub quoting : Quoting
+-- lines of these paths were written, without a mark
+abbrev pub WritesPaths : Standpoint → Form → List (List ℕ) → Option (List ℕ) → Option (List ℕ) → Type 0
+WritesPaths standpoint form paths old new = Appends old new (flat_map (path_line standpoint (record { form = form; mark = marks.Nothing })) paths)
+
+-- lines of some paths were written, each once, in order of their bytes
+abbrev pub ListsFound : Standpoint → Form → Option (List ℕ) → Option (List ℕ) → Type 0
+ListsFound standpoint form old new = (paths : List (List ℕ)) × AllPairs ComesBefore paths × WritesPaths standpoint form paths old new
+
+-- those of the tracked paths at or below a told one were
+abbrev pub ListsTracked : Standpoint → Form → List Tracked → List ℕ → Option (List ℕ) → Option (List ℕ) → Type 0
+ListsTracked standpoint form tracked told old new =
+    (paths : List (List ℕ)) × (paths_asked standpoint told tracked ≡ Some paths) × WritesPaths standpoint form paths old new
+
+-- those of them that are ignored were: patterns are matched by these rules
+pub record ListsIgnored (standpoint : Standpoint) (rules : Rules) (form : Form) (tracked : List Tracked) (told : List ℕ) (old new : Option (List ℕ)) : Type 0 where
   pub paths : List (List ℕ)
-  pub ordered : AllPairs ComesBefore paths
-  pub written : Appends old new (flat_map (path_line standpoint (form_by flags.nul quoting)) paths)
+  pub asked : paths_asked standpoint told tracked ≡ Some paths
+  pub question : Question
+  pub from : (question.leads ≡ led standpoint) × (question.literal ≡ literal_front standpoint)
+  pub beside : question.tracked ≡ []
+  pub by_rules : question.rules ≡ rules
+  pub asks : question.flags ≡ names_alone form
+  pub writes : Writes (AreIgnored question any_list standpoint paths) (Appends old new)
+
+-- What `files` lists: without options what is found below the folder; else with `-o` what is found, and then what is tracked, by `-c` or
+-- where there is no `-o`. With `-i` those of either are listed that are ignored.
+pub record AnswersFiles (options : Options) (flags : FilesFlags) (folder : List ℕ) (old new : Option (List ℕ)) : Type 0 where
+  pub standpoint : Standpoint
+  pub folds : Bool
+  pub quoting : Quoting
+  pub tracked : List Tracked
+  pub of_index : IsOfIndex tracked
+  pub middle : Option (List ℕ)
+  pub found : MatchBool (are_usual flags || flags.others) (ListsFound standpoint (form_by flags.nul quoting) old middle) (middle ≡ old)
+  pub listed : MatchBool (lists_tracked flags)
+      (MatchBool flags.ignored
+      (ListsIgnored standpoint (by_git (case_by options folds)) (form_by flags.nul quoting) tracked folder middle new)
+      (ListsTracked standpoint (form_by flags.nul quoting) tracked folder middle new))
+      (new ≡ middle)
 
 -- what entries answer was written, and the status says whether there is an answer
 pub record IsShown (flags : ConfigFlags) (asked : Asked) (settings : List Seen) (status : ℕ) (old new : Option (List ℕ)) : Type 0 where
@@ -139,7 +175,7 @@ AnswersCommand options command.Version status left rest old new = (text : List �
 AnswersCommand options (command.CheckIgnore flags words) status left rest old new = AnswersIgnore options flags (map string_bytes words.now) status left rest old new
 AnswersCommand options (command.CheckAttr flags words) status left rest old new = AnswersAttr options flags (map string_bytes words.now) left rest old new
 AnswersCommand options (command.Config flags words) status left rest old new = AnswersConfig flags (map string_bytes words.now) status old new
-AnswersCommand options (command.Files flags folder) status left rest old new = AnswersFiles flags old new
+AnswersCommand options (command.Files flags folder) status left rest old new = AnswersFiles options flags folder.now old new
 
 -- the words were answered with this status, by the command that they ask for
 pub record AnswersWords (words : List (List ℕ)) (status : ℕ) (left rest old new : Option (List ℕ)) : Type 0 where

@@ -107,7 +107,10 @@ fn answer_paths<R: Files + Eprint, O: Write>(
 }
 
 /// A fault as it is told.
-fn told_fault(alloc: Global, fault: RecordFault<IgnoreFault<CheckFault>>) -> anyhow::Error {
+pub(crate) fn told_fault(
+    alloc: Global,
+    fault: RecordFault<IgnoreFault<CheckFault>>,
+) -> anyhow::Error {
     match fault {
         RecordFault::Answer(fault) => CheckFault::of_ignore(alloc, fault).into(),
         fault => fault.into(),

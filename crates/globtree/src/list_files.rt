@@ -1,21 +1,26 @@
 //! The command `files`.
-ghost use Rattle.std.specs.Prelude.{IfOk};
-ghost use Rattle.gix_glob.specs.Watched.{inner};
-ghost use Rattle.globtree.specs.Answers.{AnswersFiles};
-ghost use Rattle.globtree.specs.Running.{IsAnswered};
+ghost use Rattle.std.specs.Prelude.{◌≡◌, IfOk, MatchBool, OnOk, false};
+ghost use Rattle.gix_glob.specs.Watched.{has_failed, inner};
+ghost use Rattle.glob_lists.specs.Rules.{by_git};
+ghost use Rattle.globtree.specs.Answers.{AnswersFiles, ListsFound, ListsIgnored, ListsTracked, case_by};
+ghost use Rattle.globtree.specs.Running.{IsAnswered, form_by};
 
-use crate::fronts::{case_of, fronts_of};
+use crate::fronts::{Fronts, case_of, fronts_of, tree_behind};
+use crate::list_tracked::{list_tracked, list_tracked_ignored};
 use crate::running::ANSWERED;
 use crate::signs::IndexUse;
-use anyhow::{Context, Result};
+use anyhow::{Context, Result, bail};
 use gix_glob::search::Watched;
-use std::alloc::Global;
+use glob_lines::IgnoreLines;
+use glob_lists::PreparedList;
+use std::alloc::{AllocError, Global};
 use std::io::Write;
 use std::rt::{Env, Files};
-use told_paths::LeadFault;
+use told_paths::{LeadFault, Standpoint};
 use tree_answers::Form;
 use tree_commands::files::fault::FilesFault;
 use tree_commands::files::{Listing, run_files};
+use tree_commands::path_lines::{LineForm, Mark};
 use tree_files::{CheckFault, TreeFiles};
 use tree_words::Options;
 use tree_words::files::FilesFlags;
@@ -23,7 +28,7 @@ use tree_words::files::FilesFlags;
 /// What the command ends with where something couldn't be read.
 const NOT_ALL_LISTED: u8 = 1;
 
-/// Lists the files below a folder that aren't ignored.
+/// Lists files below a folder.
 pub(crate) fn list_files<R: Files + Env + Eprint + AllocGlobal + Clone + Drop, O: Write>(
     rt: &R,
     alloc: Global,
@@ -33,13 +38,55 @@ pub(crate) fn list_files<R: Files + Env + Eprint + AllocGlobal + Clone + Drop, O
     output: &mut Watched<O>,
 ) -> Result<u8>
     ensures status { IfOk result IsAnswered }
-    ensures answered { IfOk result (λ _. AnswersFiles flags (O.contents (inner output.old)) (O.contents (inner output.new))) }
+    ensures answered { IfOk result (λ _. AnswersFiles options.entry flags folder.now (O.contents (inner output.old)) (O.contents (inner output.new))) }
 {
-    let fronts = fronts_of(rt, alloc, options, IndexUse::Listing)?;
+    if let Some(message) = flags.disagreement() {
+        bail!("{message}");
+    }
+    let fronts = fronts_of(rt, alloc, options, index_by(flags))?;
+    let status = if flags.are_usual() || flags.others {
+        list_found(rt, alloc, options, flags, &fronts, folder, output)?
+    } else {
+        ANSWERED
+    };
+    if flags.lists_tracked() {
+        if output.failed() {
+            bail!("writing");
+        }
+        list_tracked_by(rt, alloc, options, flags, fronts, folder, output)?;
+    }
+    Ok(status)
+}
+
+/// What is taken from the index: which paths are tracked, unless all files are listed.
+fn index_by(flags: FilesFlags) -> IndexUse {
+    if flags.are_usual() {
+        IndexUse::Nothing
+    } else {
+        IndexUse::Paths
+    }
+}
+
+/// Lists the files that are found below a folder.
+fn list_found<R: Files + Env + Eprint + AllocGlobal + Clone + Drop, O: Write>(
+    rt: &R,
+    alloc: Global,
+    options: Options<'_>,
+    flags: FilesFlags,
+    fronts: &Fronts,
+    folder: &str,
+    output: &mut Watched<O>,
+) -> Result<u8>
+    ensures status { IfOk result IsAnswered }
+    ensures found { IfOk result (λ _. ListsFound fronts.now.standpoint (form_by flags.nul fronts.now.quoting) (O.contents (inner output.old)) (O.contents (inner output.new))) }
+{
     let listing = Listing {
-        standpoint: fronts.standpoint,
-        form: Form::ended_by(flags.nul, fronts.quoting),
-        fronts: fronts.lists,
+        standpoint: copy_of(&fronts.standpoint)?,
+        form: LineForm {
+            form: Form::ended_by(flags.nul, fronts.quoting),
+            mark: Mark::Nothing,
+        },
+        fronts: copies_of(alloc, &fronts.lists)?,
         case: case_of(options, fronts.folds),
     };
     let mut source = TreeFiles::new(rt, alloc)?;
@@ -50,6 +97,59 @@ pub(crate) fn list_files<R: Files + Env + Eprint + AllocGlobal + Clone + Drop, O
         Err(FilesFault::Endless) => None.context("a tree without an end"),
         Err(fault) => Err(fault_of(alloc, folder, fault).into()),
     }
+}
+
+/// Lists the tracked paths at or below a folder; with `-i` those that are ignored.
+fn list_tracked_by<R: Files + Env + Eprint + AllocGlobal, O: Write>(
+    rt: &R,
+    alloc: Global,
+    options: Options<'_>,
+    flags: FilesFlags,
+    fronts: Fronts,
+    folder: &str,
+    output: &mut Watched<O>,
+) -> Result<()>
+    requires { has_failed output.old ≡ false }
+    ensures { OnOk result (MatchBool flags.ignored
+        (ListsIgnored fronts.standpoint (by_git (case_by options.entry fronts.folds)) (form_by flags.nul fronts.quoting) fronts.tracked folder.now (O.contents (inner output.old)) (O.contents (inner output.new)))
+        (ListsTracked fronts.standpoint (form_by flags.nul fronts.quoting) fronts.tracked folder.now (O.contents (inner output.old)) (O.contents (inner output.new)))) }
+{
+    let form = Form::ended_by(flags.nul, fronts.quoting);
+    let case = case_of(options, fronts.folds);
+    let Fronts {
+        standpoint,
+        lists,
+        tracked,
+        ..
+    } = fronts;
+    if !flags.ignored {
+        return list_tracked(alloc, &standpoint, form, &tracked, folder, output);
+    }
+    let tree = tree_behind(rt, alloc, lists, case)?;
+    list_tracked_ignored(rt, alloc, &standpoint, form, &tracked, tree, folder, output)
+}
+
+/// The same standpoint once more.
+fn copy_of(standpoint: &Standpoint) -> Result<Standpoint, AllocError>
+    ensures { IfOk result (λ copy. (copy.top.items ≡ standpoint.now.top.items) × (copy.here.items ≡ standpoint.now.here.items) × (copy.is_inside ≡ standpoint.now.is_inside)) }
+{
+    Ok(Standpoint {
+        top: standpoint.top.clone()?,
+        here: standpoint.here.clone()?,
+        is_inside: standpoint.is_inside,
+    })
+}
+
+/// The same lists once more.
+fn copies_of(
+    alloc: Global,
+    lists: &[PreparedList<IgnoreLines>],
+) -> Result<Vec<PreparedList<IgnoreLines>>, AllocError> {
+    let mut copies = Vec::with_capacity(alloc, lists.len())?;
+    'lists: for list in lists {
+        copies.push(PreparedList::new(alloc, list.list().clone()?))?;
+    }
+    Ok(copies)
 }
 
 /// Another fault as a path got no answer for it.

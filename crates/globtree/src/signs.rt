@@ -2,21 +2,16 @@
 ghost use Rattle.std.specs.Prelude.{◌≡◌, ◌≢◌, [], IfOk};
 ghost use Rattle.globtree.specs.Tracked.{IsOfIndex};
 
-use crate::index_head::entry_count;
 use crate::tracked::IndexFile;
 use crate::work_tree::WorkTree;
 use anyhow::Result;
 use git_index::Entry;
 use std::alloc::{AllocError, Global};
 use std::env::VarError;
-use std::io::{ErrorKind, Read};
 use std::rt::{Env, Files};
-use std::{env, fs, io};
+use std::{env, fs};
 use tracked_paths::TrackedPaths;
 use tree_files::tell_line;
-
-/// How many bytes of the index are looked at: the name of its first extension stands behind the number of its entries.
-const INDEX_FRONT: usize = 16;
 
 /// The variable by which Git hands the words of `-c` on.
 const PARAMETERS: &str = "GIT_CONFIG_PARAMETERS";
@@ -30,8 +25,6 @@ pub(crate) enum IndexUse {
     Paths,
     /// Nothing, though Git takes attribute files from it.
     Attributes,
-    /// Nothing, though Git takes tracked paths from it.
-    Listing,
 }
 
 /// Looks for signs in the environment, in the index and in what is known of the work tree. It tells in one line those that it found, and
@@ -96,12 +89,6 @@ fn tracked_or_sign<R: Files>(
             }
             Ok(TrackedPaths::none(alloc))
         }
-        IndexUse::Listing => {
-            if has_entries(rt, file.name.as_str())? {
-                add(text, &["the index isn't read (tracked paths)"])?;
-            }
-            Ok(TrackedPaths::none(alloc))
-        }
     }
 }
 
@@ -142,18 +129,6 @@ fn add(text: &mut String, parts: &[&str]) -> Result<(), AllocError> {
     Ok(())
 }
 
-/// Whether an index has entries, or is split, so that they lie elsewhere, or is none.
-fn has_entries<R: Files>(rt: &R, index: &str) -> Result<bool, AllocError> {
-    let mut front = [0; INDEX_FRONT];
-    let Some(mut file) = open_file(rt, index)? else {
-        return Ok(false);
-    };
-    match file.read_exact(&mut front) {
-        Ok(()) => Ok(entry_count(&front) != Some(0) || front.ends_with(b"link")),
-        Err(error) => Ok(error.kind() == ErrorKind::UnexpectedEof),
-    }
-}
-
 /// Whether a variable is set, to whatever it is.
 fn is_set<R: Env + AllocGlobal>(rt: &R, name: &str) -> Result<bool, AllocError> {
     match env::var(rt, name) {
@@ -161,23 +136,5 @@ fn is_set<R: Env + AllocGlobal>(rt: &R, name: &str) -> Result<bool, AllocError> 
         Err(VarError::NotPresent) => Ok(false),
         Err(VarError::NotUnicode) => Ok(true),
         Err(VarError::OutOfMemory) => Err(AllocError),
-    }
-}
-
-/// A file that stands there, opened; `None` where none does, or it can't be opened.
-fn open_file<R: Files>(rt: &R, name: &str) -> Result<Option<R::File>, AllocError> {
-    match found(fs::metadata(rt, name))? {
-        // (opening a pipe would wait)
-        Some(there) if there.is_file() => found(fs::open(rt, name)),
-        _ => Ok(None),
-    }
-}
-
-/// What was answered; `None` where that is an error, but for want of memory.
-fn found<T>(answer: io::Result<T>) -> Result<Option<T>, AllocError> {
-    match answer {
-        Ok(there) => Ok(Some(there)),
-        Err(error) if error.kind() == ErrorKind::OutOfMemory => Err(AllocError),
-        Err(_error) => Ok(None),
     }
 }

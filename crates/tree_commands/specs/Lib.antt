@@ -6,3 +6,4 @@ pub mod FileTrees
 pub mod Ignoring
 pub mod Private
 pub mod Tops
+pub mod TrackedFiles
