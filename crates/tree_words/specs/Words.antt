@@ -1,5 +1,5 @@
 -- What the words of the command line ask for.
-use Rattle.std.specs.Prelude.{◌≡◌, ◌⊎◌, ℕ, Bool, ◌||◌, IsTrue, List, ◌∷◌, ◌++◌, map, filter, reverse, find, Option, None, Some, MatchOption, codes, string_bytes}
+use Rattle.std.specs.Prelude.{◌≡◌, ◌⊎◌, ℕ, Bool, ◌||◌, IsTrue, List, ◌∷◌, ◌++◌, map, filter, reverse, find, Option, Some, MatchOption, codes, string_bytes}
 use Rattle.std.specs.List.{AllByRecursion, flat_map, list_any}
 use Rattle.std.specs.Option.{option_and_then, option_copied, option_to_list}
 use Rattle.std.specs.Str.{bytes_eq}
