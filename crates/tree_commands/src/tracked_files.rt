@@ -47,12 +47,21 @@ pub fn tracked_at<'a>(
     ensures empty { IsErrOf result Empty → told.now ≡ [] }
     ensures outside { IsErrOf result Outside → led standpoint.now told.now ≡ None }
 {
-    let mut below = Vec::new(alloc);
-    let is_told_folder = standpoint.lead(alloc, &mut below, told)?;
-    let path = below.clone()?;
-    below.push(b'/')?;
+    let mut path = Vec::new(alloc);
+    let is_told_folder = standpoint.lead(alloc, &mut path, told)?;
+    let below = with_slash(alloc, &path)?;
     let paths = paths_at(alloc, entries, &path, &below, is_told_folder)?;
     Ok(paths)
+}
+
+/// A path, and a slash behind it.
+fn with_slash(alloc: Global, path: &[u8]) -> Result<Vec<u8>, AllocError>
+    ensures { IfOk result (λ below. below.items ≡ path.now ++ slash ∷ []) }
+{
+    let mut below = Vec::with_capacity(alloc, path.len() + 1)?;
+    below.extend_from_slice(path)?;
+    below.push(b'/')?;
+    Ok(below)
 }
 
 /// The paths of the entries at or below a path, which is told as a folder's or not. `below` begins the paths below it.
