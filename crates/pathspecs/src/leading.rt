@@ -1,8 +1,9 @@
 //! Where a spelt path leads.
 ghost use Rattle.std.specs.Prelude.{◌≡◌, false, None, Some, IfOk, MatchOption};
+ghost use Rattle.std.specs.List.{list_any};
 ghost use Rattle.told_paths.specs.Paths.{names_folder, parts_of};
 ghost use Rattle.told_paths.specs.Standpoints.{led};
-ghost use Rattle.pathspecs.specs.Leading.{front_of, leads, names_folder_so, standing};
+ghost use Rattle.pathspecs.specs.Leading.{front_of, is_empty, leads, names_folder_so, standing};
 ghost use Rattle.pathspecs.specs.Spelling.{seen};
 
 use crate::spelling::Pathspec;
@@ -77,11 +78,15 @@ fn standing(path: &[u8]) -> Option<&[u8]>
         return Some(path);
     }
     let bare = path.strip_suffix(b"/").unwrap_or(path);
-    if bare
-        .split(|byte| *byte == b'/')
-        .any(|part| part.is_empty())
-    {
+    if has_empty_part(bare) {
         return None;
     }
     Some(bare)
+}
+
+/// Whether some part of a path has no bytes.
+fn has_empty_part(path: &[u8]) -> bool
+    ensures { result ≡ list_any is_empty (parts_of path.now) }
+{
+    path.split(|byte| *byte == b'/').any(|part| part.is_empty())
 }
