@@ -18,6 +18,9 @@ BY_WORDS = [["--"], ["-v", "--"], ["-v", "-n", "--"], ["--no-index", "--"], ["--
 SHOWN = [["--list", "--show-origin", "-z"], ["--list"], ["--show-origin", "--get-all", "core.excludesFile"], ["-z", "CORE.ignorecase"]]
 ATTRIBUTES = [["-a", "--"], ["one", "two", "--"], ["-z", "two", "--"], ["-a", "-z", "--"]]
 OUTSIDE = [b"../../../../../../x", b"/", b"", b"../../x", b"l/x"]
+# words that spell a path behind a colon, and words that spell none
+SPELT = [b":x", b"::x", b":()x", b":", b":/", b":/x", b"://:x", b":(top)x", b":(,top)d/x", b":/d/x", b":/k*/x", b":/a*", b":(top)./x", b":a:b", b":$x", b":/d/"]
+UNSPELT = [b":!x", b":^x", b":-x", b":/~", b":(top", b":(x)x", b":(exclude)x", b":(glob)x", b":(icase,top)x", b":(literal)x", b":(attr:a)x", b":(Top)x"]
 # kinds of differences that the documents name: the first in "From Git" of docs/GLOBTREE.md
 NESTED, MESSAGES, BARE, UNKNOWN, REMOTES = "`.git`", "messages", "no work tree", "another's folder", "files read for remotes alone"
 NAMED = kinds_in("GLOBTREE.md")
@@ -141,6 +144,10 @@ class Comparison:
             names = self.random.sample(NAMES + ASKED, 9)
         if self.random.random() < 0.04:
             names.insert(self.random.randrange(8), self.random.choice(OUTSIDE))
+        if self.random.random() < 0.2:
+            names += self.random.sample(SPELT, 3)
+        if self.random.random() < 0.04:
+            names.insert(self.random.randrange(8), self.random.choice(UNSPELT))
         return names + [b"\xc3\xa4"]
 
     # ---- both

@@ -39,10 +39,17 @@ class Repository(Shapes, Settings, Faults, Indexes):
         self.draw_includes()
         self.draw_words()
         self.draw_owner()
+        self.draw_pathspecs()
         self.draw_index()
         if not self.is_sound:
             self.draw_faults()
         self.write_configuration()
+
+    def draw_pathspecs(self):
+        """A variable by which Git reads words otherwise, which check-ignore doesn't take where it is true."""
+        if self.marked(0.05, "a variable of pathspecs"):
+            name = self.random.choice((b"LITERAL", b"GLOB", b"NOGLOB", b"ICASE"))
+            self.variables[b"GIT_%s_PATHSPECS" % name] = self.random.choice((b"1", b"true", b"0", b"no", b"", b"maybe"))
 
     # ---- work trees
 

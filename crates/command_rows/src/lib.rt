@@ -4,6 +4,7 @@
 mod as_git;
 mod asking;
 mod ignore_runs;
+mod pathspecs;
 mod sources;
 
 pub use asking::{CommandSubject, ask_commands};

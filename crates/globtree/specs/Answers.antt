@@ -13,9 +13,9 @@ use Rattle.glob_lines.specs.Transfers.{ReadsWhole, Run}
 use Rattle.glob_lists.specs.declared.rules.Rules.{Rules}
 use Rattle.glob_lists.specs.Rules.{by_git}
 use Rattle.glob_trees.specs.Ways.{Folder}
+use Rattle.pathspecs.specs.Leading.{word_front, word_leads}
 use Rattle.record_streams.specs.Records.{AnswersAll}
 use Rattle.told_paths.specs.declared.quoting.Quoting.{Quoting}
-use Rattle.told_paths.specs.Standpoints.{led, literal_front}
 use Rattle.told_paths.specs.declared.standpoint.Standpoint.{Standpoint}
 use Rattle.tree_answers.specs.Lines.{behind}
 use Rattle.tree_commands.specs.Answering.{TextOfNamed, TextOfPaths, Writes}
@@ -50,11 +50,11 @@ any_file folder file = Unit {0}
 abbrev pub case_by : Options → Bool → Case
 case_by options folds = if options.ignore_case || folds then Fold else Sensitive
 
--- The text about each path that the input names was written, and all of it was read. Paths are told from the standpoint, these are
--- tracked, and patterns are matched by these rules.
+-- The text about each path that the input names was written, and all of it was read. Words spell paths that are told from the standpoint
+-- or from the top, these are tracked, and patterns are matched by these rules.
 pub record ReadsIgnore (standpoint : Standpoint) (tracked : List Tracked) (rules : Rules) (flags : IgnoreFlags) (is_any : Bool) (left rest old new : Option (List ℕ)) : Type 0 where
   pub question : Question
-  pub from : (question.leads ≡ led standpoint) × (question.literal ≡ literal_front standpoint)
+  pub from : (question.leads ≡ word_leads standpoint) × (question.literal ≡ word_front standpoint)
   pub beside : question.tracked ≡ tracked
   pub by_rules : question.rules ≡ rules
   pub asks : question.flags ≡ flags
@@ -64,7 +64,7 @@ pub record ReadsIgnore (standpoint : Standpoint) (tracked : List Tracked) (rules
 -- the text about each of these paths was written
 pub record TellsIgnore (standpoint : Standpoint) (tracked : List Tracked) (rules : Rules) (flags : IgnoreFlags) (paths : List (List ℕ)) (is_any : Bool) (old new : Option (List ℕ)) : Type 0 where
   pub question : Question
-  pub from : (question.leads ≡ led standpoint) × (question.literal ≡ literal_front standpoint)
+  pub from : (question.leads ≡ word_leads standpoint) × (question.literal ≡ word_front standpoint)
   pub beside : question.tracked ≡ tracked
   pub by_rules : question.rules ≡ rules
   pub asks : question.flags ≡ flags

@@ -6,6 +6,7 @@ ghost use Rattle.globtree.specs.Answers.{AnswersIgnore, ReadsIgnore, TellsIgnore
 ghost use Rattle.globtree.specs.Running.{IsAnswered, asked_by_flags};
 
 use crate::fronts::{case_of, fronts_of, tree_behind};
+use crate::pathspec_settings::{refuse_settings, refuse_settings_for};
 use crate::running::ANSWERED;
 use crate::signs::IndexUse;
 use anyhow::{Context, Result, bail};
@@ -58,9 +59,11 @@ pub(crate) fn check_ignore<R: Files + Env + Eprint + AllocGlobal, I: Read, O: Wr
     let standpoint = fronts.standpoint;
     let asked = asked_by_flags(flags, fronts.quoting);
     if flags.stdin {
+        refuse_settings_for(rt, alloc, input)?;
         let is_any = answer_input(alloc, &standpoint, asked, sources, input, output)?;
         return Ok(status_of(is_any));
     }
+    refuse_settings(rt, alloc)?;
     let paths = bytes_of(alloc, &paths)?;
     let is_any = answer_paths(alloc, &standpoint, asked, sources, &paths, output)?;
     Ok(status_of(is_any))

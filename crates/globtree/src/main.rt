@@ -11,6 +11,7 @@ mod list_tracked;
 mod moving;
 mod opening;
 mod outer_attributes;
+mod pathspec_settings;
 mod places;
 mod running;
 mod show_config;

@@ -6,8 +6,7 @@ ghost use Rattle.git_repository.specs.Environments.{environment_with};
 ghost use Rattle.repository_files.specs.Variables.{across_of, environment_of};
 
 use crate::fault::VariableFault;
-use crate::variables::variable;
-use git_config::boolean;
+use crate::variables::{said_by, variable};
 use git_repository::Environment;
 use std::alloc::Global;
 use std::rt::Env;
@@ -77,8 +76,8 @@ impl RepositoryVariables {
 fn across_of(has_git_dir: bool, value: Option<&[u8]>) -> Option<bool>
     ensures { result ≡ across_of has_git_dir (option_copied value.entry) }
 {
-    if has_git_dir || value.is_none() {
+    if has_git_dir {
         return Some(false);
     }
-    boolean(value)
+    said_by(value)
 }

@@ -22,4 +22,4 @@ pub use fault::{ConfigFileFault, VariableFault, WrongFile};
 pub use reading::{Unread, open_seen};
 pub use sight::Sight;
 pub use user::User;
-pub use variables::variable;
+pub use variables::{is_true, variable};

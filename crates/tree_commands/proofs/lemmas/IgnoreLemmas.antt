@@ -16,9 +16,8 @@ use Rattle.glob_lists.specs.Paths.{IsPlainPath}
 use Rattle.glob_trees.specs.TreeParts.{HasMappingAt, TreeParts}
 use Rattle.glob_trees.specs.Ways.{AreOnTheWay, Folder, IsListOf}
 use Rattle.record_streams.specs.Records.{Adds, GrowsBy, StaysAllowed, answered_by}
+use Rattle.pathspecs.specs.Leading.{word_front, word_leads}
 use Rattle.told_paths.specs.declared.standpoint.Standpoint.{Standpoint}
-use Rattle.told_paths.specs.Paths.{names_folder, parts_of}
-use Rattle.told_paths.specs.Standpoints.{led, literal_front}
 use Rattle.tracked_paths.specs.Holding.{IsHeld, LiesIn, LiesInSubmodule}
 use Rattle.tree_answers.specs.Lines.{Decision}
 use Rattle.tree_commands.specs.declared.check_ignore.flags.IgnoreFlags.{IgnoreFlags}
@@ -134,7 +133,7 @@ module _ {S T X : Type 0} (shows : S → Folder → EntryList (Unit {0}) → Typ
 
   abbrev asks : ℕ → List (EntryList (Unit {0})) → Rules → (List ℕ → Option Bool) → Standpoint → IgnoreFlags → List Tracked → Question
   asks count fronts rules kind_of standpoint flags tracked =
-      record { leads = led standpoint; literal = literal_front standpoint; tracked = tracked; kind_of = kind_of; front_count = count; fronts = fronts; rules = rules; flags = flags }
+      record { leads = word_leads standpoint; literal = word_front standpoint; tracked = tracked; kind_of = kind_of; front_count = count; fronts = fronts; rules = rules; flags = flags }
 
   pub question_kept : (standpoint : Standpoint) (flags : IgnoreFlags) (tracked : List Tracked) (before after : List ℕ → Option Bool) → after ≡ before
       → question_of standpoint flags tracked new after ≡ question_of standpoint flags tracked old before
@@ -216,7 +215,7 @@ module _ {S T X : Type 0} (shows : S → Folder → EntryList (Unit {0}) → Typ
     path = finds.path;
     leads = finds.led;
     outside = finds.outside;
-    decided = in_here (literal_front standpoint told) (told_path told finds.path) (kind_of finds.path) there finds.found;
+    decided = in_here (word_front standpoint told) (told_path told finds.path) (kind_of finds.path) there finds.found;
   }
 
   -- the line at the pair that was found is the line for the told path
