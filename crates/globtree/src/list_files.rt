@@ -5,13 +5,14 @@ ghost use Rattle.globtree.specs.Answers.{AnswersFiles};
 ghost use Rattle.globtree.specs.Running.{IsAnswered};
 
 use crate::fronts::{case_of, fronts_of};
+use crate::progress::{CountedFiles, Progress};
 use crate::running::ANSWERED;
 use crate::signs::IndexUse;
 use anyhow::{Context, Result};
 use gix_glob::search::Watched;
 use std::alloc::Global;
 use std::io::Write;
-use std::rt::{Env, Files};
+use std::rt::{Clock, Env, Files};
 use told_paths::LeadFault;
 use tree_answers::Form;
 use tree_commands::files::fault::FilesFault;
@@ -24,12 +25,13 @@ use tree_words::files::FilesFlags;
 const NOT_ALL_LISTED: u8 = 1;
 
 /// Lists the files below a folder that aren't ignored.
-pub(crate) fn list_files<R: Files + Env + Eprint + AllocGlobal + Clone + Drop, O: Write>(
+pub(crate) fn list_files<R: Files + Env + Clock + Eprint + AllocGlobal + Clone + Drop, O: Write>(
     rt: &R,
     alloc: Global,
     options: Options<'_>,
     flags: FilesFlags,
     folder: &str,
+    shows_progress: bool,
     output: &mut Watched<O>,
 ) -> Result<u8>
     ensures status { IfOk result IsAnswered }
@@ -42,9 +44,12 @@ pub(crate) fn list_files<R: Files + Env + Eprint + AllocGlobal + Clone + Drop, O
         fronts: fronts.lists,
         case: case_of(options, fronts.folds),
     };
-    let mut source = TreeFiles::new(rt, alloc)?;
-    match run_files(alloc, listing, &mut source, folder.as_bytes(), output) {
-        Ok(()) if source.is_short() => Ok(NOT_ALL_LISTED),
+    let progress = Progress::new(rt, shows_progress);
+    let mut source = CountedFiles::new(TreeFiles::new(rt, alloc)?, progress);
+    let outcome = run_files(alloc, listing, &mut source, folder.as_bytes(), output);
+    let is_short = source.end();
+    match outcome {
+        Ok(()) if is_short => Ok(NOT_ALL_LISTED),
         Ok(()) => Ok(ANSWERED),
         Err(FilesFault::Write(error)) => Err(error).context("writing"),
         Err(FilesFault::Endless) => None.context("a tree without an end"),

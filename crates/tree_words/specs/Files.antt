@@ -7,6 +7,10 @@ use Rattle.tree_words.specs.declared.files.FilesFlags.{FilesFlags}
 abbrev pub with_name : FilesFlags → List ℕ → Option FilesFlags
 with_name flags name = if bytes_eq name (codes "-z") then Some (record flags { nul = true }) else None
 
+-- no letter behind a dash
+abbrev pub with_letter : FilesFlags → ℕ → Option FilesFlags
+with_letter flags letter = None
+
 -- no option
 abbrev pub none : FilesFlags
 none = record { nul = false }

@@ -2,6 +2,9 @@ pub mod CheckAttr
 pub mod CheckIgnore
 pub mod Config
 pub mod Files
+pub mod Help
+pub mod Names
 pub mod Operands
 pub mod Private
+pub mod WordFaults
 pub mod Words

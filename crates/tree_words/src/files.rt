@@ -10,12 +10,11 @@ pub struct FilesFlags {
 }
 
 impl CommandFlags for FilesFlags {
-    ghost use Rattle.tree_words.specs.Files.{with_name};
-    ghost use Rattle.std.specs.Prelude.{None};
+    ghost use Rattle.tree_words.specs.Files.{with_letter, with_name};
 
     ghost named = { with_name };
 
-    ghost lettered = { λ _ _. None };
+    ghost lettered = { with_letter };
 
     fn with_name(self, name: &str) -> Option<FilesFlags> {
         if name == "-z" {
