@@ -1,2 +1,5 @@
-pub mod Words
+pub mod Names
 pub mod Private
+pub mod Topics
+pub mod WordFaults
+pub mod Words

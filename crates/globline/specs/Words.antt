@@ -12,6 +12,8 @@ use Rattle.glob_lines.specs.Ignore.{Ignore}
 use Rattle.glob_lines.specs.Mappings.{MappingsText}
 use Rattle.glob_lines.specs.Transfers.{ReadsWhole, Run}
 use Rattle.glob_lines.specs.Values.{ValuesText}
+use Rattle.globline.specs.Topics.{AskAbout}
+use Rattle.globline.specs.declared.topic.Topic.{Topic}
 use Rattle.globline.specs.declared.command.Command.{Command}
 use Rattle.globline.specs.declared.command.Command.TheVariants as command
 
@@ -68,6 +70,7 @@ Ask words (command.Ignore case root files) = AskIgnore words case (option_copied
 
 -- the words ask for nothing that the program does
 pub record AreWrong (words : List (List ℕ)) : Type 0 where
+  pub about : (topic : Topic) → ¬ AskAbout words topic
   pub wild : (mode : Mode) (pattern : List ℕ) → ¬ AskWild words mode pattern
   pub list : (case : Case) (file : List ℕ) (root : Option (List ℕ)) → ¬ AskList words case file root
   pub ignore : (case : Case) (root : Option (List ℕ)) (files : List (List ℕ)) → ¬ AskIgnore words case root files

@@ -126,7 +126,7 @@ fn mode_of(word: &str) -> Option<Mode>
 }
 
 /// Whether case counts, as a word says.
-fn case_of(word: &str) -> Option<Case>
+pub(crate) fn case_of(word: &str) -> Option<Case>
     ensures { MatchOption result ((case : Case) → ¬ NamesCase word.now case) (NamesCase word.now) }
 {
     match word {

@@ -3,6 +3,10 @@
 
 mod command;
 mod ignore_files;
+mod names;
+mod texts;
+mod topic;
+mod word_fault;
 mod words;
 
 use gix_glob::search::Watched;

@@ -35,6 +35,7 @@ use Rattle.tree_words.specs.declared.config.ConfigFlags.{ConfigFlags}
 use Rattle.tree_words.specs.declared.files.FilesFlags.{FilesFlags}
 use Rattle.tree_words.specs.declared.options.Options.{Options}
 use Rattle.tree_words.specs.Files.{are_usual, lists_tracked}
+use Rattle.tree_words.specs.Help.{IsHelp}
 use Rattle.tree_words.specs.Operands.{dashes_at, operands_among}
 use Rattle.tree_words.specs.Words.{Ask}
 use Rattle.globtree.specs.Running.{asked_by_flags, form_by, manner_by}
@@ -168,9 +169,10 @@ pub record AnswersConfig (flags : ConfigFlags) (words : List (List ℕ)) (status
   pub all : flags.list ≡ true → IsShown flags All settings status old new
   pub one : flags.list ≡ false → (word : List ℕ) × (operands_among words ≡ word ∷ []) × KeyIsShown flags settings word status old new
 
--- A command was answered. Of how the program is used, and which it is, some text was written.
+-- A command was answered. Of how a command is used, or the program, a text was written that begins with it; of which program it is,
+-- some text.
 abbrev pub AnswersCommand : Options → Command → ℕ → Option (List ℕ) → Option (List ℕ) → Option (List ℕ) → Option (List ℕ) → Type 0
-AnswersCommand options command.Help status left rest old new = (text : List ℕ) × Appends old new text
+AnswersCommand options (command.Help topic) status left rest old new = (text : List ℕ) × IsHelp topic text × Appends old new text
 AnswersCommand options command.Version status left rest old new = (text : List ℕ) × Appends old new text
 AnswersCommand options (command.CheckIgnore flags words) status left rest old new = AnswersIgnore options flags (map string_bytes words.now) status left rest old new
 AnswersCommand options (command.CheckAttr flags words) status left rest old new = AnswersAttr options flags (map string_bytes words.now) left rest old new

@@ -10,7 +10,8 @@ ghost use Rattle.globtree.specs.Running.{IsAnswered, IsRefused, manner_by};
 
 use crate::moving::go_to_folders;
 use crate::opening::config_here;
-use crate::running::{ANSWERED, WRONG_WORDS, tell_usage};
+use crate::running::{ANSWERED, WRONG_WORDS};
+use crate::wrong_words::tell_misuse;
 use anyhow::{Context, Result, bail};
 use config_answers::{Manner, Question, append_answer, key_fault};
 use git_config::{Config, canonical_key};
@@ -20,15 +21,10 @@ use std::io::Write;
 use std::rt::{Env, Files};
 use tree_files::tell_line;
 use tree_words::config::ConfigFlags;
-use tree_words::{Options, operands_of};
+use tree_words::{CommandName, Options, operands_of};
 
 /// What the command ends with where a key has no value, or is none.
 const NO_VALUE: u8 = 1;
-
-const USAGE: &str = "\
-usage: globtree [OPTION..] config [-z] [--show-origin] [--get-all] KEY
-       globtree [OPTION..] config [-z] [--show-origin] --list
-";
 
 /// Shows what the configuration says, by the words behind `config`.
 pub(crate) fn show_config<R: Files + Env + Eprint + AllocGlobal, O: Write>(
@@ -45,7 +41,7 @@ pub(crate) fn show_config<R: Files + Env + Eprint + AllocGlobal, O: Write>(
 {
     let operands = operands_of(alloc, words).context("the words")?;
     if let Some(wrong) = flags.disagreement(operands.words.len()) {
-        tell_usage(rt, wrong, USAGE);
+        tell_misuse(rt, CommandName::Config, wrong);
         return Ok(WRONG_WORDS);
     }
     if options.top.is_some() {

@@ -1,5 +1,5 @@
 -- What the words of the command line ask for.
-use Rattle.std.specs.Prelude.{◌≡◌, ◌⊎◌, ℕ, Bool, ◌||◌, IsTrue, List, ◌∷◌, ◌++◌, map, filter, reverse, find, Option, Some, MatchOption, codes, string_bytes}
+use Rattle.std.specs.Prelude.{◌≡◌, ◌⊎◌, ℕ, Bool, ◌||◌, IsTrue, List, ◌∷◌, ◌++◌, map, filter, reverse, find, Option, None, Some, MatchOption, codes, string_bytes}
 use Rattle.std.specs.List.{AllByRecursion, flat_map, list_any}
 use Rattle.std.specs.Option.{option_and_then, option_copied, option_to_list}
 use Rattle.std.specs.Str.{bytes_eq}
@@ -7,6 +7,7 @@ use Rattle.tree_words.specs.CheckAttr as check_attr
 use Rattle.tree_words.specs.CheckIgnore as check_ignore
 use Rattle.tree_words.specs.Config as config
 use Rattle.tree_words.specs.Files as files
+use Rattle.tree_words.specs.Help.{AsksHelp}
 use Rattle.tree_words.specs.Operands.{IsOnly, flags_among}
 use Rattle.tree_words.specs.Status as status
 use Rattle.tree_words.specs.declared.command.Command.{Command}
@@ -54,7 +55,8 @@ pub record HasValues (tolds : List Told) (options : Options) : Type 0 where
 -- ---- the command
 
 abbrev pub IsCommand : List (List ℕ) → Command → Type 0
-IsCommand words command.Help = (rest : List (List ℕ)) × ((words ≡ codes "--help" ∷ rest) ⊎ (words ≡ codes "-h" ∷ rest))
+IsCommand words (command.Help None) = (rest : List (List ℕ)) × ((words ≡ codes "--help" ∷ rest) ⊎ (words ≡ codes "-h" ∷ rest))
+IsCommand words (command.Help (Some name)) = AsksHelp words name
 IsCommand words command.Version = (rest : List (List ℕ)) × (words ≡ codes "--version" ∷ rest)
 IsCommand words (command.CheckIgnore flags rest) =
     (words ≡ codes "check-ignore" ∷ map string_bytes rest.now) × (flags_among check_ignore.with_name check_ignore.with_letter check_ignore.none (map string_bytes rest.now) ≡ Some flags)

@@ -1,0 +1,76 @@
+-- Options, one after the other, as far as the command has them.
+use Rattle.std.proofs.Common.{◌≡◌, ℕ, Bool, true, false, ◌||◌, List, [], ◌∷◌, ◌++◌, Option, None, Some, is_some, refl, sym, ap, ◌∙◌}
+use Rattle.std.specs.List.{list_any}
+use Rattle.std.specs.Option.{option_and_then}
+use Rattle.std.proofs.lemmas.List.Folds.{list_any-append}
+use Rattle.tree_words.specs.Operands.{are_dashes, flags_among, is_option, with_option}
+use Rattle.tree_words.specs.WordFaults.{IsFirstWrong}
+use Rattle.tree_words.proofs.lemmas.OperandsLemmas.{flags_at_operand, flags_at_option}
+
+first_fails : (a b : Bool) → (a || b) ≡ false → a ≡ false
+first_fails true b is = is
+first_fails false b is = refl
+
+second_fails : (a b : Bool) → (a || b) ≡ false → b ≡ false
+second_fails true b is = absurd (cc)
+second_fails false b is = is
+
+both_fail : (a b : Bool) → a ≡ false → b ≡ false → (a || (b || false)) ≡ false
+both_fail a b is is' = ap (λ x. x || (b || false)) is ∙ ap (λ x. x || false) is'
+
+module _ {F : Type 0} (named : F → List ℕ → Option F) (lettered : F → ℕ → Option F) where
+  -- words that no `--` is among give what the words behind them begin with
+  pub flags_append : (front back : List (List ℕ)) (flags more : F) → list_any are_dashes front ≡ false → flags_among named lettered flags front ≡ Some more
+      → flags_among named lettered flags (front ++ back) ≡ flags_among named lettered more back
+  flags_append [] back flags more no told = ap (option_and_then (λ (f : F). flags_among named lettered f back)) told
+  flags_append (word ∷ words) back flags more no told = by_kind (is_option word) refl (with_option named lettered flags word) refl
+    where
+      fails : are_dashes word ≡ false
+      fails = first_fails (are_dashes word) (list_any are_dashes words) no
+
+      later : list_any are_dashes words ≡ false
+      later = second_fails (are_dashes word) (list_any are_dashes words) no
+
+      by_kind : (kind : Bool) → is_option word ≡ kind → (next : Option F) → with_option named lettered flags word ≡ next
+          → flags_among named lettered flags (word ∷ words ++ back) ≡ flags_among named lettered more back
+      by_kind false other next is =
+          flags_at_operand named lettered flags word (words ++ back) other fails
+          ∙ flags_append words back flags more later (sym (flags_at_operand named lettered flags word words other fails) ∙ told)
+      by_kind true holds None is = absurd (let both : None ≡ Some more = sym (flags_at_option named lettered flags word words None fails holds is) ∙ told in cc)
+      by_kind true holds (Some next) is =
+          flags_at_option named lettered flags word (words ++ back) (Some next) fails holds is
+          ∙ flags_append words back next more later (sym (flags_at_option named lettered flags word words (Some next) fails holds is) ∙ told)
+
+  -- the options of these words are known, and `--` is none of them
+  pub record AreKnown (none : F) (front : List (List ℕ)) (flags : F) : Type 0 where
+    pub no_dashes : list_any are_dashes front ≡ false
+    pub told : flags_among named lettered none front ≡ Some flags
+
+  module _ (none flags : F) (front : List (List ℕ)) (word : List ℕ) (known : AreKnown none front flags) (fails : are_dashes word ≡ false) where
+    no_more : list_any are_dashes (front ++ word ∷ []) ≡ false
+    no_more = list_any-append are_dashes front (word ∷ []) ∙ both_fail (list_any are_dashes front) (are_dashes word) known.no_dashes fails
+
+    by_next : (next : Option F) → option_and_then (λ (f : F). flags_among named lettered f []) next ≡ next
+    by_next None = refl
+    by_next (Some f) = refl
+
+    with_it : (next : Option F) → is_option word ≡ true → with_option named lettered flags word ≡ next → flags_among named lettered none (front ++ word ∷ []) ≡ next
+    with_it next holds is = flags_append front (word ∷ []) none flags known.no_dashes known.told ∙ flags_at_option named lettered flags word [] next fails holds is ∙ by_next next
+
+    pub known_option : (more : F) → is_option word ≡ true → with_option named lettered flags word ≡ Some more → AreKnown none (front ++ word ∷ []) more
+    known_option more holds is = record { no_dashes = no_more; told = with_it (Some more) holds is }
+
+    pub known_operand : is_option word ≡ false → AreKnown none (front ++ word ∷ []) flags
+    known_operand other = record {
+      no_dashes = no_more;
+      told = flags_append front (word ∷ []) none flags known.no_dashes known.told ∙ flags_at_operand named lettered flags word [] other fails;
+    }
+
+    -- the first option that isn't known
+    pub first_unknown : (words behind : List (List ℕ)) → words ≡ front ++ word ∷ behind → is_option word ≡ true → with_option named lettered flags word ≡ None
+        → IsFirstWrong (λ ws. is_some (flags_among named lettered none ws)) words word
+    first_unknown words behind are holds is = record { before = front; behind = behind; are = are; without = ap is_some known.told; with_it = ap is_some (with_it None holds is) }
+
+    pub none_known : (words behind : List (List ℕ)) → words ≡ front ++ word ∷ behind → is_option word ≡ true → with_option named lettered flags word ≡ None → flags_among named lettered none words ≡ None
+    none_known words behind are holds is =
+        ap (flags_among named lettered none) are ∙ flags_append front (word ∷ behind) none flags known.no_dashes known.told ∙ flags_at_option named lettered flags word behind None fails holds is
