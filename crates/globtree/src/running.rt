@@ -10,6 +10,7 @@ use crate::check_attr::check_attr;
 use crate::check_ignore::check_ignore;
 use crate::list_files::list_files;
 use crate::show_config::show_config;
+use crate::show_status::show_status;
 use anyhow::{Context, Result};
 use gix_glob::search::Watched;
 use std::alloc::Global;
@@ -30,6 +31,8 @@ usage: globtree [OPTION..] check-ignore [-v] [-n] [-z] PATH..
        globtree [OPTION..] check-ignore -q PATH
        globtree [OPTION..] check-ignore [-v] [-n] [-z] --stdin
        globtree [OPTION..] files [-z] [DIR]
+       globtree [OPTION..] files [-c] [-o] [-i] [--directory] [--exclude-standard] [-z] [DIR]
+       globtree [OPTION..] status [-u[all|no]] [--ignored[=traditional|matching|no]] [-z]
        globtree [OPTION..] check-attr [-z] -a [--] PATH..
        globtree [OPTION..] check-attr [-z] ATTR [--] PATH..
        globtree [OPTION..] check-attr [-z] ATTR.. -- PATH..
@@ -105,6 +108,9 @@ fn answer_command<R: Files + Env + Eprint + AllocGlobal + Clone + Drop, I: Read,
         }
         Command::Config { flags, words } => {
             show_config(rt, alloc, options, flags, words, output)
+        }
+        Command::Status { flags, words } => {
+            show_status(rt, alloc, options, flags, words, output)
         }
     }
 }

@@ -1,11 +1,11 @@
 -- Which files of a tree are listed, and in which order. A folder's path ends in a slash here, but for the top, which has no bytes.
-use Rattle.std.specs.Prelude.{◌≡◌, ◌≢◌, ◌⊎◌, ℕ, Bool, true, false, ◌==◌, ◌&&◌, not, IsTrue, if◌then◌else◌, List, [], ◌∷◌, ◌++◌, map, Some, codes}
+use Rattle.std.specs.Prelude.{◌≡◌, ◌≢◌, ◌⊎◌, ℕ, Bool, true, false, IsTrue, if◌then◌else◌, List, [], ◌∷◌, ◌++◌, map, Some, codes}
 use Rattle.std.specs.Char.{to_ascii_lowercase}
 use Rattle.std.specs.Cmp.Lexicographic.{slice_cmp}
-use Rattle.std.specs.List.{Contains, list_any}
+use Rattle.std.specs.List.{Contains}
 use Rattle.std.specs.Ordering.{nat_cmp}
 use Rattle.std.specs.declared.cmp.Ordering.TheVariants.{Less}
-use Rattle.std.specs.Str.{byte, bytes_eq}
+use Rattle.std.specs.Str.{bytes_eq}
 use Rattle.gix_glob.specs.declared.pattern.Case.{Case}
 use Rattle.gix_glob.specs.declared.pattern.Case.TheVariants.{Sensitive, Fold}
 use Rattle.gix_glob.specs.declared.search.pattern.list.List as patterns
@@ -16,18 +16,12 @@ use Rattle.glob_lists.specs.Paths.{IsPlainPath}
 use Rattle.glob_trees.specs.Trees.{IsAbove}
 use Rattle.glob_trees.specs.Ways.{Folder, folders_to, start_of, with_entries}
 use Rattle.told_paths.specs.declared.standpoint.Standpoint.{Standpoint}
-use Rattle.told_paths.specs.declared.quoting.Quoting.{Quoting}
 use Rattle.told_paths.specs.Paths.{IsLastName, is_name, names_folder, parts_of}
-use Rattle.told_paths.specs.Quoting.{is_unusual, quoted}
 use Rattle.told_paths.specs.Standpoints.{led, shown}
 use Rattle.tree_answers.specs.declared.form.Form.{Form}
-use Rattle.tree_answers.specs.declared.form.Form.TheVariants as forms
-use Rattle.tree_answers.specs.Lines.{behind}
+use Rattle.tree_answers.specs.Lines.{behind, name_text}
 use Rattle.tree_commands.specs.declared.files.source.EntryKind.{EntryKind}
 use Rattle.tree_commands.specs.declared.files.source.EntryKind.TheVariants as kinds
-use Rattle.tree_commands.specs.declared.path_lines.LineForm.{LineForm}
-use Rattle.tree_commands.specs.declared.path_lines.Mark.{Mark}
-use Rattle.tree_commands.specs.declared.path_lines.Mark.TheVariants as marks
 use Rattle.tree_commands.specs.FileTrees.{FileTree}
 use Rattle.tree_commands.specs.Ignoring.{IsIgnored}
 
@@ -112,30 +106,6 @@ IsLeaf tree path = (path ≢ []) × ((¬ EndsInSlash path) ⊎ ((folder : Folder
 abbrev pub ComesBefore : List ℕ → List ℕ → Type 0
 ComesBefore path other = slice_cmp nat_cmp path other ≡ Less
 
--- what stands before a path in its line
-abbrev pub mark_text : Mark → List ℕ
-mark_text marks.Nothing = []
-mark_text marks.Untracked = codes "?? "
-mark_text marks.Ignored = codes "!! "
-
-abbrev pub has_space : List ℕ → Bool
-has_space name = list_any (λ b. b == byte " ") name
-
--- a name in a line behind a mark: in quotes also where it has a space
-abbrev pub marked_name : Quoting → List ℕ → List ℕ
-marked_name quoting name =
-    if has_space name && not (list_any (is_unusual quoting) name) then codes "\"" ++ (name ++ codes "\"") else quoted quoting name
-
-abbrev pub name_behind : Mark → Quoting → List ℕ → List ℕ
-name_behind marks.Nothing quoting name = quoted quoting name
-name_behind marks.Untracked quoting name = marked_name quoting name
-name_behind marks.Ignored quoting name = marked_name quoting name
-
--- the same, as it is; and in records, where no name is quoted
-abbrev pub name_in : Form → Mark → List ℕ → List ℕ
-name_in (forms.Lines quoting) mark name = name_behind mark quoting name
-name_in forms.Records mark name = name
-
--- what is written of a path: its mark, the path as it is seen from the current folder, and a line feed or a NUL
-abbrev pub path_line : Standpoint → LineForm → List ℕ → List ℕ
-path_line standpoint form path = mark_text form.mark ++ (name_in form.form form.mark (shown standpoint path) ++ behind form.form 10 ∷ [])
+-- what is written of a path: as it is seen from the current folder, and a line feed or a NUL
+abbrev pub path_line : Standpoint → Form → List ℕ → List ℕ
+path_line standpoint form path = name_text form (shown standpoint path) ++ behind form 10 ∷ []

@@ -34,7 +34,6 @@ use crate::files::ignoring::are_of_folders;
 use crate::files::lister::Lister;
 use crate::files::source::FileSource;
 use crate::files::writing::PathLines;
-use crate::path_lines::LineForm;
 use gix_glob::pattern::Case;
 use gix_glob::search::Watched;
 use glob_lines::IgnoreLines;
@@ -43,6 +42,7 @@ use std::alloc::Global;
 use std::io;
 use std::io::Write;
 use told_paths::{LeadFault, Standpoint};
+use tree_answers::Form;
 
 /// What is asked of a listing.
 #[derive(Debug, Drop)]
@@ -50,7 +50,7 @@ pub struct Listing {
     /// Where the path is told from at which the listing begins, and where the paths are seen from that are written.
     pub standpoint: Standpoint,
     /// How they are written.
-    pub form: LineForm,
+    pub form: Form,
     /// The lists that stand before those of all folders, as of files of excludes.
     pub fronts: Vec<PreparedList<IgnoreLines>>,
     /// Whether the case of letters counts.

@@ -5,12 +5,12 @@ ghost use Rattle.gix_glob.specs.Watched.{has_failed, inner};
 ghost use Rattle.tree_commands.specs.Files.{path_line};
 ghost use Rattle.tree_commands.specs.Private.Listing.{WritesOut};
 
-use crate::path_lines::{LineForm, append_path_line};
 use gix_glob::search::Watched;
 use std::alloc::{AllocError, Global};
 use std::io;
 use std::io::Write;
-use told_paths::Standpoint;
+use told_paths::{Standpoint, append_quoted};
+use tree_answers::Form;
 
 /// From how many bytes on lines are written although more follow.
 const MUCH: usize = 16 * 1024;
@@ -19,7 +19,7 @@ const MUCH: usize = 16 * 1024;
 #[derive(Drop)]
 pub(crate) struct PathLines {
     standpoint: Standpoint,
-    form: LineForm,
+    form: Form,
     pub(crate) text: Vec<u8>,
     /// A path as it is seen from the current folder.
     seen: Vec<u8>,
@@ -27,7 +27,7 @@ pub(crate) struct PathLines {
 
 impl PathLines {
     /// There are none.
-    pub(crate) fn new(alloc: Global, standpoint: Standpoint, form: LineForm) -> PathLines
+    pub(crate) fn new(alloc: Global, standpoint: Standpoint, form: Form) -> PathLines
         ensures { (result.standpoint ≡ standpoint) × (result.form ≡ form) × (result.text.items ≡ []) }
     {
         PathLines {
@@ -44,13 +44,16 @@ impl PathLines {
         ensures standpoint { self.new.standpoint ≡ self.old.standpoint }
         ensures form { self.new.form ≡ self.old.form }
     {
-        append_path_line(
-            &mut self.text,
-            &mut self.seen,
-            &self.standpoint,
-            self.form,
-            path,
-        )
+        match self.form {
+            Form::Records => self.standpoint.append_seen(&mut self.text, path)?,
+            Form::Lines(quoting) => {
+                self.seen.clear();
+                self.standpoint.append_seen(&mut self.seen, path)?;
+                append_quoted(&mut self.text, &self.seen, quoting)?;
+            }
+        }
+        self.text.push(self.form.end())?;
+        Ok(())
     }
 
     /// Writes the lines, where they are many.

@@ -3,7 +3,7 @@ use Rattle.std.specs.Prelude.{List, option_map}
 use Rattle.std.specs.Vec.{vec_items}
 use Rattle.gix_glob.specs.declared.pattern.Case.{Case}
 use Rattle.told_paths.specs.declared.standpoint.Standpoint.{Standpoint}
-use Rattle.tree_commands.specs.declared.path_lines.LineForm.{LineForm}
+use Rattle.tree_answers.specs.declared.form.Form.{Form}
 use Rattle.std.proofs.lemmas.List.{nil_from_length}
 use Rattle.gix_glob.specs.Watched.{inner}
 use Rattle.glob_trees.specs.Ways.{start_of}
@@ -104,7 +104,7 @@ paths-preserved g c =
     let left = c.write_line.new.lines.text.items in
     let visited = subst (λ (cs : Case). Visits (g.S.FileSource.shows c.paths.source) cs c.in-Some.next lists new_lists c.pop.new.self.items c.visit.new.self.pending.items listed) c.paths.invariant.case c.in_ok-listed.ensures.visits in
     let out = subst (λ (s : Standpoint). WritesOut middle new (with_line (path_line s c.args.lines.now.form) text listed) left) c.paths.invariant.standpoint
-    (subst (λ (f : LineForm). WritesOut middle new (with_line (path_line c.paths.lines.standpoint f) text listed) left) c.paths.invariant.form c.in_ok-write_line.ensures.ok) in
+    (subst (λ (f : Form). WritesOut middle new (with_line (path_line c.paths.lines.standpoint f) text listed) left) c.paths.invariant.form c.in_ok-write_line.ensures.ok) in
     record {
       writing = writes_on line known case beginning old (g.S.FileSource.shows c.paths.source) c.paths.invariant.stays middle new text left c.in-Some.next c.pop.new.self.items c.visit.new.self.pending.items lists new_lists listed it visited out;
       folders = c.in_ok-listed.ensures.folders;
