@@ -8,13 +8,16 @@ use crate::fronts::{case_of, fronts_of};
 use crate::running::ANSWERED;
 use crate::signs::IndexUse;
 use anyhow::{Context, Result};
+use git_index::Index;
 use gix_glob::search::Watched;
 use std::alloc::Global;
 use std::io::Write;
 use std::rt::{Env, Files};
 use told_paths::LeadFault;
 use tree_answers::Form;
+use tree_commands::files::choosing::{Chosen, Folders};
 use tree_commands::files::fault::FilesFault;
+use tree_commands::files::mark::Mark;
 use tree_commands::files::{Listing, run_files};
 use tree_files::{CheckFault, TreeFiles};
 use tree_words::Options;
@@ -39,11 +42,15 @@ pub(crate) fn list_files<R: Files + Env + Eprint + AllocGlobal + Clone + Drop, O
     let listing = Listing {
         standpoint: fronts.standpoint,
         form: Form::ended_by(flags.nul, fronts.quoting),
+        mark: Mark::Bare,
+        chosen: Chosen::Unignored,
+        folders: Folders::Entered,
         fronts: fronts.lists,
         case: case_of(options, fronts.folds),
     };
+    let tracked = Index::empty(alloc);
     let mut source = TreeFiles::new(rt, alloc)?;
-    match run_files(alloc, listing, &mut source, folder.as_bytes(), output) {
+    match run_files(alloc, listing, &tracked, &mut source, folder.as_bytes(), output) {
         Ok(()) if source.is_short() => Ok(NOT_ALL_LISTED),
         Ok(()) => Ok(ANSWERED),
         Err(FilesFault::Write(error)) => Err(error).context("writing"),
