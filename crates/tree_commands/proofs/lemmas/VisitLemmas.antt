@@ -12,8 +12,8 @@ use Rattle.tree_commands.specs.declared.files.choosing.Chosen.TheVariants.{Ignor
 use Rattle.tree_commands.specs.declared.files.pending.Pending.{Pending}
 use Rattle.tree_commands.specs.declared.files.source.EntryKind.{EntryKind}
 use Rattle.tree_commands.specs.FileTrees.{FileTree}
-use Rattle.tree_commands.specs.Files.{IsHidden, IsListedBy, IsListedFile, IsListedFolder, IsShut, Terms}
-use Rattle.tree_commands.specs.Private.Listing.{AddsOwn, Enters, FlagsFolder, IsClear, IsEnd, IsFoundAmong, IsIgnoredNext, ListsFile, ListsFolder, MayBegin, StandsAtStart, Visits, if_listed, path_of}
+use Rattle.tree_commands.specs.Files.{IsHidden, IsListedBy, IsListedFile, IsListedFolder, IsNamed, IsShut, Terms}
+use Rattle.tree_commands.specs.Private.Listing.{AddsOwn, Enters, FlagsFolder, IsClear, IsEnd, IsFoundAmong, IsFree, IsIgnoredNext, IsToldBy, ListsFile, ListsFolder, MayBegin, StandsAtStart, Visits, if_listed, path_of}
 use Rattle.tree_commands.proofs.lemmas.BeginLemmas.{begins_at_something}
 use Rattle.tree_commands.proofs.lemmas.LevelLemmas.{shut_as}
 use Rattle.tree_commands.proofs.lemmas.PathLemmas.{one_folder, start_ends}
@@ -55,6 +55,21 @@ hidden_begin Known terms path is_told kind hidden there = λ tree known basis sa
     let stands = at.there kind refl in
     let one : kind ≡ below.here.kind = same_Some kind below.here.kind (sym stands.0 ∙ below.here.there) in
     below.here.kept.shown (subst (λ k. IsHidden basis.terms.tracked path k) one (subst (λ (t : Terms). IsHidden t.tracked path kind) (sym same) hidden))
+
+-- ---- folders that aren't gone into
+
+module _ (terms : Terms) (tree : FileTree) (folder : Folder) (is_ignored : Bool) where
+  pub shut_by_name : IsToldBy terms folder is_ignored → IsShut terms tree folder (IsTrue is_ignored)
+  shut_by_name told = record { below = told.1.0; free = told.1.1; why = inr told.0 }
+
+  pub shut_by_repository : tree.has_git folder ≡ true → IsFree terms folder → IsShut terms tree folder (IsTrue is_ignored)
+  shut_by_repository git free = record { below = free.0; free = free.1; why = inl git }
+
+  pub not_shut : ¬ IsToldBy terms folder is_ignored → (tree.has_git folder ≡ true → ¬ IsFree terms folder) → ¬ IsShut terms tree folder (IsTrue is_ignored)
+  not_shut untold other shut = ⊎_elim
+      (λ (git : tree.has_git folder ≡ true). other git (shut.below, shut.free))
+      (λ (named : IsNamed terms.folders terms.chosen (IsTrue is_ignored)). untold (named, (shut.below, shut.free)))
+      shut.why
 
 -- ---- how a visit ends
 
