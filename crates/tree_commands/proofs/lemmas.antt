@@ -16,6 +16,7 @@ pub mod EntryLemmas
 pub mod FindingLemmas
 pub mod IgnoreLemmas
 pub mod IgnoringLemmas
+pub mod LevelLemmas
 pub mod ListingLemmas
 pub mod ListingRuns
 pub mod ListsLemmas
