@@ -39,6 +39,9 @@ pub(crate) fn list_files<R: Files + Env + Eprint + AllocGlobal + Clone + Drop, O
     if let Some(message) = flags.disagreement() {
         bail!("{message}");
     }
+    if names_folders_otherwise(flags) {
+        bail!("--directory isn't known with -i, nor with --no-empty-directory");
+    }
     let fronts = fronts_of(rt, alloc, options, index_by(flags))?;
     let status = if flags.are_usual() || flags.others {
         list_found(rt, alloc, options, flags, &fronts, folder, output)?
@@ -52,6 +55,11 @@ pub(crate) fn list_files<R: Files + Env + Eprint + AllocGlobal + Clone + Drop, O
         list_tracked_by(rt, alloc, options, flags, fronts, folder, output)?;
     }
     Ok(status)
+}
+
+/// Whether folders are to be told by their names as no listing knows it.
+fn names_folders_otherwise(flags: FilesFlags) -> bool {
+    flags.others && flags.directory && (flags.ignored || flags.no_empty_directory)
 }
 
 /// What is taken from the index: which paths are tracked, unless all files are listed.

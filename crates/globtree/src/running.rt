@@ -30,9 +30,8 @@ const USAGE: &str = "\
 usage: globtree [OPTION..] check-ignore [-v] [-n] [-z] PATH..
        globtree [OPTION..] check-ignore -q PATH
        globtree [OPTION..] check-ignore [-v] [-n] [-z] --stdin
-       globtree [OPTION..] files [-z] [DIR]
        globtree [OPTION..] files [-c] [-o] [-i] [--directory] [--exclude-standard] [-z] [DIR]
-       globtree [OPTION..] status [-u[all|no]] [--ignored[=traditional|matching|no]] [-z]
+       globtree [OPTION..] status [-uall | -uno] [--ignored[=traditional | =matching | =no]] [-z]
        globtree [OPTION..] check-attr [-z] -a [--] PATH..
        globtree [OPTION..] check-attr [-z] ATTR [--] PATH..
        globtree [OPTION..] check-attr [-z] ATTR.. -- PATH..
