@@ -31,4 +31,5 @@ pub mod SourceLemmas
 pub mod StackLemmas
 pub mod StartLemmas
 pub mod TopLemmas
+pub mod TrackedLemmas
 pub mod VisitLemmas

@@ -136,7 +136,7 @@ fn lines_of(
     form: Form,
     paths: &[&[u8]],
 ) -> Result<Vec<u8>, AllocError>
-    ensures { IfOk result (λ text. text.items ≡ flat_map (path_line marks.Bare standpoint.now form) (map (λ (path : Bor (List ℕ)). path.now) paths.now)) }
+    ensures { IfOk result (λ text. text.items ≡ flat_map (λ (path : Bor (List ℕ)). path_line marks.Bare standpoint.now form path.now) paths.now) }
 {
     let mut text = Vec::new(alloc);
     let mut seen = Vec::new(alloc);
@@ -212,7 +212,7 @@ fn seen_paths(
     standpoint: &Standpoint,
     paths: &[&[u8]],
 ) -> Result<Vec<Vec<u8>>, AllocError>
-    ensures { IfOk result (λ seen. map vec_items seen.items ≡ map (shown standpoint.now) (map (λ (path : Bor (List ℕ)). path.now) paths.now)) }
+    ensures { IfOk result (λ seen. map vec_items seen.items ≡ map (λ (path : Bor (List ℕ)). shown standpoint.now path.now) paths.now) }
 {
     let mut all = Vec::with_capacity(alloc, paths.len())?;
     'paths: for path in paths {
