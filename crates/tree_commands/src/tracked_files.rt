@@ -79,11 +79,26 @@ fn paths_at<'a>(
 {
     let mut paths = Vec::new(alloc);
     'entries: for entry in entries {
-        if lies_at(entry, path, below, is_told_folder) {
-            paths.push(entry.path.as_slice())?;
-        }
+        push_lying(&mut paths, entry, path, below, is_told_folder)?;
     }
     Ok(paths)
+}
+
+/// Pushes the path of an entry, where that lies at or below a path.
+fn push_lying<'a>(
+    paths: &mut Vec<&'a [u8]>,
+    entry: &'a Entry,
+    path: &[u8],
+    below: &[u8],
+    is_told_folder: bool,
+) -> Result<(), AllocError>
+    requires { below.now ≡ path.now ++ slash ∷ [] }
+    ensures { OnOk result (map (λ (path : Bor (List ℕ)). path.now) paths.new.items ≡ map (λ (path : Bor (List ℕ)). path.now) paths.old.items ++ paths_at path.now is_told_folder (tracked entry.now ∷ [])) }
+{
+    if lies_at(entry, path, below, is_told_folder) {
+        paths.push(entry.path.as_slice())?;
+    }
+    Ok(())
 }
 
 /// Whether an entry lies at or below a path.
