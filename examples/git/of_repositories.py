@@ -13,9 +13,14 @@ from repositories import NAMES, Repository
 from repository_indexes import ASKED
 
 HOW_MANY_SHOWN = 3
-# how check-ignore is asked by words, and check-attr and files
+# how check-ignore is asked by words, and check-attr, config, files and status
 BY_WORDS = [["--"], ["-v", "--"], ["-v", "-n", "--"], ["--no-index", "--"], ["--no-index", "-v", "--"]]
 SHOWN = [["--list", "--show-origin", "-z"], ["--list"], ["--show-origin", "--get-all", "core.excludesFile"], ["-z", "CORE.ignorecase"]]
+LISTED = [
+    ["-c"], ["-o"], ["-c", "-o"], ["-co", "--exclude-standard"], ["-oi", "--exclude-standard"], ["-c", "-i", "--exclude-standard"],
+    ["--cached", "-oi", "--exclude-standard"], ["-o", "--directory"], ["--others", "--directory", "--exclude-standard"], ["--exclude-standard"],
+]
+STATUS = [["-uall"], ["-uall", "--ignored"], ["-u", "--ignored=matching"], ["--untracked-files=all", "--ignored=traditional"], ["-uno", "--ignored"]]
 ATTRIBUTES = [["-a", "--"], ["one", "two", "--"], ["-z", "two", "--"], ["-a", "-z", "--"]]
 OUTSIDE = [b"../../../../../../x", b"/", b"", b"../../x", b"l/x"]
 # words that spell a path behind a colon, and words that spell none
@@ -27,10 +32,11 @@ NAMED = kinds_in("GLOBTREE.md")
 OF_CONFIG = "`config`"
 # and those that "From Git" of docs/REPOSITORIES.md has: what tells a path otherwise, by the variables, options, links and texts of a repository
 TOLD = {
-    "a listing from outside": lambda made, question: question.words[0] == "files" and made.says(rb'(?im)excludesfile *= *"?[^/~@%\s"]'),
+    "a listing from outside": lambda made, question: question.words[0] in LISTINGS and made.says(rb'(?im)excludesfile *= *"?[^/~@%\s"]'),
     "a slash behind GIT_DIR": lambda made, question: made.git_dir().endswith(b"/"),
     "relative files of the environment": lambda made, question: any(made.is_relative(name) for name in FILES_OF_VARIABLES),
     "`.git` as a link": lambda made, question: any(os.path.basename(link) == b".git" for link in made.links),
+    "`core.ignoreCase`": lambda made, question: question.words[0] in LISTINGS and made.index is not None and made.says(rb"(?i)ignorecase"),
     "an empty core.worktree": lambda made, question: made.says(rb'(?im)worktree[ \t]*=[ \t"]*([#;].*)?\r?$'),
 }
 FILES_OF_VARIABLES = (b"GIT_CONFIG_GLOBAL", b"GIT_CONFIG_SYSTEM", b"XDG_CONFIG_HOME", b"HOME")
@@ -40,6 +46,7 @@ OF_FORMAT = re.compile(rb"repo version|unknown repository extension")
 WARNINGS = re.compile(rb"(warning: [^\n]*\n)+")
 RELATIVE_CONDITION = b"error: relative config include conditionals must come from files\n"
 NO_WORK_TREE = b"fatal: this operation must be run in a work tree\n"
+LISTINGS = ("files", "status")
 FILES_OF_GIT = ["ls-files", "-co", "--exclude-standard"]
 
 Question = collections.namedtuple("Question", "folder words asked")
@@ -54,8 +61,8 @@ class Pair:
         self.environment.update((name, made.placed(room, value)) for name, value in made.variables.items())
 
     def git(self, question, is_there):
-        words = FILES_OF_GIT + question.words[1:] if question.words[0] == "files" else question.words
-        return self.run(["git"], self.made.standing[0], question, words, is_there)
+        told = self.run(["git"], self.made.standing[0], question, words_of_git(question.words), is_there)
+        return untracked_alone(told, question.words) if question.words[0] == "status" else told
 
     def globtree(self, question, is_there):
         return self.run([GLOBTREE], self.made.standing[1], question, question.words, is_there)
@@ -70,6 +77,21 @@ class Pair:
         at = folder if is_there else self.room
         ran = subprocess.run([*front, *options, *words], cwd=at, input=question.asked, env=self.environment, capture_output=True)
         return Told(ran.returncode, ran.stdout, ran.stderr)
+
+
+def words_of_git(words):
+    """The words by which Git is asked the same."""
+    if words[0] == "status":
+        return ["status", "--porcelain", *words[1:]]
+    if words[0] != "files":
+        return words
+    return ["ls-files", *words[1:]] if set(words[1:]) - {"-z"} else FILES_OF_GIT + words[1:]
+
+
+def untracked_alone(told, words):
+    """What `git status` tells of files that aren't tracked."""
+    lines = re.findall(rb"[^\0]*\0" if "-z" in words else rb"[^\n]*\n", told.output)
+    return told._replace(output=b"".join(line for line in lines if line.startswith((b"?? ", b"!! "))))
 
 
 # ---- what is told
@@ -127,6 +149,8 @@ class Comparison:
         """Words of each kind, with what they read."""
         questions = [] if self.pair.made.index is not None else [(["files", *self.random.choice(([], ["-z"]))], b"")]
         return questions + [
+            (["files", *self.random.choice(LISTED), *self.random.choice(([], ["-z"]))], b""),
+            (["status", *self.random.choice(STATUS), *self.random.choice(([], ["-z"]))], b""),
             (["check-ignore", *self.random.choice(([], ["--no-index"])), "-v", "-n", "-z", "--stdin"], self.records()),
             (["check-ignore", *self.random.choice(BY_WORDS), *self.names()], b""),
             (["check-ignore", "-q", self.random.choice(self.names())], b""),
@@ -176,14 +200,14 @@ class Comparison:
     def named_kind(self, question, expected, found):
         """What the documents call a difference, or None."""
         command = question.words[0]
-        if command == "check-attr" and found.errors == NO_WORK_TREE and expected.errors != found.errors:
+        if command in ("check-attr", "files") and found.errors == NO_WORK_TREE and expected.errors != found.errors:
             return BARE
         if UNKNOWN_FOLDER.fullmatch(found.errors) and expected.errors != found.errors:
             return UNKNOWN
         # (Git reads a file under such a condition, where it doesn't hold, too)
         if "condition: hasconfig" in self.pair.made.constructs and is_answer(found) and OF_INCLUDED.match(fault(expected)):
             return REMOTES
-        if command == "files" and NESTED in NAMED and not found.is_as(expected) and is_nested(expected, found):
+        if command in LISTINGS and NESTED in NAMED and not found.is_as(expected) and is_nested(expected, found):
             return NESTED
         if found.is_as(expected):
             return None

@@ -1,5 +1,6 @@
 //! Listings of trees in memory: which paths are written, and how many folders are asked for their names.
 use crate::compare::same;
+use git_index::Index;
 use gix_glob::pattern::Case;
 use gix_glob::search::pattern::List;
 use gix_glob::search::{Pattern as _, Watched};
@@ -11,6 +12,8 @@ use std::process::Abort;
 use std::test::Fail;
 use told_paths::{Quoting, Standpoint};
 use tree_answers::Form;
+use tree_commands::files::choosing::{Chosen, Folders};
+use tree_commands::files::mark::Mark;
 use tree_commands::files::source::{EntryKind, FileSource, FolderNames};
 use tree_commands::files::{Listing, run_files};
 
@@ -150,11 +153,15 @@ fn ask(rt: &(impl Abort + AllocGlobal), question: Question, row: usize) -> Resul
     let listing = Listing {
         standpoint,
         form: Form::Lines(Quoting::Full),
+        mark: Mark::Bare,
+        chosen: Chosen::Unignored,
+        folders: Folders::Entered,
         fronts: Vec::new(alloc),
         case: Case::Sensitive,
     };
     let mut writer = Watched::new(Vec::new(alloc));
-    let run = run_files(alloc, listing, &mut source, told, &mut writer);
+    let tracked = Index::empty(alloc);
+    let run = run_files(alloc, listing, &tracked, &mut source, told, &mut writer);
     let text = writer.into_inner();
     same(rt, run.is_ok(), "whether it is listed to the end", row);
     same(rt, text.as_slice() == wanted, "what is listed", row);

@@ -25,7 +25,8 @@ use Rattle.tree_answers.specs.declared.form.Form.{Form}
 use Rattle.tree_commands.specs.Files.{ComesBefore, path_line}
 use Rattle.tree_commands.specs.TrackedFiles.{AreIgnored, names_alone, paths_asked}
 use Rattle.tree_commands.specs.declared.check_ignore.flags.IgnoreFlags.{IgnoreFlags}
-use Rattle.tree_commands.specs.declared.path_lines.Mark.TheVariants as marks
+use Rattle.tree_commands.specs.declared.files.mark.Mark.{Mark}
+use Rattle.tree_commands.specs.declared.files.mark.Mark.TheVariants as marks
 use Rattle.tree_words.specs.CheckAttr.{names_first}
 use Rattle.tree_words.specs.declared.check_attr.CheckAttrFlags.{CheckAttrFlags}
 use Rattle.tree_words.specs.declared.check_ignore.CheckIgnoreFlags.{CheckIgnoreFlags}
@@ -34,9 +35,11 @@ use Rattle.tree_words.specs.declared.command.Command.TheVariants as command
 use Rattle.tree_words.specs.declared.config.ConfigFlags.{ConfigFlags}
 use Rattle.tree_words.specs.declared.files.FilesFlags.{FilesFlags}
 use Rattle.tree_words.specs.declared.options.Options.{Options}
+use Rattle.tree_words.specs.declared.status.StatusFlags.{StatusFlags}
 use Rattle.tree_words.specs.Files.{are_usual, lists_tracked}
 use Rattle.tree_words.specs.Help.{IsHelp}
 use Rattle.tree_words.specs.Operands.{dashes_at, operands_among}
+use Rattle.tree_words.specs.Status.{tells_ignored, tells_untracked}
 use Rattle.tree_words.specs.Words.{Ask}
 use Rattle.globtree.specs.Running.{asked_by_flags, form_by, manner_by}
 use Rattle.globtree.specs.Tracked.{IsOfIndex}
@@ -108,20 +111,16 @@ pub record AnswersAttr (options : Options) (flags : CheckAttrFlags) (words : Lis
   pub read : flags.stdin ≡ true → ReadsStates query left rest old new
   pub told : flags.stdin ≡ false → TellsStates query (drop count (operands_among words)) old new
 
--- lines of these paths were written, without a mark
-abbrev pub WritesPaths : Standpoint → Form → List (List ℕ) → Option (List ℕ) → Option (List ℕ) → Type 0
-WritesPaths standpoint form paths old new = Appends old new (flat_map (path_line standpoint (record { form = form; mark = marks.Nothing })) paths)
+-- lines of some paths were written behind a mark, each once, in order of their bytes
+abbrev pub ListsFound : Mark → Standpoint → Form → Option (List ℕ) → Option (List ℕ) → Type 0
+ListsFound mark standpoint form old new = (paths : List (List ℕ)) × AllPairs ComesBefore paths × Appends old new (flat_map (path_line mark standpoint form) paths)
 
--- lines of some paths were written, each once, in order of their bytes
-abbrev pub ListsFound : Standpoint → Form → Option (List ℕ) → Option (List ℕ) → Type 0
-ListsFound standpoint form old new = (paths : List (List ℕ)) × AllPairs ComesBefore paths × WritesPaths standpoint form paths old new
-
--- those of the tracked paths at or below a told one were
+-- the lines of the tracked paths at or below a told one were written
 abbrev pub ListsTracked : Standpoint → Form → List Tracked → List ℕ → Option (List ℕ) → Option (List ℕ) → Type 0
 ListsTracked standpoint form tracked told old new =
-    (paths : List (List ℕ)) × (paths_asked standpoint told tracked ≡ Some paths) × WritesPaths standpoint form paths old new
+    (paths : List (List ℕ)) × (paths_asked standpoint told tracked ≡ Some paths) × Appends old new (flat_map (path_line marks.Bare standpoint form) paths)
 
--- those of them that are ignored were: patterns are matched by these rules
+-- the lines of those of them that are ignored were: patterns are matched by these rules
 pub record ListsIgnored (standpoint : Standpoint) (rules : Rules) (form : Form) (tracked : List Tracked) (told : List ℕ) (old new : Option (List ℕ)) : Type 0 where
   pub paths : List (List ℕ)
   pub asked : paths_asked standpoint told tracked ≡ Some paths
@@ -141,12 +140,26 @@ pub record AnswersFiles (options : Options) (flags : FilesFlags) (folder : List 
   pub tracked : List Tracked
   pub of_index : IsOfIndex tracked
   pub middle : Option (List ℕ)
-  pub found : MatchBool (are_usual flags || flags.others) (ListsFound standpoint (form_by flags.nul quoting) old middle) (middle ≡ old)
+  pub found : MatchBool (are_usual flags || flags.others) (ListsFound marks.Bare standpoint (form_by flags.nul quoting) old middle) (middle ≡ old)
   pub listed : MatchBool (lists_tracked flags)
       (MatchBool flags.ignored
       (ListsIgnored standpoint (by_git (case_by options folds)) (form_by flags.nul quoting) tracked folder middle new)
       (ListsTracked standpoint (form_by flags.nul quoting) tracked folder middle new))
       (new ≡ middle)
+
+-- lines of some paths were written in the same way, told from the top
+abbrev pub IsAtTop : Standpoint → Type 0
+IsAtTop standpoint = (standpoint.is_inside ≡ true) × (standpoint.here.items ≡ [])
+
+abbrev pub ListsFromTop : Mark → Form → Option (List ℕ) → Option (List ℕ) → Type 0
+ListsFromTop mark form old new = (standpoint : Standpoint) × IsAtTop standpoint × ListsFound mark standpoint form old new
+
+-- What `status` tells: files that aren't tracked, and then ignored ones, each kind behind its mark, where it is asked for.
+pub record AnswersStatus (flags : StatusFlags) (old new : Option (List ℕ)) : Type 0 where
+  pub quoting : Quoting
+  pub middle : Option (List ℕ)
+  pub untracked : MatchBool (tells_untracked flags) (ListsFromTop marks.Untracked (form_by flags.nul quoting) old middle) (middle ≡ old)
+  pub ignored : MatchBool (tells_ignored flags) (ListsFromTop marks.Ignored (form_by flags.nul quoting) middle new) (new ≡ middle)
 
 -- what entries answer was written, and the status says whether there is an answer
 pub record IsShown (flags : ConfigFlags) (asked : Asked) (settings : List Seen) (status : ℕ) (old new : Option (List ℕ)) : Type 0 where
@@ -177,6 +190,7 @@ AnswersCommand options command.Version status left rest old new = (text : List �
 AnswersCommand options (command.CheckIgnore flags words) status left rest old new = AnswersIgnore options flags (map string_bytes words.now) status left rest old new
 AnswersCommand options (command.CheckAttr flags words) status left rest old new = AnswersAttr options flags (map string_bytes words.now) left rest old new
 AnswersCommand options (command.Config flags words) status left rest old new = AnswersConfig flags (map string_bytes words.now) status old new
+AnswersCommand options (command.Status flags words) status left rest old new = (operands_among (map string_bytes words.now) ≡ []) × AnswersStatus flags old new
 AnswersCommand options (command.Files flags folder) status left rest old new = AnswersFiles options flags folder.now old new
 
 -- the words were answered with this status, by the command that they ask for

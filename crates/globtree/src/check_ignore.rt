@@ -16,6 +16,7 @@ use std::alloc::{AllocError, Global};
 use std::io::{Read, Write};
 use std::rt::{Env, Files};
 use told_paths::{Quoting, Standpoint};
+use tracked_paths::TrackedPaths;
 use tree_answers::Form;
 use tree_commands::check_ignore::{
     IgnoreFault, IgnoreFlags, IgnoreSources, check_ignore_paths, run_check_ignore,
@@ -50,7 +51,7 @@ pub(crate) fn check_ignore<R: Files + Env + Eprint + AllocGlobal, I: Read, O: Wr
     let case = case_of(options, fronts.folds);
     let tree = tree_behind(rt, alloc, fronts.lists, case)?;
     let kinds = FileKinds::new(rt, alloc);
-    let tracked = fronts.tracked;
+    let tracked = TrackedPaths::new(fronts.tracked);
     let sources = IgnoreSources {
         tree,
         kinds,

@@ -9,6 +9,7 @@ use crate::moving::go_to_folders;
 use crate::signs::{IndexUse, tracked_after_signs};
 use crate::work_tree::{WorkTree, work_tree};
 use anyhow::{Context, Result};
+use git_index::Index;
 use gix_glob::pattern::Case;
 use gix_glob::search::pattern::List;
 use glob_lines::IgnoreLines;
@@ -17,7 +18,6 @@ use glob_trees::Tree;
 use std::alloc::Global;
 use std::rt::{Env, Files};
 use told_paths::{Quoting, Standpoint};
-use tracked_paths::TrackedPaths;
 use tree_files::{FolderFiles, path_text};
 use tree_words::Options;
 
@@ -36,7 +36,7 @@ pub(crate) struct Fronts {
     /// Which names stand in quotes.
     pub(crate) quoting: Quoting,
     /// The paths that the index tracks, where it is read.
-    pub(crate) tracked: TrackedPaths,
+    pub(crate) tracked: Index,
 }
 
 /// Goes to the top of the work tree, and reads the files that count before those of all folders.

@@ -2,31 +2,27 @@
 ghost use Rattle.std.specs.Prelude.{◌≡◌, IfOk, MatchBool, OnOk, false};
 ghost use Rattle.gix_glob.specs.Watched.{has_failed, inner};
 ghost use Rattle.glob_lists.specs.Rules.{by_git};
+ghost use Rattle.tree_commands.specs.declared.files.mark.Mark.TheVariants as marks;
 ghost use Rattle.globtree.specs.Answers.{AnswersFiles, ListsFound, ListsIgnored, ListsTracked, case_by};
-ghost use Rattle.globtree.specs.Running.{IsAnswered, form_by};
+ghost use Rattle.globtree.specs.Running.{IsAnswered, chosen_by, folders_by, form_by};
 
 use crate::fronts::{Fronts, case_of, fronts_of, tree_behind};
 use crate::list_tracked::{list_tracked, list_tracked_ignored};
+use crate::listing::{copies_of, run_listing};
 use crate::running::ANSWERED;
 use crate::signs::IndexUse;
-use anyhow::{Context, Result, bail};
+use anyhow::{Result, bail};
 use gix_glob::search::Watched;
-use glob_lines::IgnoreLines;
-use glob_lists::PreparedList;
 use std::alloc::{AllocError, Global};
 use std::io::Write;
 use std::rt::{Env, Files};
-use told_paths::{LeadFault, Standpoint};
+use told_paths::Standpoint;
 use tree_answers::Form;
-use tree_commands::files::fault::FilesFault;
-use tree_commands::files::{Listing, run_files};
-use tree_commands::path_lines::{LineForm, Mark};
-use tree_files::{CheckFault, TreeFiles};
+use tree_commands::files::Listing;
+use tree_commands::files::choosing::{Chosen, Folders};
+use tree_commands::files::mark::Mark;
 use tree_words::Options;
 use tree_words::files::FilesFlags;
-
-/// What the command ends with where something couldn't be read.
-const NOT_ALL_LISTED: u8 = 1;
 
 /// Lists files below a folder.
 pub(crate) fn list_files<R: Files + Env + Eprint + AllocGlobal + Clone + Drop, O: Write>(
@@ -43,6 +39,9 @@ pub(crate) fn list_files<R: Files + Env + Eprint + AllocGlobal + Clone + Drop, O
     if let Some(message) = flags.disagreement() {
         bail!("{message}");
     }
+    if names_folders_otherwise(flags) {
+        bail!("--directory isn't known with -i, nor with --no-empty-directory");
+    }
     let fronts = fronts_of(rt, alloc, options, index_by(flags))?;
     let status = if flags.are_usual() || flags.others {
         list_found(rt, alloc, options, flags, &fronts, folder, output)?
@@ -56,6 +55,11 @@ pub(crate) fn list_files<R: Files + Env + Eprint + AllocGlobal + Clone + Drop, O
         list_tracked_by(rt, alloc, options, flags, fronts, folder, output)?;
     }
     Ok(status)
+}
+
+/// Whether folders are to be told by their names as no listing knows it.
+fn names_folders_otherwise(flags: FilesFlags) -> bool {
+    flags.others && flags.directory && (flags.ignored || flags.no_empty_directory)
 }
 
 /// What is taken from the index: which paths are tracked, unless all files are listed.
@@ -78,24 +82,41 @@ fn list_found<R: Files + Env + Eprint + AllocGlobal + Clone + Drop, O: Write>(
     output: &mut Watched<O>,
 ) -> Result<u8>
     ensures status { IfOk result IsAnswered }
-    ensures found { IfOk result (λ _. ListsFound fronts.now.standpoint (form_by flags.nul fronts.now.quoting) (O.contents (inner output.old)) (O.contents (inner output.new))) }
+    ensures found { IfOk result (λ _. ListsFound marks.Bare fronts.now.standpoint (form_by flags.nul fronts.now.quoting) (O.contents (inner output.old)) (O.contents (inner output.new))) }
 {
     let listing = Listing {
         standpoint: copy_of(&fronts.standpoint)?,
-        form: LineForm {
-            form: Form::ended_by(flags.nul, fronts.quoting),
-            mark: Mark::Nothing,
-        },
+        form: Form::ended_by(flags.nul, fronts.quoting),
+        mark: Mark::Bare,
+        chosen: chosen_by(flags),
+        folders: folders_by(flags),
         fronts: copies_of(alloc, &fronts.lists)?,
         case: case_of(options, fronts.folds),
     };
-    let mut source = TreeFiles::new(rt, alloc)?;
-    match run_files(alloc, listing, &mut source, folder.as_bytes(), output) {
-        Ok(()) if source.is_short() => Ok(NOT_ALL_LISTED),
-        Ok(()) => Ok(ANSWERED),
-        Err(FilesFault::Write(error)) => Err(error).context("writing"),
-        Err(FilesFault::Endless) => None.context("a tree without an end"),
-        Err(fault) => Err(fault_of(alloc, folder, fault).into()),
+    run_listing(rt, alloc, listing, &fronts.tracked, folder, output)
+}
+
+/// Which files are listed that are found: without options those that aren't ignored; else what the patterns say, where they count.
+fn chosen_by(flags: FilesFlags) -> Chosen
+    ensures { result ≡ chosen_by flags }
+{
+    if flags.ignored {
+        return Chosen::Ignored;
+    }
+    if flags.exclude_standard || flags.are_usual() {
+        return Chosen::Unignored;
+    }
+    Chosen::All
+}
+
+/// How folders are told that have no tracked path.
+fn folders_by(flags: FilesFlags) -> Folders
+    ensures { result ≡ folders_by flags }
+{
+    if flags.directory {
+        Folders::Named
+    } else {
+        Folders::Entered
     }
 }
 
@@ -138,29 +159,4 @@ fn copy_of(standpoint: &Standpoint) -> Result<Standpoint, AllocError>
         here: standpoint.here.clone()?,
         is_inside: standpoint.is_inside,
     })
-}
-
-/// The same lists once more.
-fn copies_of(
-    alloc: Global,
-    lists: &[PreparedList<IgnoreLines>],
-) -> Result<Vec<PreparedList<IgnoreLines>>, AllocError> {
-    let mut copies = Vec::with_capacity(alloc, lists.len())?;
-    'lists: for list in lists {
-        copies.push(PreparedList::new(alloc, list.list().clone()?))?;
-    }
-    Ok(copies)
-}
-
-/// Another fault as a path got no answer for it.
-fn fault_of(alloc: Global, folder: &str, fault: FilesFault<CheckFault>) -> CheckFault {
-    let told = folder.as_bytes();
-    match fault {
-        FilesFault::Source(fault) => fault,
-        FilesFault::Empty => CheckFault::Empty,
-        FilesFault::Outside => CheckFault::of_lead(alloc, told, LeadFault::Outside),
-        FilesFault::Base => CheckFault::Base,
-        // the last two are told otherwise
-        FilesFault::Memory | FilesFault::Endless | FilesFault::Write(_) => CheckFault::Memory,
-    }
 }

@@ -7,6 +7,7 @@ ghost use Rattle.globtree.specs.Answers.{ListsIgnored, ListsTracked};
 
 use crate::check_ignore::told_fault;
 use anyhow::Result;
+use git_index::Index;
 use gix_glob::search::Watched;
 use glob_lines::IgnoreLines;
 use glob_trees::Tree;
@@ -14,9 +15,7 @@ use std::alloc::Global;
 use std::io::Write;
 use std::rt::Files;
 use told_paths::Standpoint;
-use tracked_paths::TrackedPaths;
 use tree_answers::Form;
-use tree_commands::path_lines::{LineForm, Mark};
 use tree_commands::tracked_files::{tracked_at, write_ignored, write_paths};
 use tree_files::{CheckFault, FileKinds, FolderFiles};
 
@@ -25,7 +24,7 @@ pub(crate) fn list_tracked<O: Write>(
     alloc: Global,
     standpoint: &Standpoint,
     form: Form,
-    tracked: &TrackedPaths,
+    tracked: &Index,
     folder: &str,
     output: &mut Watched<O>,
 ) -> Result<()>
@@ -33,10 +32,6 @@ pub(crate) fn list_tracked<O: Write>(
     ensures { OnOk result (ListsTracked standpoint.now form tracked.now folder.now (O.contents (inner output.old)) (O.contents (inner output.new))) }
 {
     let paths = asked_paths(alloc, standpoint, tracked, folder)?;
-    let form = LineForm {
-        form,
-        mark: Mark::Nothing,
-    };
     let told = write_paths(alloc, standpoint, form, &paths, output);
     told.map_err(|fault| told_fault(alloc, fault))
 }
@@ -47,7 +42,7 @@ pub(crate) fn list_tracked_ignored<R: Files + Eprint, O: Write>(
     alloc: Global,
     standpoint: &Standpoint,
     form: Form,
-    tracked: &TrackedPaths,
+    tracked: &Index,
     tree: Tree<IgnoreLines, FolderFiles<'_, R>>,
     folder: &str,
     output: &mut Watched<O>,
@@ -65,7 +60,7 @@ pub(crate) fn list_tracked_ignored<R: Files + Eprint, O: Write>(
 fn asked_paths<'a>(
     alloc: Global,
     standpoint: &Standpoint,
-    tracked: &'a TrackedPaths,
+    tracked: &'a Index,
     folder: &str,
 ) -> Result<Vec<&'a [u8]>>
     ensures { IfOk result (λ paths. paths_asked standpoint.now folder.now tracked.entry.now ≡ Some (map (λ (path : Bor (List ℕ)). path.now) paths.items)) }

@@ -1,5 +1,5 @@
 //! Says of the paths of a work tree what Git says: which line of which file ignores them, which files aren't ignored, and which
-//! states attributes have for paths; and what the configuration says.
+//! states attributes have for paths; which files aren't tracked; and what the configuration says.
 #![tactic(auto)]
 
 mod check_attr;
@@ -8,6 +8,7 @@ mod excludes;
 mod fronts;
 mod list_files;
 mod list_tracked;
+mod listing;
 mod moving;
 mod opening;
 mod outer_attributes;
@@ -16,6 +17,7 @@ mod places;
 mod progress;
 mod running;
 mod show_config;
+mod show_status;
 mod signs;
 mod tracked;
 mod work_tree;

@@ -10,6 +10,7 @@ use crate::check_attr::check_attr;
 use crate::check_ignore::check_ignore;
 use crate::list_files::list_files;
 use crate::show_config::show_config;
+use crate::show_status::show_status;
 use crate::wrong_words::{tell_no_text, tell_word_fault};
 use anyhow::{Context, Result};
 use gix_glob::search::Watched;
@@ -88,6 +89,9 @@ fn answer_command<R: Files + Env + Clock + Eprint + AllocGlobal + Clone + Drop, 
         }
         Command::Config { flags, words } => {
             show_config(rt, alloc, options, flags, words, output)
+        }
+        Command::Status { flags, words } => {
+            show_status(rt, alloc, options, flags, words, output)
         }
     }
 }

@@ -5,12 +5,11 @@ ghost use Rattle.globtree.specs.Tracked.{IsOfIndex};
 use crate::tracked::IndexFile;
 use crate::work_tree::WorkTree;
 use anyhow::Result;
-use git_index::Entry;
+use git_index::{Entry, Index};
 use std::alloc::{AllocError, Global};
 use std::env::VarError;
 use std::rt::{Env, Files};
 use std::{env, fs};
-use tracked_paths::TrackedPaths;
 use tree_files::tell_line;
 
 /// The variable by which Git hands the words of `-c` on.
@@ -34,7 +33,7 @@ pub(crate) fn tracked_after_signs<R: Files + Env + Eprint + AllocGlobal>(
     alloc: Global,
     tree: &WorkTree,
     index: IndexUse,
-) -> Result<TrackedPaths>
+) -> Result<Index>
     ensures tracked { IfOk result IsOfIndex }
     ensures unread { IfOk result (λ tracked. index ≢ IndexUse.Paths → tracked ≡ []) }
 {
@@ -60,17 +59,17 @@ fn tracked_or_sign<R: Files>(
     file: &Option<IndexFile>,
     index: IndexUse,
     text: &mut String,
-) -> Result<TrackedPaths>
+) -> Result<Index>
     ensures tracked { IfOk result IsOfIndex }
     ensures unread { IfOk result (λ tracked. index ≢ IndexUse.Paths → tracked ≡ []) }
 {
     let Some(file) = file else {
-        return Ok(TrackedPaths::none(alloc));
+        return Ok(Index::empty(alloc));
     };
     match index {
-        IndexUse::Nothing => Ok(TrackedPaths::none(alloc)),
+        IndexUse::Nothing => Ok(Index::empty(alloc)),
         IndexUse::Paths => {
-            let tracked = file.tracked(rt, alloc)?;
+            let tracked = file.read(rt, alloc)?;
             if is_some_hidden(rt, tracked.entries(), b".gitignore") {
                 add(
                     text,
@@ -80,14 +79,14 @@ fn tracked_or_sign<R: Files>(
             Ok(tracked)
         }
         IndexUse::Attributes => {
-            let tracked = file.tracked(rt, alloc)?;
+            let tracked = file.read(rt, alloc)?;
             if is_some_hidden(rt, tracked.entries(), b".gitattributes") {
                 add(
                     text,
                     &["a .gitattributes that is in the index alone isn't read"],
                 )?;
             }
-            Ok(TrackedPaths::none(alloc))
+            Ok(Index::empty(alloc))
         }
     }
 }

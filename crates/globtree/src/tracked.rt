@@ -9,7 +9,6 @@ use std::alloc::{AllocError, Global};
 use std::fs;
 use std::io::{ErrorKind, Read};
 use std::rt::Files;
-use tracked_paths::TrackedPaths;
 
 /// The length in bytes above which an index isn't read.
 const MOST_BYTES: u64 = 1 << 30;
@@ -22,15 +21,15 @@ pub(crate) struct IndexFile {
 }
 
 impl IndexFile {
-    /// The paths that it tracks: none where there is no file.
-    pub(crate) fn tracked<R: Files>(&self, rt: &R, alloc: Global) -> Result<TrackedPaths>
+    /// What it says: nothing where there is no file.
+    pub(crate) fn read<R: Files>(&self, rt: &R, alloc: Global) -> Result<Index>
         ensures { IfOk result IsOfIndex }
     {
         let Some(bytes) = self.bytes(rt, alloc)? else {
-            return Ok(TrackedPaths::none(alloc));
+            return Ok(Index::empty(alloc));
         };
         match Index::from_bytes(alloc, &bytes, self.format) {
-            Ok(index) => Ok(TrackedPaths::new(index)),
+            Ok(index) => Ok(index),
             Err(IndexFault::Memory) => Err(AllocError.into()),
             Err(fault) => bail!("{}: {fault}", self.name),
         }

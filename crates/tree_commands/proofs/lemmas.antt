@@ -16,6 +16,7 @@ pub mod EntryLemmas
 pub mod FindingLemmas
 pub mod IgnoreLemmas
 pub mod IgnoringLemmas
+pub mod LevelLemmas
 pub mod ListingLemmas
 pub mod ListingRuns
 pub mod ListsLemmas
@@ -30,4 +31,5 @@ pub mod SourceLemmas
 pub mod StackLemmas
 pub mod StartLemmas
 pub mod TopLemmas
+pub mod TrackedLemmas
 pub mod VisitLemmas

@@ -11,6 +11,7 @@ ghost use Rattle.glob_lines.specs.Transfers.{AppendsFront};
 ghost use Rattle.record_streams.specs.Faults.{is_write_fault, told_refusal};
 ghost use Rattle.told_paths.specs.declared.standpoint.LeadFault.TheVariants.{Empty, Outside};
 ghost use Rattle.told_paths.specs.Standpoints.{led, shown};
+ghost use Rattle.tree_commands.specs.declared.files.mark.Mark.TheVariants as marks;
 ghost use Rattle.tree_commands.specs.Answering.{Writes};
 ghost use Rattle.tree_commands.specs.CheckIgnore.{question_of};
 ghost use Rattle.tree_commands.specs.Files.{path_line};
@@ -18,7 +19,8 @@ ghost use Rattle.tree_commands.specs.TrackedFiles.{AreIgnored, is_submodule, lie
 
 use crate::answering::write_text;
 use crate::check_ignore::{IgnoreFault, IgnoreFlags, IgnoreSources, PathKinds, check_ignore_paths};
-use crate::path_lines::{LineForm, append_path_line};
+use crate::files::mark::Mark;
+use crate::files::writing::append_path_line;
 use git_index::{Entry, Kind};
 use gix_glob::search::Watched;
 use glob_lines::IgnoreLines;
@@ -77,11 +79,26 @@ fn paths_at<'a>(
 {
     let mut paths = Vec::new(alloc);
     'entries: for entry in entries {
-        if lies_at(entry, path, below, is_told_folder) {
-            paths.push(entry.path.as_slice())?;
-        }
+        push_lying(&mut paths, entry, path, below, is_told_folder)?;
     }
     Ok(paths)
+}
+
+/// Pushes the path of an entry, where that lies at or below a path.
+fn push_lying<'a>(
+    paths: &mut Vec<&'a [u8]>,
+    entry: &'a Entry,
+    path: &[u8],
+    below: &[u8],
+    is_told_folder: bool,
+) -> Result<(), AllocError>
+    requires { below.now ≡ path.now ++ slash ∷ [] }
+    ensures { OnOk result (map (λ (path : Bor (List ℕ)). path.now) paths.new.items ≡ map (λ (path : Bor (List ℕ)). path.now) paths.old.items ++ paths_at path.now is_told_folder (tracked entry.now ∷ [])) }
+{
+    if lies_at(entry, path, below, is_told_folder) {
+        paths.push(entry.path.as_slice())?;
+    }
+    Ok(())
 }
 
 /// Whether an entry lies at or below a path.
@@ -111,15 +128,15 @@ fn is_submodule(kind: Kind) -> bool
 pub fn write_paths<F: Drop, W: Write>(
     alloc: Global,
     standpoint: &Standpoint,
-    form: LineForm,
+    form: Form,
     paths: &[&[u8]],
     writer: &mut Watched<W>,
 ) -> Result<(), RecordFault<F>>
     requires { has_failed writer.old ≡ false }
     ensures ok { OnOk result (Appends (W.contents (inner writer.old)) (W.contents (inner writer.new))
-        (flat_map (path_line standpoint.now form) (map (λ (path : Bor (List ℕ)). path.now) paths.now))) }
+        (flat_map (path_line marks.Bare standpoint.now form) (map (λ (path : Bor (List ℕ)). path.now) paths.now))) }
     ensures cut { OnErr result (AppendsFront (W.contents (inner writer.old)) (W.contents (inner writer.new))
-        (flat_map (path_line standpoint.now form) (map (λ (path : Bor (List ℕ)). path.now) paths.now))) }
+        (flat_map (path_line marks.Bare standpoint.now form) (map (λ (path : Bor (List ℕ)). path.now) paths.now))) }
     ensures none { told_refusal result ≡ [] }
     ensures write { is_write_fault result ≡ has_failed writer.new }
 {
@@ -131,15 +148,15 @@ pub fn write_paths<F: Drop, W: Write>(
 fn lines_of(
     alloc: Global,
     standpoint: &Standpoint,
-    form: LineForm,
+    form: Form,
     paths: &[&[u8]],
 ) -> Result<Vec<u8>, AllocError>
-    ensures { IfOk result (λ text. text.items ≡ flat_map (path_line standpoint.now form) (map (λ (path : Bor (List ℕ)). path.now) paths.now)) }
+    ensures { IfOk result (λ text. text.items ≡ flat_map (λ (path : Bor (List ℕ)). path_line marks.Bare standpoint.now form path.now) paths.now) }
 {
     let mut text = Vec::new(alloc);
     let mut seen = Vec::new(alloc);
     'paths: for path in paths {
-        append_path_line(&mut text, &mut seen, standpoint, form, path)?;
+        append_path_line(&mut text, &mut seen, standpoint, form, Mark::Bare, path)?;
     }
     Ok(text)
 }
@@ -210,7 +227,7 @@ fn seen_paths(
     standpoint: &Standpoint,
     paths: &[&[u8]],
 ) -> Result<Vec<Vec<u8>>, AllocError>
-    ensures { IfOk result (λ seen. map vec_items seen.items ≡ map (shown standpoint.now) (map (λ (path : Bor (List ℕ)). path.now) paths.now)) }
+    ensures { IfOk result (λ seen. map vec_items seen.items ≡ map (λ (path : Bor (List ℕ)). shown standpoint.now path.now) paths.now) }
 {
     let mut all = Vec::with_capacity(alloc, paths.len())?;
     'paths: for path in paths {

@@ -1,8 +1,10 @@
 -- What the options of `status` ask for.
-use Rattle.std.specs.Prelude.{◌≡◌, ◌≢◌, ℕ, Bool, true, false, ◌==◌, ◌||◌, if◌then◌else◌, List, Option, None, Some, codes}
+use Rattle.std.specs.Prelude.{◌≡◌, ◌≢◌, ℕ, Bool, true, false, ◌==◌, ◌&&◌, ◌||◌, if◌then◌else◌, List, Option, None, Some, codes}
 use Rattle.std.specs.Str.{byte, bytes_eq}
+use Rattle.tree_words.specs.declared.status.IgnoredFiles.{IgnoredFiles}
 use Rattle.tree_words.specs.declared.status.IgnoredFiles.TheVariants as ignored
 use Rattle.tree_words.specs.declared.status.StatusFlags.{StatusFlags}
+use Rattle.tree_words.specs.declared.status.UntrackedFiles.{UntrackedFiles}
 use Rattle.tree_words.specs.declared.status.UntrackedFiles.TheVariants as untracked
 
 -- an option alone, or with this value
@@ -34,3 +36,21 @@ pub record GoTogether (flags : StatusFlags) (operand_count : ℕ) : Type 0 where
 -- no option
 abbrev pub none : StatusFlags
 none = record { untracked = untracked.Normal; ignored = ignored.No; nul = false }
+
+-- files are told that aren't tracked
+abbrev pub is_any_untracked : UntrackedFiles → Bool
+is_any_untracked untracked.No = false
+is_any_untracked untracked.Normal = true
+is_any_untracked untracked.All = true
+
+abbrev pub tells_untracked : StatusFlags → Bool
+tells_untracked flags = is_any_untracked flags.untracked
+
+-- files are told that are ignored: with `-uno` none
+abbrev pub is_any_ignored : IgnoredFiles → Bool
+is_any_ignored ignored.No = false
+is_any_ignored ignored.Traditional = true
+is_any_ignored ignored.Matching = true
+
+abbrev pub tells_ignored : StatusFlags → Bool
+tells_ignored flags = is_any_untracked flags.untracked && is_any_ignored flags.ignored

@@ -1,11 +1,11 @@
 //! The options of `status`.
 ghost use Rattle.std.specs.Prelude.{◌≡◌, MatchOption};
-ghost use Rattle.tree_words.specs.Status.{GoTogether, none};
+ghost use Rattle.tree_words.specs.Status.{GoTogether, none, tells_ignored, tells_untracked};
 
 use crate::flags::CommandFlags;
 
 /// Which files are told that aren't tracked.
-#[derive(Clone, Copy, PartialEq, Eq, Drop)]
+#[derive(Clone, Copy, Debug, PartialEq, Eq)]
 pub enum UntrackedFiles {
     /// `-uno`: none.
     No,
@@ -16,7 +16,7 @@ pub enum UntrackedFiles {
 }
 
 /// Which files are told that are ignored.
-#[derive(Clone, Copy, PartialEq, Eq, Drop)]
+#[derive(Clone, Copy, Debug, PartialEq, Eq)]
 pub enum IgnoredFiles {
     /// `--ignored=no`: none.
     No,
@@ -62,6 +62,20 @@ impl StatusFlags {
             }
             _ => None,
         }
+    }
+
+    /// Whether files are told that aren't tracked.
+    pub fn tells_untracked(self) -> bool
+        ensures { result ≡ tells_untracked self }
+    {
+        !matches!(self.untracked, UntrackedFiles::No)
+    }
+
+    /// Whether files are told that are ignored: with `-uno` none is.
+    pub fn tells_ignored(self) -> bool
+        ensures { result ≡ tells_ignored self }
+    {
+        self.tells_untracked() && !matches!(self.ignored, IgnoredFiles::No)
     }
 
     /// These, with what `-u` or `--untracked-files` says.
