@@ -32,12 +32,7 @@ pub(crate) struct PathLines {
 
 impl PathLines {
     /// There are none.
-    pub(crate) fn new(
-        alloc: Global,
-        standpoint: Standpoint,
-        form: Form,
-        mark: Mark,
-    ) -> PathLines
+    pub(crate) fn new(alloc: Global, standpoint: Standpoint, form: Form, mark: Mark) -> PathLines
         ensures { (result.standpoint ≡ standpoint) × (result.form ≡ form) × (result.mark ≡ mark) × (result.text.items ≡ []) }
     {
         PathLines {
