@@ -1,5 +1,6 @@
 //! The variables of the environment by which Git reads pathspecs otherwise: `check-ignore` takes none that is true.
-ghost use Rattle.std.specs.Prelude.{◌≡◌, IfOk, IsTrue, OnOk, false};
+ghost use Rattle.std.specs.Prelude.{◌≡◌, [], IfOk, IsTrue, OnOk, false};
+ghost use Rattle.std.specs.Io.KnownBytes.{Consumes};
 ghost use Rattle.gix_glob.specs.Watched.{has_failed, inner};
 
 use anyhow::{Result, bail};
@@ -28,7 +29,7 @@ pub(crate) fn refuse_settings<R: Env>(rt: &R, alloc: Global) -> Result<()> {
     Ok(())
 }
 
-/// The same, where paths are read: an input without a path isn't refused, and stays as it was.
+/// The same, where paths are read: an input without a path isn't refused, and nothing is taken of it.
 pub(crate) fn refuse_settings_for<R: Env, I: Read>(
     rt: &R,
     alloc: Global,
@@ -36,7 +37,7 @@ pub(crate) fn refuse_settings_for<R: Env, I: Read>(
 ) -> Result<()>
     requires { has_failed input.old ≡ false }
     ensures working { OnOk result (has_failed input.new ≡ false) }
-    ensures kept { OnOk result (I.remaining (inner input.new) ≡ I.remaining (inner input.old)) }
+    ensures kept { OnOk result (Consumes (I.remaining (inner input.old)) (I.remaining (inner input.new)) []) }
 {
     let Err(refusal) = refuse_settings(rt, alloc) else {
         return Ok(());
@@ -51,7 +52,7 @@ pub(crate) fn refuse_settings_for<R: Env, I: Read>(
 fn is_at_end<I: Read>(input: &mut Watched<I>) -> io::Result<bool>
     requires { has_failed input.old ≡ false }
     ensures working { IfOk result (λ _. has_failed input.new ≡ false) }
-    ensures kept { IfOk result (λ is_end. IsTrue is_end → I.remaining (inner input.new) ≡ I.remaining (inner input.old)) }
+    ensures kept { IfOk result (λ is_end. IsTrue is_end → Consumes (I.remaining (inner input.old)) (I.remaining (inner input.new)) []) }
 {
     let mut byte = [0];
     Ok(input.read(&mut byte)? == 0)

@@ -1,8 +1,7 @@
 -- Where a spelt path leads.
-use Rattle.std.specs.Prelude.{ℕ, ◌-◌, Bool, false, nat_eq, if◌then◌else◌, List, [], ◌∷◌, length, take, Option, None, Some, codes}
+use Rattle.std.specs.Prelude.{ℕ, ◌-◌, ◌==◌, Bool, false, nat_eq, if◌then◌else◌, List, [], ◌∷◌, length, take, Option, None, Some, codes}
 use Rattle.std.specs.List.{ends_with, list_any}
 use Rattle.std.specs.Option.{option_and_then, option_map_or}
-use Rattle.std.specs.Str.{bytes_eq}
 use Rattle.told_paths.specs.declared.standpoint.Standpoint.{Standpoint}
 use Rattle.told_paths.specs.Paths.{names_folder, parts_of}
 use Rattle.told_paths.specs.Standpoints.{led, literal_front}
@@ -17,7 +16,7 @@ without_slash path = if ends_in_slash path then take (length path - 1) path else
 
 -- a part without bytes
 abbrev pub is_empty : List ℕ → Bool
-is_empty part = bytes_eq part []
+is_empty part = length part == 0
 
 -- A path that is told from the top stands for itself: `.` and `..` are names in it. Only a slash at its end isn't of it. It leads nowhere
 -- where a part of it has no bytes.

@@ -176,11 +176,7 @@ impl<
         ensures same { self.new.is_any ≡ self.old.is_any }
         ensures faults { IfErr result (Refuses Q.question.leads Q.question.tracked told.now) }
     {
-        if is_usual
-            && is_path(told)
-            && self.standpoint.is_at_top()
-            && self.tracked.is_empty()
-        {
+        if is_usual && is_path(told) && self.standpoint.is_at_top() && self.tracked.is_empty() {
             return self.finder.find(told, told);
         }
         self.find_led(told)
@@ -280,11 +276,7 @@ impl<
 
     /// Goes where a told path leads: `path` becomes what is asked about, with a slash at its end where it is told as a folder's. The answer
     /// is how many of its bytes come before that slash.
-    fn lead(
-        &mut self,
-        told: &[u8],
-        spelt: &Pathspec<'_>,
-    ) -> Result<usize, IgnoreFault<S::Fault>>
+    fn lead(&mut self, told: &[u8], spelt: &Pathspec<'_>) -> Result<usize, IgnoreFault<S::Fault>>
         requires { spelt_by told.now ≡ Some (seen spelt.now) }
         ensures leads { IfOk result (λ bare. (Q.question.leads told.now ≡ Some (take bare self.new.path.items))
             × (self.new.path.items ≡ told_path told.now (take bare self.new.path.items)) × (bare ≤ length self.new.path.items)) }
@@ -304,11 +296,7 @@ impl<
     }
 
     /// Goes where a told path leads. It answers whether the path is told as a folder.
-    fn go(
-        &mut self,
-        told: &[u8],
-        spelt: &Pathspec<'_>,
-    ) -> Result<bool, IgnoreFault<S::Fault>>
+    fn go(&mut self, told: &[u8], spelt: &Pathspec<'_>) -> Result<bool, IgnoreFault<S::Fault>>
         requires { spelt_by told.now ≡ Some (seen spelt.now) }
         ensures leads { IfOk result (λ is_folder. (Q.question.leads told.now ≡ Some self.new.path.items) × (is_folder ≡ word_names_folder told.now)) }
         ensures finder { self.new.finder ≡ self.old.finder }

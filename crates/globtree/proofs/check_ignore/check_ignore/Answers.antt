@@ -9,6 +9,7 @@ use Rattle.globtree.specs.Answers.{ReadsIgnore, TellsIgnore, case_by}
 use Rattle.globtree.specs.Running.{asked_by_flags}
 use Rattle.globtree.specs.declared.signs.IndexUse.{IndexUse}
 use Rattle.globtree.specs.declared.signs.IndexUse.TheVariants.{Nothing, Paths}
+use Rattle.globtree.proofs.lemmas.InputLemmas.{read_from_front}
 use Rattle.globtree.proofs.check_ignore.check_ignore.Goals as goal
 
 -- without an index nothing is taken from it
@@ -28,7 +29,9 @@ returns-then-flags-clause-answered g c =
     let old : Option (List ℕ) = g.O.Write.contents (inner c.args.output.now) in
     let new : Option (List ℕ) = g.O.Write.contents (inner c.answer_input.new.output) in
     let by_rules : c.in_ok-tree.tree.rules ≡ by_git (case_by c.args.options folds) = c.in_ok-tree.ensures ∙ ap by_git c.case_of-case.ensures in
-    let asked = subst (λ asked. ReadsIgnore standpoint tracked c.in_ok-tree.tree.rules asked is_any left rest old new) c.asked_by_flags-asked.ensures c.in_ok-is_any.ensures in
+    let here : Option (List ℕ) = g.I.Read.remaining (inner c.refuse_settings_for.new.input) in
+    let kept = read_from_front standpoint tracked c.in_ok-tree.tree.rules c.asked_by_flags-asked.result is_any left here rest old new c.in_ok-refuse_settings_for.ensures.kept c.in_ok-is_any.ensures in
+    let asked = subst (λ asked. ReadsIgnore standpoint tracked c.in_ok-tree.tree.rules asked is_any left rest old new) c.asked_by_flags-asked.ensures kept in
     record {
       standpoint = standpoint;
       folds = folds;
