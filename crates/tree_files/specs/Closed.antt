@@ -1,10 +1,12 @@
 -- Folders in which nothing can be seen.
-use Rattle.std.specs.Prelude.{◌≡◌, ◌≢◌, ◌⊎◌, ℕ, Bool, IsTrue, List, [], ◌++◌}
+use Rattle.std.specs.Prelude.{◌≢◌, ◌⊎◌, ℕ, Bool, IsTrue, nat_eq, List, []}
+use Rattle.std.specs.List.{starts_with}
 use Rattle.std.specs.BTreeSet.{contains_by}
 use Rattle.std.specs.Cmp.Lexicographic.{slice_cmp}
 use Rattle.std.specs.Ordering.{nat_cmp}
-use Rattle.glob_trees.specs.Ways.{Folder}
+
 use Rattle.told_paths.specs.Paths.{folder_of}
+use Rattle.glob_trees.specs.Ways.{Folder}
 use Rattle.tree_files.specs.declared.closed_folders.ClosedFolders.{ClosedFolders}
 
 -- whether a folder is known to be one that can't be looked at
@@ -22,7 +24,7 @@ HasShut closed folder = (front : Folder) × IsOnTheWay front folder × IsTrue (i
 
 -- it begins with the one that was found last and its slash
 abbrev pub IsBelowLast : ClosedFolders → Folder → Type 0
-IsBelowLast closed folder = (closed.last.items ≢ []) × ((rest : List ℕ) × (folder ≡ closed.last.items ++ rest))
+IsBelowLast closed folder = (closed.last.items ≢ []) × IsTrue (starts_with nat_eq folder closed.last.items)
 
 -- nothing can be seen in it
 abbrev pub IsClosed : ClosedFolders → Folder → Type 0
