@@ -40,6 +40,9 @@ pub enum CheckFault {
     /// answer about a path has room for one.
     #[error("{0}")]
     Unready(String),
+    /// A file of patterns isn't in the work tree, and Git reads it from the index.
+    #[error("'{0}' is in the index alone, from which it isn't read")]
+    InIndexAlone(String),
     /// A folder or a path that has to be looked at has a name that is no UTF-8 text.
     #[error("'{0}' is no UTF-8 text, so it can't be opened")]
     NotText(String),

@@ -1,15 +1,18 @@
 //! What a real work tree tells `files`: the names in its folders, what stands there, and their ignore files. What can't be looked at is told.
+ghost use Rattle.std.specs.Prelude.{◌≡◌, ◌⊎◌, IfOk, MatchOption, if◌then◌else◌};
+ghost use Rattle.std.specs.Fs.{IsDir, IsFile, IsSymlink};
+ghost use Rattle.tree_commands.specs.Files.{is_folder};
 
 use crate::fault::CheckFault;
 use crate::folder_names::NameReader;
+use crate::indexed_files::IndexedFiles;
 use crate::seen_files::seen_file_list;
-use crate::sources::{BY_GIT, FolderFiles};
+use crate::sources::{BY_GIT, FolderFiles, IGNORE_FILE};
 use crate::standing::{OwnFile, file_in, own_file};
 use crate::telling::tell_line;
 use gix_glob::search::pattern::List;
 use glob_lines::IgnoreLines;
 use glob_trees::{FolderLists, list_in_folder};
-use memchr::memrchr;
 use repository_files::Sight;
 use std::alloc::{AllocError, Global};
 use std::fmt::Display;
@@ -17,6 +20,7 @@ use std::fs::FileType;
 use std::io::ErrorKind;
 use std::rt::Files;
 use std::{fs, io};
+use told_paths::folder_of;
 use tree_commands::files::source::{EntryKind, FileSource, FolderNames};
 
 /// The folders below the one that the program stands in.
@@ -36,13 +40,17 @@ pub struct TreeFiles<'a, R: Files + Eprint> {
 }
 
 impl<'a, R: Files + Eprint> TreeFiles<'a, R> {
-    /// Nothing was looked at yet.
-    pub fn new(rt: &'a R, alloc: Global) -> Result<TreeFiles<'a, R>, AllocError> {
+    /// Nothing was looked at yet. Where an ignore file that is in the index isn't in the work tree, what lies in its folder can't be listed.
+    pub fn new(
+        rt: &'a R,
+        alloc: Global,
+        indexed: IndexedFiles,
+    ) -> Result<TreeFiles<'a, R>, AllocError> {
         Ok(TreeFiles {
             rt,
             alloc,
             reader: NameReader::new(alloc)?,
-            above: FolderFiles::new(rt, alloc),
+            above: FolderFiles::new(rt, alloc, indexed),
             bytes: Vec::new(alloc),
             has_begun: false,
             is_short: false,
@@ -101,7 +109,8 @@ impl<'a, R: Files + Eprint> TreeFiles<'a, R> {
 
     /// The list of the ignore file of a folder that was entered, without its base.
     fn own_list(&mut self, folder: &[u8]) -> Result<List<IgnoreLines>, CheckFault> {
-        let file = file_in(self.alloc, text_of(self.alloc, folder)?, ".gitignore")?;
+        self.above.check_indexed(folder)?;
+        let file = file_in(self.alloc, text_of(self.alloc, folder)?, IGNORE_FILE)?;
         let OwnFile::Found(found) = own_file(self.rt, self.alloc, file.as_str())? else {
             return Ok(List::empty(self.alloc));
         };
@@ -188,7 +197,9 @@ impl<'a, R: Files + Eprint> FileSource for TreeFiles<'a, R> {
 }
 
 /// What it is that is listed, if anything.
-fn kind_of(kind: FileType) -> Option<EntryKind> {
+fn kind_of(kind: FileType) -> Option<EntryKind>
+    ensures { MatchOption result (¬ IsDir kind × ¬ IsFile kind × ¬ IsSymlink kind) (λ found. if is_folder found then IsDir kind else (IsFile kind ⊎ IsSymlink kind)) }
+{
     if kind.is_dir() {
         Some(EntryKind::Folder)
     } else if kind.is_file() || kind.is_symlink() {
@@ -198,16 +209,10 @@ fn kind_of(kind: FileType) -> Option<EntryKind> {
     }
 }
 
-/// The path of the folder that a path lies in.
-fn folder_of(path: &[u8]) -> &[u8] {
-    match memrchr(b'/', path) {
-        Some(at) => &path[..at],
-        None => b"",
-    }
-}
-
 /// A path as text, which is what the system is asked by.
-fn text_of(alloc: Global, path: &[u8]) -> Result<&str, CheckFault> {
+fn text_of(alloc: Global, path: &[u8]) -> Result<&str, CheckFault>
+    ensures { IfOk result (λ text. text.now ≡ path.entry.now) }
+{
     match str::from_utf8(path) {
         Ok(text) => Ok(text),
         Err(_bad) => Err(CheckFault::NotText(String::from_utf8_lossy(alloc, path)?)),
