@@ -1,4 +1,5 @@
 pub mod Ceilings
 pub mod Giving
 pub mod Limits
+pub mod NestedLemmas
 pub mod Upward
