@@ -50,5 +50,6 @@ pub record IsTreeOf (standpoint : Standpoint) (current : List ℕ) (opened : Ope
   pub attributes : option_map vec_items tree.attributes ≡ opened.core.attributes
   pub own_excludes : opened.exclude_name ≡ Some (string_bytes tree.own_excludes)
   pub own_attributes : string_bytes tree.own_attributes ≡ told_from current opened.attributes_file
+  pub git_folder : option_map vec_items tree.git_folder ≡ Some (told_from current opened.git_folder)
   pub index : option_map (λ (index : IndexFile). string_bytes index.name) tree.index ≡ Some (told_from current opened.index_file)
   pub format : option_map (λ (index : IndexFile). index.format) tree.index ≡ Some (format_by (last_value (codes "extensions.objectformat") opened.config))

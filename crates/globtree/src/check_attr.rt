@@ -68,7 +68,7 @@ pub(crate) fn check_attr<R: Files + Env + Eprint + AllocGlobal, I: Read, O: Writ
     }
     let asked_names = bytes_of(alloc, names)?;
     let question = question_of(&outer, &asked_names, options, flags);
-    let source = AttributeFiles::new(rt, alloc);
+    let source = AttributeFiles::new(rt, alloc, &outer.indexed);
     if flags.stdin {
         answer_input(alloc, &question, source, input, output)?;
         return Ok(ANSWERED);

@@ -7,8 +7,8 @@ ghost use Rattle.globtree.specs.Running.{IsAnswered, asked_by_flags};
 
 use crate::fronts::{case_of, fronts_of, tree_behind};
 use crate::pathspec_settings::{refuse_settings, refuse_settings_for};
+use crate::index_use::IndexUse;
 use crate::running::ANSWERED;
-use crate::signs::IndexUse;
 use anyhow::{Context, Result, bail};
 use gix_glob::search::Watched;
 use record_streams::RecordFault;
@@ -49,7 +49,7 @@ pub(crate) fn check_ignore<R: Files + Env + Eprint + AllocGlobal, I: Read, O: Wr
     }
     let fronts = fronts_of(rt, alloc, options, index_by(flags))?;
     let case = case_of(options, fronts.folds);
-    let tree = tree_behind(rt, alloc, fronts.lists, case)?;
+    let tree = tree_behind(rt, alloc, fronts.lists, &fronts.indexed, case)?;
     let kinds = FileKinds::new(rt, alloc);
     let tracked = TrackedPaths::new(fronts.tracked);
     let sources = IgnoreSources {

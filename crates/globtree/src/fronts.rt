@@ -5,8 +5,8 @@ ghost use Rattle.globtree.specs.Answers.{case_by};
 ghost use Rattle.globtree.specs.Tracked.{IsOfIndex};
 
 use crate::excludes::{excludes, named_excludes};
+use crate::index_use::{IndexUse, Taken, taken};
 use crate::moving::go_to_folders;
-use crate::signs::{IndexUse, tracked_after_signs};
 use crate::work_tree::{WorkTree, work_tree};
 use anyhow::{Context, Result};
 use git_index::Index;
@@ -18,7 +18,7 @@ use glob_trees::Tree;
 use std::alloc::Global;
 use std::rt::{Env, Files};
 use told_paths::{Quoting, Standpoint};
-use tree_files::{FolderFiles, path_text};
+use tree_files::{FolderFiles, IndexedFiles, path_text};
 use tree_words::Options;
 
 /// About how many bytes are kept of folders and their patterns.
@@ -37,6 +37,10 @@ pub(crate) struct Fronts {
     pub(crate) quoting: Quoting,
     /// The paths that the index tracks, where it is read.
     pub(crate) tracked: Index,
+    /// The folders whose ignore file Git takes from the index if the work tree hasn't it.
+    pub(crate) indexed: IndexedFiles,
+    /// The git folder of the repository, where there is one.
+    pub(crate) git_folder: Option<Vec<u8>>,
 }
 
 /// Goes to the top of the work tree, and reads the files that count before those of all folders.
@@ -55,13 +59,14 @@ pub(crate) fn fronts_of<R: Files + Env + Eprint + AllocGlobal>(
         None => None,
     };
     let tree = work_tree(rt, alloc, options)?;
-    let tracked = tracked_after_signs(rt, alloc, &tree, index)?;
+    let Taken { tracked, indexed } = taken(rt, alloc, &tree.index, index)?;
     let WorkTree {
         standpoint,
         folds,
         quoting,
         excludes: file,
         own_excludes,
+        git_folder,
         ..
     } = tree;
     let outer = match named {
@@ -78,6 +83,8 @@ pub(crate) fn fronts_of<R: Files + Env + Eprint + AllocGlobal>(
         folds,
         quoting,
         tracked,
+        indexed,
+        git_folder,
     })
 }
 
@@ -98,11 +105,12 @@ pub(crate) fn tree_behind<'a, R: Files + Eprint>(
     rt: &'a R,
     alloc: Global,
     lists: Vec<PreparedList<IgnoreLines>>,
+    indexed: &'a IndexedFiles,
     case: Case,
 ) -> Result<Tree<IgnoreLines, FolderFiles<'a, R>>>
     ensures { IfOk result (λ tree. tree.rules ≡ by_git case) }
 {
-    let source = FolderFiles::new(rt, alloc);
+    let source = FolderFiles::new(rt, alloc, indexed);
     let mut tree = Tree::new(alloc, source, lists, Rules::by_git(case)).context(
         "the bases of lists",
     )?;

@@ -7,10 +7,10 @@ ghost use Rattle.globtree.specs.Answers.{AnswersFiles, ListsFound, ListsIgnored,
 ghost use Rattle.globtree.specs.Running.{IsAnswered, chosen_by, folders_by, form_by};
 
 use crate::fronts::{Fronts, case_of, fronts_of, tree_behind};
+use crate::index_use::IndexUse;
 use crate::list_tracked::{list_tracked, list_tracked_ignored};
 use crate::listing::{copies_of, run_listing};
 use crate::running::ANSWERED;
-use crate::signs::IndexUse;
 use anyhow::{Result, bail};
 use gix_glob::search::Watched;
 use std::alloc::{AllocError, Global};
@@ -65,7 +65,7 @@ fn names_folders_otherwise(flags: FilesFlags) -> bool {
 /// What is taken from the index: which paths are tracked, unless all files are listed.
 fn index_by(flags: FilesFlags) -> IndexUse {
     if flags.are_usual() {
-        IndexUse::Nothing
+        IndexUse::Patterns
     } else {
         IndexUse::Paths
     }
@@ -93,7 +93,7 @@ fn list_found<R: Files + Env + Eprint + AllocGlobal + Clone + Drop, O: Write>(
         fronts: copies_of(alloc, &fronts.lists)?,
         case: case_of(options, fronts.folds),
     };
-    run_listing(rt, alloc, listing, &fronts.tracked, folder, output)
+    run_listing(rt, alloc, listing, fronts, folder, output)
 }
 
 /// Which files are listed that are found: without options those that aren't ignored; else what the patterns say, where they count.
@@ -141,12 +141,13 @@ fn list_tracked_by<R: Files + Env + Eprint + AllocGlobal, O: Write>(
         standpoint,
         lists,
         tracked,
+        indexed,
         ..
     } = fronts;
     if !flags.ignored {
         return list_tracked(alloc, &standpoint, form, &tracked, folder, output);
     }
-    let tree = tree_behind(rt, alloc, lists, case)?;
+    let tree = tree_behind(rt, alloc, lists, &indexed, case)?;
     list_tracked_ignored(rt, alloc, &standpoint, form, &tracked, tree, folder, output)
 }
 

@@ -4,19 +4,20 @@ ghost use Rattle.gix_glob.specs.Watched.{inner};
 ghost use Rattle.globtree.specs.Answers.{ListsFound};
 ghost use Rattle.globtree.specs.Running.{IsAnswered};
 
+use crate::fronts::Fronts;
 use crate::running::ANSWERED;
 use anyhow::{Context, Result};
-use git_index::Index;
 use gix_glob::search::Watched;
 use glob_lines::IgnoreLines;
 use glob_lists::PreparedList;
+use repository_files::{DiskFiles, RepositoryVariables, User};
 use std::alloc::{AllocError, Global};
 use std::io::Write;
 use std::rt::{Env, Files};
 use told_paths::LeadFault;
 use tree_commands::files::fault::FilesFault;
 use tree_commands::files::{Listing, run_files};
-use tree_files::{CheckFault, TreeFiles};
+use tree_files::{CheckFault, NestedRepositories, TreeFiles};
 
 /// What a command ends with where something couldn't be read.
 pub(crate) const NOT_ALL_LISTED: u8 = 1;
@@ -26,22 +27,38 @@ pub(crate) fn run_listing<R: Files + Env + Eprint + AllocGlobal + Clone + Drop, 
     rt: &R,
     alloc: Global,
     listing: Listing,
-    tracked: &Index,
+    fronts: &Fronts,
     folder: &str,
     output: &mut Watched<O>,
 ) -> Result<u8>
     ensures status { IfOk result IsAnswered }
     ensures found { IfOk result (λ _. ListsFound listing.mark listing.standpoint listing.form (O.contents (inner output.old)) (O.contents (inner output.new))) }
 {
-    let mut source = TreeFiles::new(rt, alloc)?;
+    let nested = nested_repositories(rt, alloc, fronts)?;
+    let mut source = TreeFiles::new(rt, alloc, &fronts.indexed, nested)?;
     let told = folder.as_bytes();
-    match run_files(alloc, listing, tracked, &mut source, told, output) {
+    match run_files(alloc, listing, &fronts.tracked, &mut source, told, output) {
         Ok(()) if source.is_short() => Ok(NOT_ALL_LISTED),
         Ok(()) => Ok(ANSWERED),
         Err(FilesFault::Write(error)) => Err(error).context("writing"),
         Err(FilesFault::Endless) => None.context("a tree without an end"),
         Err(fault) => Err(fault_of(alloc, told, fault).into()),
     }
+}
+
+/// What tells of a folder whether it is a repository of its own. Without a repository the variables of the environment don't count.
+fn nested_repositories<'a, R: Files + Env>(
+    rt: &'a R,
+    alloc: Global,
+    fronts: &Fronts,
+) -> Result<NestedRepositories<'a, R>> {
+    let files = DiskFiles::new(rt, alloc, User::of_process(rt, alloc)?);
+    let variables = match &fronts.git_folder {
+        Some(_folder) => RepositoryVariables::read(rt, alloc)?,
+        None => RepositoryVariables::none(),
+    };
+    let own = fronts.git_folder.as_deref();
+    Ok(NestedRepositories::new(alloc, files, variables, own)?)
 }
 
 /// Another fault as a path got no answer for it.

@@ -1,14 +1,14 @@
 //! The attribute files that don't depend on a path: the system's, the user's, the top's and the repository's own.
 
+use crate::index_use::{IndexUse, Taken, taken};
 use crate::moving::go_to_folders;
-use crate::signs::{IndexUse, tracked_after_signs};
 use crate::work_tree::{WorkTree, work_tree};
 use anyhow::Result;
 use std::alloc::Global;
 use std::rt::{Env, Files};
 use told_paths::{Quoting, Standpoint};
 use tree_commands::check_attr::OuterFiles;
-use tree_files::{AttributeFiles, path_text};
+use tree_files::{AttributeFiles, IndexedFiles, path_text};
 use tree_words::Options;
 
 /// The bytes of the files that are read before any path is asked for, and where paths are told from.
@@ -23,6 +23,8 @@ pub(crate) struct OuterAttributes {
     user: Vec<u8>,
     top: Vec<u8>,
     info: Vec<u8>,
+    /// The folders whose attribute file Git takes from the index if the work tree hasn't it.
+    pub(crate) indexed: IndexedFiles,
 }
 
 impl OuterAttributes {
@@ -44,11 +46,12 @@ pub(crate) fn outer_attributes<R: Files + Env + Eprint + AllocGlobal>(
     options: Options<'_>,
 ) -> Result<OuterAttributes> {
     go_to_folders(rt, alloc, options)?;
-    let reader = AttributeFiles::new(rt, alloc);
+    let none = IndexedFiles::none(alloc);
+    let reader = AttributeFiles::new(rt, alloc, &none);
     let system = named_file(alloc, &reader, options.system)?;
     let named = named_file(alloc, &reader, options.attributes)?;
     let tree = work_tree(rt, alloc, options)?;
-    let _none = tracked_after_signs(rt, alloc, &tree, IndexUse::Attributes)?;
+    let Taken { indexed, .. } = taken(rt, alloc, &tree.index, IndexUse::Attributes)?;
     let WorkTree {
         standpoint,
         folds,
@@ -61,7 +64,7 @@ pub(crate) fn outer_attributes<R: Files + Env + Eprint + AllocGlobal>(
         Some(bytes) => bytes,
         None => usual_file(alloc, &reader, attributes)?,
     };
-    let top = reader.top()?;
+    let top = AttributeFiles::new(rt, alloc, &indexed).top()?;
     let info = reader.file(own_attributes)?;
     Ok(OuterAttributes {
         standpoint,
@@ -71,6 +74,7 @@ pub(crate) fn outer_attributes<R: Files + Env + Eprint + AllocGlobal>(
         user,
         top,
         info,
+        indexed,
     })
 }
 

@@ -6,9 +6,9 @@ ghost use Rattle.globtree.specs.Answers.{AnswersStatus, IsAtTop};
 ghost use Rattle.globtree.specs.Running.{IsAnswered, form_by};
 
 use crate::fronts::{Fronts, case_of, fronts_of};
+use crate::index_use::IndexUse;
 use crate::listing::{copies_of, run_listing};
 use crate::running::ANSWERED;
-use crate::signs::IndexUse;
 use anyhow::{Context, Result, bail};
 use gix_glob::search::Watched;
 use std::alloc::Global;
@@ -43,12 +43,12 @@ pub(crate) fn show_status<R: Files + Env + Eprint + AllocGlobal + Clone + Drop, 
     let mut status = ANSWERED;
     if flags.tells_untracked() {
         let listing = listing_of(alloc, options, flags, &fronts, Mark::Untracked)?;
-        status = run_listing(rt, alloc, listing, &fronts.tracked, ".", output)?;
+        status = run_listing(rt, alloc, listing, &fronts, ".", output)?;
     }
     if flags.tells_ignored() {
         // what can't be read for those that aren't ignored can't be for these, which lie in more folders
         let listing = listing_of(alloc, options, flags, &fronts, Mark::Ignored)?;
-        status = run_listing(rt, alloc, listing, &fronts.tracked, ".", output)?;
+        status = run_listing(rt, alloc, listing, &fronts, ".", output)?;
     }
     Ok(status)
 }

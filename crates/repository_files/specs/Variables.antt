@@ -16,6 +16,10 @@ environment_of words = record {
   across_file_systems = words.across_file_systems;
 }
 
+-- none of them is set
+abbrev pub no_environment : Environment (List ℕ)
+no_environment = record { git_dir = None; work_tree = None; common_dir = None; index_file = None; object_directory = None; ceiling_directories = None; across_file_systems = false }
+
 -- what a variable says that is a boolean; one that isn't set is false
 abbrev pub said_by : Option (List ℕ) → Option Bool
 said_by None = Some false

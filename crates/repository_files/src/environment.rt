@@ -56,6 +56,21 @@ impl RepositoryVariables {
         })
     }
 
+    /// None of them is set.
+    pub fn none() -> RepositoryVariables
+        ensures { environment_of result ≡ no_environment }
+    {
+        RepositoryVariables {
+            git_dir: None,
+            work_tree: None,
+            common_dir: None,
+            index_file: None,
+            object_directory: None,
+            ceiling_directories: None,
+            across_file_systems: false,
+        }
+    }
+
     /// The same, as `git_repository` takes it.
     pub fn environment(&self) -> Environment<&[u8]>
         ensures { environment_with (λ b. b.now) result ≡ environment_of self.now }

@@ -25,12 +25,16 @@ const FILE_LIMIT: u64 = 104_857_600;
 pub struct AttributeFiles<'a, R> {
     rt: &'a R,
     alloc: Global,
-    indexed: IndexedFiles,
+    indexed: &'a IndexedFiles,
 }
 
 impl<'a, R> AttributeFiles<'a, R> {
     /// None was read yet. Where one of those that are in the index isn't in the work tree, its folder is a fault.
-    pub fn new(rt: &'a R, alloc: Global, indexed: IndexedFiles) -> AttributeFiles<'a, R> {
+    pub fn new(
+        rt: &'a R,
+        alloc: Global,
+        indexed: &'a IndexedFiles,
+    ) -> AttributeFiles<'a, R> {
         AttributeFiles { rt, alloc, indexed }
     }
 }

@@ -43,6 +43,9 @@ pub enum CheckFault {
     /// A file of patterns isn't in the work tree, and Git reads it from the index.
     #[error("'{0}' is in the index alone, from which it isn't read")]
     InIndexAlone(String),
+    /// What makes a folder a repository of its own can't be told.
+    #[error("{0}")]
+    Repository(String),
     /// A folder or a path that has to be looked at has a name that is no UTF-8 text.
     #[error("'{0}' is no UTF-8 text, so it can't be opened")]
     NotText(String),

@@ -6,6 +6,7 @@ ghost use Rattle.tree_commands.specs.Files.{is_folder};
 use crate::fault::CheckFault;
 use crate::folder_names::NameReader;
 use crate::indexed_files::IndexedFiles;
+use crate::nested::NestedRepositories;
 use crate::seen_files::seen_file_list;
 use crate::sources::{BY_GIT, FolderFiles, IGNORE_FILE};
 use crate::standing::{OwnFile, file_in, own_file};
@@ -31,6 +32,7 @@ pub struct TreeFiles<'a, R: Files + Eprint> {
     reader: NameReader,
     /// The ignore files of the folders above the path at which the listing begins.
     above: FolderFiles<'a, R>,
+    nested: NestedRepositories<'a, R>,
     /// The bytes of the file of patterns that was read last.
     bytes: Vec<u8>,
     /// Whether a folder was entered: till then the path is looked at at which the listing begins, and the folders above it.
@@ -44,13 +46,15 @@ impl<'a, R: Files + Eprint> TreeFiles<'a, R> {
     pub fn new(
         rt: &'a R,
         alloc: Global,
-        indexed: IndexedFiles,
+        indexed: &'a IndexedFiles,
+        nested: NestedRepositories<'a, R>,
     ) -> Result<TreeFiles<'a, R>, AllocError> {
         Ok(TreeFiles {
             rt,
             alloc,
             reader: NameReader::new(alloc)?,
             above: FolderFiles::new(rt, alloc, indexed),
+            nested,
             bytes: Vec::new(alloc),
             has_begun: false,
             is_short: false,
@@ -60,6 +64,15 @@ impl<'a, R: Files + Eprint> TreeFiles<'a, R> {
     /// Whether something couldn't be read.
     pub fn is_short(&self) -> bool {
         self.is_short
+    }
+
+    /// What is found in a folder of which these are the names.
+    fn found_in(&self, folder: &[u8], bytes: Vec<u8>) -> Result<FolderNames, CheckFault> {
+        let mut found = FolderNames::of_names(bytes);
+        if found.has_git && !folder.is_empty() {
+            found.has_git = self.is_repository(folder)?;
+        }
+        Ok(found)
     }
 
     /// What is found in a folder whose names can't be read: where it is a repository of its own, that is known. Else the error is told.
@@ -103,8 +116,8 @@ impl<'a, R: Files + Eprint> TreeFiles<'a, R> {
 
     /// Whether a folder is the top of a repository of its own.
     fn is_repository(&self, folder: &[u8]) -> Result<bool, CheckFault> {
-        let file = file_in(self.alloc, text_of(self.alloc, folder)?, ".git")?;
-        Ok(fs::symlink_metadata(self.rt, file.as_str()).is_ok())
+        let git = file_in(self.alloc, text_of(self.alloc, folder)?, ".git")?;
+        self.nested.has(git.as_bytes())
     }
 
     /// The list of the ignore file of a folder that was entered, without its base.
@@ -155,7 +168,7 @@ impl<'a, R: Files + Eprint> FileSource for TreeFiles<'a, R> {
             text_of(self.alloc, folder)?
         };
         match self.reader.read(self.rt, name) {
-            Ok(bytes) => self.with_texts(folder, FolderNames::of_names(bytes)),
+            Ok(bytes) => self.with_texts(folder, self.found_in(folder, bytes)?),
             Err(error) => self.without_names(folder, error),
         }
     }

@@ -7,8 +7,8 @@ use Rattle.tree_words.specs.declared.operands.Operands.{Operands}
 use Rattle.tree_words.specs.Operands.{operands_among}
 use Rattle.globtree.specs.Answers.{ReadsIgnore, TellsIgnore, case_by}
 use Rattle.globtree.specs.Running.{asked_by_flags}
-use Rattle.globtree.specs.declared.signs.IndexUse.{IndexUse}
-use Rattle.globtree.specs.declared.signs.IndexUse.TheVariants.{Nothing, Paths}
+use Rattle.globtree.specs.declared.index_use.IndexUse.{IndexUse}
+use Rattle.globtree.specs.declared.index_use.IndexUse.TheVariants.{Nothing, Paths}
 use Rattle.globtree.proofs.lemmas.InputLemmas.{read_from_front}
 use Rattle.globtree.proofs.check_ignore.check_ignore.Goals as goal
 
