@@ -40,7 +40,10 @@ fn answer_of(fault: FindFault<Vec<u8>>) -> Result<bool, FindFault<Vec<u8>>>
 {
     match fault {
         FindFault::At(Wrong::Unreadable, _file) => Ok(true),
-        FindFault::At(Wrong::TooLarge | Wrong::Format | Wrong::NoPath | Wrong::NoGitFolder, _path) => Ok(false),
+        FindFault::At(
+            Wrong::TooLarge | Wrong::Format | Wrong::NoPath | Wrong::NoGitFolder,
+            _path,
+        ) => Ok(false),
         fault => Err(fault),
     }
 }

@@ -6,8 +6,8 @@ ghost use Rattle.globtree.specs.Answers.{AnswersIgnore, ReadsIgnore, TellsIgnore
 ghost use Rattle.globtree.specs.Running.{IsAnswered, asked_by_flags};
 
 use crate::fronts::{case_of, fronts_of, tree_behind};
-use crate::pathspec_settings::{refuse_settings, refuse_settings_for};
 use crate::index_use::IndexUse;
+use crate::pathspec_settings::{refuse_settings, refuse_settings_for};
 use crate::running::ANSWERED;
 use anyhow::{Context, Result, bail};
 use gix_glob::search::Watched;

@@ -3,7 +3,7 @@ ghost use Rattle.std.specs.Prelude.{◌≡◌, ◌↔◌, IsErr, IfOk, None, Som
 ghost use Rattle.std.specs.Option.{option_copied};
 ghost use Rattle.std.specs.Vec.{vec_items};
 ghost use Rattle.git_repository.specs.Environments.{environment_with};
-ghost use Rattle.repository_files.specs.Variables.{across_of, environment_of};
+ghost use Rattle.repository_files.specs.Variables.{across_of, environment_of, no_environment};
 
 use crate::fault::VariableFault;
 use crate::variables::{said_by, variable};

@@ -30,11 +30,7 @@ pub struct AttributeFiles<'a, R> {
 
 impl<'a, R> AttributeFiles<'a, R> {
     /// None was read yet. Where one of those that are in the index isn't in the work tree, its folder is a fault.
-    pub fn new(
-        rt: &'a R,
-        alloc: Global,
-        indexed: &'a IndexedFiles,
-    ) -> AttributeFiles<'a, R> {
+    pub fn new(rt: &'a R, alloc: Global, indexed: &'a IndexedFiles) -> AttributeFiles<'a, R> {
         AttributeFiles { rt, alloc, indexed }
     }
 }

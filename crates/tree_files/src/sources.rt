@@ -38,11 +38,7 @@ pub struct FolderFiles<'a, R> {
 
 impl<'a, R> FolderFiles<'a, R> {
     /// None was read yet. Where one of those that are in the index isn't in the work tree, a list of its folder is a fault.
-    pub fn new(
-        rt: &'a R,
-        alloc: Global,
-        indexed: &'a IndexedFiles,
-    ) -> FolderFiles<'a, R> {
+    pub fn new(rt: &'a R, alloc: Global, indexed: &'a IndexedFiles) -> FolderFiles<'a, R> {
         FolderFiles {
             rt,
             alloc,

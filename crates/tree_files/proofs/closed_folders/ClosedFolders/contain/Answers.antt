@@ -20,7 +20,7 @@ returns c = (
   where
     not_last : (c : goal.After-has_shut) → ¬ IsBelowLast c.args.self.now c.args.folder.now
     not_last c below = elim c.else-not-is_empty.branch [
-      else-not-is_empty-via-then-not-is_empty+else-starts_with w ↦ false≢true (w.if-starts_with.ensures.value ∙ subst (λ last. IsTrue (starts_with nat_eq c.args.folder.now last)) (sym w.deref.ensures.value) below.1)
+      | else-not-is_empty-via-then-not-is_empty+else-starts_with w ↦ false≢true (w.if-starts_with.ensures.value ∙ subst (λ last. IsTrue (starts_with nat_eq c.args.folder.now last)) (sym w.deref.ensures.value) below.1)
       | else-not-is_empty-via-else-not-is_empty w ↦ below.0 (empty_by c.args.self.now.last.items (subst (λ n. true ≡ (n == 0)) c.args.self.now.last.ok.0 w.if-not-is_empty.ensures))
     ]
 

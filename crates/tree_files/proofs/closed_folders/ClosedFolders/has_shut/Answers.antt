@@ -7,8 +7,7 @@ use Rattle.tree_files.proofs.closed_folders.ClosedFolders.has_shut.Goals as goal
 pub returns-then-is_empty : goal.returns-then-is_empty
 returns-then-is_empty c =
     let top = empty_by c.fronts.front.now c.if-is_empty.ensures in
-    let has = subst (HasShut c.args.self.now) top in
-    (
+    let has = subst (HasShut c.args.self.now) top in (
       (λ is. absurd (false≢true is)),
       (λ shut. absurd (none_at_top c.args.self.now (subst (λ front. is_shut c.args.self.now front ≡ false) top (sym c.fronts-test.ensures)) (has (c.fronts.invariant.1 shut)))),
     )
