@@ -10,7 +10,7 @@ use crate::options::takes_value;
 const COMMANDS: [&str; 4] = ["check-ignore", "check-attr", "config", "files"];
 
 /// A command, by its name.
-#[derive(Clone, Copy, Debug, Drop)]
+#[derive(Clone, Copy, Drop)]
 pub enum CommandName {
     /// `check-ignore`
     CheckIgnore,

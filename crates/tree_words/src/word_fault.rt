@@ -9,7 +9,7 @@ use std::fmt;
 use std::fmt::Display;
 
 /// What is wrong with the words of the command line.
-#[derive(Clone, Copy, Debug, Drop)]
+#[derive(Clone, Copy, Drop)]
 pub enum WordFault<'a> {
     /// No command stands behind the options.
     NoCommand,
