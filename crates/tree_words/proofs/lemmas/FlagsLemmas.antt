@@ -24,23 +24,23 @@ module _ {F : Type 0} (named : F → List ℕ → Option F) (lettered : F → �
   pub flags_append : (front back : List (List ℕ)) (flags more : F) → list_any are_dashes front ≡ false → flags_among named lettered flags front ≡ Some more
       → flags_among named lettered flags (front ++ back) ≡ flags_among named lettered more back
   flags_append [] back flags more no told = ap (option_and_then (λ (f : F). flags_among named lettered f back)) told
-  flags_append (word ∷ words) back flags more no told = by_kind (is_option word) refl (with_option named lettered flags word) refl
+  flags_append (word ∷ words) back flags more no told =
+      by_kind (λ (next : F) (told' : flags_among named lettered next words ≡ Some more). flags_append words back next more (second_fails (are_dashes word) (list_any are_dashes words) no) told')
+      (is_option word) refl (with_option named lettered flags word) refl
     where
       fails : are_dashes word ≡ false
       fails = first_fails (are_dashes word) (list_any are_dashes words) no
 
-      later : list_any are_dashes words ≡ false
-      later = second_fails (are_dashes word) (list_any are_dashes words) no
-
-      by_kind : (kind : Bool) → is_option word ≡ kind → (next : Option F) → with_option named lettered flags word ≡ next
+      by_kind : ((next : F) → flags_among named lettered next words ≡ Some more → flags_among named lettered next (words ++ back) ≡ flags_among named lettered more back)
+          → (kind : Bool) → is_option word ≡ kind → (next : Option F) → with_option named lettered flags word ≡ next
           → flags_among named lettered flags (word ∷ words ++ back) ≡ flags_among named lettered more back
-      by_kind false other next is =
+      by_kind behind false other next is =
           flags_at_operand named lettered flags word (words ++ back) other fails
-          ∙ flags_append words back flags more later (sym (flags_at_operand named lettered flags word words other fails) ∙ told)
-      by_kind true holds None is = absurd (let both : None ≡ Some more = sym (flags_at_option named lettered flags word words None fails holds is) ∙ told in cc)
-      by_kind true holds (Some next) is =
+          ∙ behind flags (sym (flags_at_operand named lettered flags word words other fails) ∙ told)
+      by_kind behind true holds None is = absurd (let both : None ≡ Some more = sym (flags_at_option named lettered flags word words None fails holds is) ∙ told in cc)
+      by_kind behind true holds (Some next) is =
           flags_at_option named lettered flags word (words ++ back) (Some next) fails holds is
-          ∙ flags_append words back next more later (sym (flags_at_option named lettered flags word words (Some next) fails holds is) ∙ told)
+          ∙ behind next (sym (flags_at_option named lettered flags word words (Some next) fails holds is) ∙ told)
 
   -- the options of these words are known, and `--` is none of them
   pub record AreKnown (none : F) (front : List (List ℕ)) (flags : F) : Type 0 where

@@ -1,7 +1,6 @@
 use Rattle.std.proofs.Common.{◌≡◌, ◌+◌, ◌||◌, ◌∷◌, drop, map, string_bytes, sym, ap, ◌∙◌}
-use Rattle.std.proofs.Math.ListN.{drop_of_length-le}
 use Rattle.tree_words.specs.Help.{has_help}
-use Rattle.tree_words.proofs.lemmas.HelpLemmas.{help_at_dashes, help_past}
+use Rattle.tree_words.proofs.lemmas.HelpLemmas.{help_past}
 use Rattle.tree_words.proofs.lemmas.OperandsLemmas.{next_word}
 use Rattle.tree_words.proofs.help.has_help.Goals as goal
 
@@ -10,23 +9,13 @@ words-preserved c =
     let word = c.as_str-word.result.now in
     let rest = map string_bytes (drop (c.words.word-index + 1) c.args.words.now) in
     let left : map string_bytes (drop c.words.word-index c.args.words.now) ≡ word ∷ rest = next_word c.args.words.now c.words.word-index c.word-item.result word c.words-test.true c.word-item.is c.as_str-word.ensures.value in
-    let past = help_past word rest (sym c.eq.ensures ∙ c.if-eq.false) ∙ ap (λ b. b || has_help rest) (sym c.eq-2.ensures ∙ c.if-eq-2.false) in
+    let past = help_past word rest (sym c.eq.ensures ∙ c.if-eq.false) ∙ ap (λ b. b || has_help rest) (sym c.eq-in-words.ensures ∙ c.if-eq-2.false) in
     sym past ∙ (sym (ap has_help left) ∙ c.words.invariant)
-
-pub returns-then-eq : goal.returns-then-eq
-returns-then-eq c =
-    let word = c.as_str-word.result.now in
-    let rest = map string_bytes (drop (c.words.word-index + 1) c.args.words.now) in
-    let left : map string_bytes (drop c.words.word-index c.args.words.now) ≡ word ∷ rest = next_word c.args.words.now c.words.word-index c.word-item.result word c.words-test.true c.word-item.is c.as_str-word.ensures.value in
-    sym (help_at_dashes word rest (sym c.eq.ensures ∙ c.if-eq.true)) ∙ (sym (ap has_help left) ∙ c.words.invariant)
 
 pub returns-then-eq-2 : goal.returns-then-eq-2
 returns-then-eq-2 c =
     let word = c.as_str-word.result.now in
     let rest = map string_bytes (drop (c.words.word-index + 1) c.args.words.now) in
     let left : map string_bytes (drop c.words.word-index c.args.words.now) ≡ word ∷ rest = next_word c.args.words.now c.words.word-index c.word-item.result word c.words-test.true c.word-item.is c.as_str-word.ensures.value in
-    let past = help_past word rest (sym c.eq.ensures ∙ c.if-eq.false) ∙ ap (λ b. b || has_help rest) (sym c.eq-2.ensures ∙ c.if-eq-2.true) in
+    let past = help_past word rest (sym c.eq.ensures ∙ c.if-eq.false) ∙ ap (λ b. b || has_help rest) (sym c.eq-in-words.ensures ∙ c.if-eq-2.true) in
     sym past ∙ (sym (ap has_help left) ∙ c.words.invariant)
-
-pub returns : goal.returns
-returns c = sym (ap (λ ws. has_help (map string_bytes ws)) (drop_of_length-le c.args.words.now c.words-test.false)) ∙ c.words.invariant
