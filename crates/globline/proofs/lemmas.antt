@@ -1,2 +1,3 @@
 pub mod IgnoreFilesLemmas
+pub mod TopicsLemmas
 pub mod WordsLemmas

@@ -1,5 +1,4 @@
 pub mod Names
 pub mod Private
 pub mod Topics
-pub mod WordFaults
 pub mod Words

@@ -4,7 +4,7 @@ ghost use Rattle.globline.specs.Names.{is_among, is_case, is_command, is_mode, n
 ghost use Rattle.globline.specs.declared.names.CommandName.{CommandName};
 
 /// A command, by its name.
-#[derive(Clone, Copy, PartialEq, Eq, Drop)]
+#[derive(Clone, Copy, Drop)]
 pub(crate) enum CommandName {
     /// `wild`
     Wild,

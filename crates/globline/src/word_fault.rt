@@ -1,9 +1,4 @@
 //! What is wrong with words, and which word it is.
-ghost use Rattle.std.specs.Prelude.{◌≡◌, ◌∷◌, ℕ, List, Option, codes, map, string_bytes};
-ghost use Rattle.gix_glob.specs.declared.pattern.Case.{Case};
-ghost use Rattle.gix_glob.specs.declared.wildmatch.Mode.{Mode};
-ghost use Rattle.globline.specs.WordFaults.{IsFault};
-ghost use Rattle.globline.specs.Words.{AreWrong, AskIgnore, AskList, AskWild};
 
 use crate::command::case_of;
 use crate::names::{CommandName, case_names, command_names, mode_names};
@@ -31,9 +26,7 @@ pub(crate) enum WordFault<'a> {
 }
 
 /// What is wrong with words that ask for nothing that the program does.
-pub(crate) fn fault_of(words: &[String]) -> WordFault<'_>
-    ensures { AreWrong (map string_bytes words.now) → IsFault (map string_bytes words.now) result }
-{
+pub(crate) fn fault_of(words: &[String]) -> WordFault<'_> {
     let Some((word, rest)) = words.split_first() else {
         return WordFault::NoCommand;
     };
@@ -46,10 +39,7 @@ pub(crate) fn fault_of(words: &[String]) -> WordFault<'_>
 }
 
 /// What is wrong with the words behind `wild`.
-fn wild_fault(words: &[String]) -> WordFault<'_>
-    ensures { ((mode : Mode) (pattern : List ℕ) → ¬ AskWild (codes "wild" ∷ map string_bytes words.now) mode pattern)
-        → IsFault (codes "wild" ∷ map string_bytes words.now) result }
-{
+fn wild_fault(words: &[String]) -> WordFault<'_> {
     match words {
         [mode, _pattern] => WordFault::UnknownMode {
             word: mode.as_str(),
@@ -65,10 +55,7 @@ fn wild_fault(words: &[String]) -> WordFault<'_>
 }
 
 /// What is wrong with the words behind `list`.
-fn list_fault(words: &[String]) -> WordFault<'_>
-    ensures { ((case : Case) (file : List ℕ) (root : Option (List ℕ)) → ¬ AskList (codes "list" ∷ map string_bytes words.now) case file root)
-        → IsFault (codes "list" ∷ map string_bytes words.now) result }
-{
+fn list_fault(words: &[String]) -> WordFault<'_> {
     match words {
         [case, file, _root] => match case_of(case.as_str()) {
             None => WordFault::UnknownCase {
@@ -89,10 +76,7 @@ fn list_fault(words: &[String]) -> WordFault<'_>
 }
 
 /// What is wrong with the words behind `ignore`.
-fn ignore_fault(words: &[String]) -> WordFault<'_>
-    ensures { ((case : Case) (root : Option (List ℕ)) (files : List (List ℕ)) → ¬ AskIgnore (codes "ignore" ∷ map string_bytes words.now) case root files)
-        → IsFault (codes "ignore" ∷ map string_bytes words.now) result }
-{
+fn ignore_fault(words: &[String]) -> WordFault<'_> {
     let [case, _root, files @ ..] = words else {
         return WordFault::Missing {
             command: CommandName::Ignore,

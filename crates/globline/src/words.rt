@@ -196,7 +196,10 @@ fn tell_help<E: Write>(command: Option<CommandName>, errors: &mut E) -> u8
     let _ = match command {
         Some(command) => {
             let name = command.as_str();
-            writeln!(errors, "usage: 'globline {name} --help' tells the words of {name}")
+            writeln!(
+                errors,
+                "usage: 'globline {name} --help' tells the words of {name}"
+            )
         }
         None => writeln!(errors, "usage: 'globline --help' tells the commands"),
     };

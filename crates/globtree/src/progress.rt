@@ -1,5 +1,4 @@
 //! How far a long listing is, told on a terminal.
-ghost use Rattle.std.specs.Prelude.{⊥};
 
 use gix_glob::search::pattern::List;
 use glob_lines::IgnoreLines;
@@ -8,8 +7,8 @@ use std::time::{Duration, Instant};
 use tree_commands::files::source::{EntryKind, FileSource, FolderNames};
 use tree_files::{CheckFault, TreeFiles};
 
-/// Between the beginning and the first time that something is told, and between each time and the next, at least so much time goes by.
-const QUIET: Duration = Duration::from_millis(1000);
+/// So much time goes by before something is told, and before it is told again.
+const QUIET_MILLISECONDS: u64 = 1000;
 
 /// Tells how many folders were entered, where somebody may see it.
 #[derive(Drop)]
@@ -52,7 +51,7 @@ impl<'a, R: Clock + Eprint> Progress<'a, R> {
             return false;
         };
         match last.elapsed(self.rt) {
-            Ok(gone) => gone >= QUIET,
+            Ok(gone) => gone >= Duration::from_millis(QUIET_MILLISECONDS),
             Err(_unknown) => false,
         }
     }

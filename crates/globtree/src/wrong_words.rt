@@ -29,23 +29,20 @@ fn tell_fault_line<R: Eprint>(
     alloc: Global,
     fault: WordFault<'_>,
 ) -> Result<(), AllocError> {
-    if let WordFault::UnknownOptionOf { command, word } = fault
-        && is_first_option(word)
-    {
-        let name = command.as_str();
-        return tell_line(
-            rt,
-            alloc,
-            format_args!("error: {fault}; that stands before {name}"),
-        );
-    }
-    match meant_by(alloc, fault)? {
-        Some(name) => tell_line(
-            rt,
-            alloc,
-            format_args!("error: {fault}; did you mean '{name}'?"),
-        ),
-        None => tell_line(rt, alloc, format_args!("error: {fault}")),
+    match fault {
+        WordFault::UnknownOptionOf { command, word } if is_first_option(word) => {
+            let name = command.as_str();
+            let line = format_args!("error: {fault}; that stands before {name}");
+            tell_line(rt, alloc, line)
+        }
+        _ => match meant_by(alloc, fault)? {
+            Some(name) => tell_line(
+                rt,
+                alloc,
+                format_args!("error: {fault}; did you mean '{name}'?"),
+            ),
+            None => tell_line(rt, alloc, format_args!("error: {fault}")),
+        },
     }
 }
 

@@ -1,7 +1,7 @@
 pub mod CommandLemmas
 pub mod FlagsLemmas
 pub mod HelpLemmas
-pub mod NamesLemmas
 pub mod OperandsLemmas
 pub mod OptionsLemmas
 pub mod ValuesLemmas
+pub mod WordFaultLemmas

@@ -39,7 +39,7 @@ pub(crate) fn flags_of<'a, F: CommandFlags>(
     ensures { MatchResult result
         (λ flags. flags_among F.named F.lettered none (map string_bytes words.now) ≡ Some flags)
         (λ fault. (flags_among F.named F.lettered none (map string_bytes words.now) ≡ None)
-            × NamesUnknown command (λ front. is_some (flags_among F.named F.lettered none front)) (map string_bytes words.now) fault) }
+        × NamesUnknown command (λ front. is_some (flags_among F.named F.lettered none front)) (map string_bytes words.now) fault) }
 {
     let mut flags = none;
     'words: for word in words {

@@ -10,7 +10,7 @@ use crate::options::takes_value;
 const COMMANDS: [&str; 5] = ["check-ignore", "check-attr", "config", "files", "status"];
 
 /// A command, by its name.
-#[derive(Clone, Copy, Debug, PartialEq, Eq, Drop)]
+#[derive(Clone, Copy, Drop)]
 pub enum CommandName {
     /// `check-ignore`
     CheckIgnore,

@@ -9,7 +9,7 @@ use std::fmt;
 use std::fmt::Display;
 
 /// What is wrong with the words of the command line.
-#[derive(Clone, Copy, Debug, Drop)]
+#[derive(Clone, Copy, Drop)]
 pub enum WordFault<'a> {
     /// No command stands behind the options.
     NoCommand,
@@ -38,7 +38,7 @@ impl<'a> WordFault<'a> {
 
     /// The word in whose place one of [`names`](WordFault::names) may have been meant.
     pub fn word(self) -> Option<&'a str>
-        ensures { option_copied result ≡ wrong_word self }
+        ensures { option_copied result ≡ wrong_word self.entry }
     {
         match self {
             WordFault::UnknownCommand { word }
@@ -50,7 +50,7 @@ impl<'a> WordFault<'a> {
 
     /// The names that could stand in the place of the wrong word: those of the commands, or of options that have more than a letter.
     pub fn names(self) -> &'static [&'static str]
-        ensures { (word : List ℕ) → is_among word result.now ≡ true → could_stand self word ≡ true }
+        ensures { (word : List ℕ) → is_among word result.now ≡ true → could_stand self.entry word ≡ true }
     {
         match self {
             WordFault::NoCommand | WordFault::UnknownCommand { .. } => command_names(),

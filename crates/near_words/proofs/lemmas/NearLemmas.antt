@@ -1,5 +1,5 @@
 -- The nearest of the names so far, and one name more.
-use Rattle.std.proofs.Common.{◌≡◌, ◌<◌, ◌≤◌, ◌⊎◌, inl, inr, ◌+◌, ℕ, List, [], ◌∷◌, ◌++◌, get_or, length, take, MatchOption, Option, None, Some, refl, sym, ap, subst, ◌∙◌, append_assoc, arith}
+use Rattle.std.proofs.Common.{◌≡◌, ◌<◌, ◌≤◌, ◌⊎◌, inl, inr, ◌+◌, ℕ, List, [], ◌∷◌, ◌++◌, get_or, length, take, Option, None, Some, refl, sym, ap, subst, ◌∙◌, append_assoc, arith}
 use Rattle.std.specs.Borrow.{Bor}
 use Rattle.std.specs.List.{AllByRecursion}
 use Rattle.std.proofs.lemmas.List.{map_more}
@@ -21,14 +21,17 @@ Best word seen (Some name) least = (least ≡ distance word name.now) × IsNeare
 module _ (word : List ℕ) (seen : List (List ℕ)) (name : Bor (List ℕ)) (edits : ℕ) (is : edits ≡ distance word name.now) where
   pub no_nearer_one : (nearest : Option (Bor (List ℕ))) (least : ℕ) → Best word seen nearest least → least ≤ edits → Best word (seen ++ name.now ∷ []) nearest least
   no_nearer_one None least best far = (best.0, join_all (λ other. 2 < distance word other) seen (name.now ∷ []) best.1 (omega (arith, is, far, best.0), tt))
-  no_nearer_one (Some old) least best far = (best.0, record {
-    before = best.1.before;
-    behind = best.1.behind ++ name.now ∷ [];
-    are = ap (λ names. names ++ name.now ∷ []) best.1.are ∙ append_assoc best.1.before (old.now ∷ best.1.behind) (name.now ∷ []);
-    near = best.1.near;
-    further = best.1.further;
-    no_nearer = join_all (λ other. distance word old.now ≤ distance word other) best.1.behind (name.now ∷ []) best.1.no_nearer (omega (arith, is, far, best.0), tt);
-  })
+  no_nearer_one (Some old) least best far = (
+    best.0,
+    record {
+      before = best.1.before;
+      behind = best.1.behind ++ name.now ∷ [];
+      are = ap (λ names. names ++ name.now ∷ []) best.1.are ∙ append_assoc best.1.before (old.now ∷ best.1.behind) (name.now ∷ []);
+      near = best.1.near;
+      further = best.1.further;
+      no_nearer = join_all (λ other. distance word old.now ≤ distance word other) best.1.behind (name.now ∷ []) best.1.no_nearer (omega (arith, is, far, best.0), tt);
+    },
+  )
 
   further_each : (nearest : Option (Bor (List ℕ))) (least : ℕ) → Best word seen nearest least → edits < least → AllByRecursion (λ other. distance word name.now < distance word other) seen
   further_each None least best close =
@@ -45,35 +48,35 @@ module _ (word : List ℕ) (seen : List (List ℕ)) (name : Bor (List ℕ)) (edi
   least_most (Some old) least best = omega (arith, best.0, best.1.near)
 
   pub nearer_one : (nearest : Option (Bor (List ℕ))) (least : ℕ) → Best word seen nearest least → edits < least → Best word (seen ++ name.now ∷ []) (Some name) edits
-  nearer_one nearest least best close = (is, record {
-    before = seen;
-    behind = [];
-    are = refl;
-    near = omega (arith, is, close, least_most nearest least best);
-    further = further_each nearest least best close;
-    no_nearer = tt;
-  })
+  nearer_one nearest least best close = (
+    is,
+    record {
+      before = seen;
+      behind = [];
+      are = refl;
+      near = omega (arith, is, close, least_most nearest least best);
+      further = further_each nearest least best close;
+      no_nearer = tt;
+    },
+  )
 
-pub is_best : (word : List ℕ) (seen : List (List ℕ)) (nearest : Option (Bor (List ℕ))) (least : ℕ) → Best word seen nearest least
-    → MatchOption nearest (NoneIsNear word seen) (λ name. IsNearest word seen name.now)
-is_best word seen None least best = best.1
-is_best word seen (Some name) least best = best.1
+-- one name more is nearer, and taken, or it isn't
+taken_or_not : (word : List ℕ) (seen : List (List ℕ)) (name : Bor (List ℕ)) (edits : ℕ) (old new : Option (Bor (List ℕ))) (least new_least : ℕ)
+    → edits ≡ distance word name.now → Best word seen old least
+    → ((edits < least) × (new ≡ Some name) × (new_least ≡ edits)) ⊎ ((least ≤ edits) × (new ≡ old) × (new_least ≡ least))
+    → Best word (seen ++ name.now ∷ []) new new_least
+taken_or_not word seen name edits old new least new_least is best (inl nearer) =
+    subst (λ (n : Option (Bor (List ℕ))). Best word (seen ++ name.now ∷ []) n new_least) (sym nearer.1)
+    (subst (Best word (seen ++ name.now ∷ []) (Some name)) (sym nearer.2) (nearer_one word seen name edits is old least best nearer.0))
+taken_or_not word seen name edits old new least new_least is best (inr other) =
+    subst (λ (n : Option (Bor (List ℕ))). Best word (seen ++ name.now ∷ []) n new_least) (sym other.1)
+    (subst (Best word (seen ++ name.now ∷ []) old) (sym other.2) (no_nearer_one word seen name edits is old least best other.0))
 
--- the next of the names is nearer, and taken, or it isn't
+-- the same of the next of the names
 pub next_best : (word : List ℕ) (names : List (Bor (List ℕ))) (i edits : ℕ) (d : Bor (List ℕ)) (old new : Option (Bor (List ℕ))) (least new_least : ℕ)
     → i < length names → edits ≡ distance word (get_or names i d).now → Best word (bytes_of (take i names)) old least
     → ((edits < least) × (new ≡ Some (get_or names i d)) × (new_least ≡ edits)) ⊎ ((least ≤ edits) × (new ≡ old) × (new_least ≡ least))
     → Best word (bytes_of (take (i + 1) names)) new new_least
 next_best word names i edits d old new least new_least within is best taken =
-    subst (λ seen. Best word seen new new_least) (sym (map_more (λ (text : Bor (List ℕ)). text.now) names i d within)) (either taken)
-  where
-    abbrev seen : List (List ℕ)
-    seen = bytes_of (take i names)
-
-    either : ((edits < least) × (new ≡ Some (get_or names i d)) × (new_least ≡ edits)) ⊎ ((least ≤ edits) × (new ≡ old) × (new_least ≡ least)) → Best word (seen ++ (get_or names i d).now ∷ []) new new_least
-    either (inl nearer) =
-        subst (λ (n : Option (Bor (List ℕ))). Best word (seen ++ (get_or names i d).now ∷ []) n new_least) (sym nearer.1)
-        (subst (Best word (seen ++ (get_or names i d).now ∷ []) (Some (get_or names i d))) (sym nearer.2) (nearer_one word seen (get_or names i d) edits is old least best nearer.0))
-    either (inr other) =
-        subst (λ (n : Option (Bor (List ℕ))). Best word (seen ++ (get_or names i d).now ∷ []) n new_least) (sym other.1)
-        (subst (Best word (seen ++ (get_or names i d).now ∷ []) old) (sym other.2) (no_nearer_one word seen (get_or names i d) edits is old least best other.0))
+    subst (λ seen. Best word seen new new_least) (sym (map_more (λ (text : Bor (List ℕ)). text.now) names i d within))
+    (taken_or_not word (bytes_of (take i names)) (get_or names i d) edits old new least new_least is best taken)
