@@ -16,7 +16,7 @@ use Rattle.tree_commands.specs.declared.files.choosing.Chosen.TheVariants.{All, 
 use Rattle.tree_commands.specs.declared.files.choosing.Folders.{Folders}
 use Rattle.tree_commands.specs.declared.files.pending.Pending.{Pending}
 use Rattle.tree_commands.specs.declared.files.source.EntryKind.{EntryKind}
-use Rattle.tree_commands.specs.declared.files.held.Terms as held
+use Rattle.tree_commands.specs.declared.files.terms.Terms as held
 use Rattle.tree_commands.specs.FileTrees.{FileTree, names_in}
 use Rattle.tree_commands.specs.Files.{Basis, BeginsAt, BeginsBelow, ComesBefore, IsBelowIgnored, IsEntryName, IsFound, IsHidden, IsKept, IsListedBy, IsNamed, IsShut, LetsPass, Terms, is_folder, is_git, lists_to}
 use Rattle.tree_commands.specs.Ignoring.{IsIgnored}

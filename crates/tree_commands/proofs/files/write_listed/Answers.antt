@@ -8,7 +8,7 @@ use Rattle.gix_glob.specs.Watched.{inner}
 use Rattle.glob_trees.specs.Ways.{start_of}
 use Rattle.tree_commands.specs.declared.files.pending.Pending.{Pending}
 use Rattle.tree_commands.specs.declared.files.mark.Mark.{Mark}
-use Rattle.tree_commands.specs.declared.files.held.Terms as held
+use Rattle.tree_commands.specs.declared.files.terms.Terms as held
 use Rattle.tree_commands.specs.Files.{IsMet, Terms, path_line}
 use Rattle.tree_commands.specs.Private.Listing.{MayVisit, Visits, WritesOut, seen_lists, terms_of, with_line}
 use Rattle.tree_commands.specs.Private.UnderWay.{IsUnderWay, IsWriting, OfKnown, WritesFront, beginning_of}

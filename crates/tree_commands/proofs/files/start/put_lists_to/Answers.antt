@@ -4,7 +4,7 @@ use Rattle.gix_glob.specs.Bytes.{HasByte, slash}
 use Rattle.glob_lists.proofs.lemmas.Deciding.PathsLemmas.{IsPlainPath-folder}
 use Rattle.gix_glob.specs.declared.pattern.Case.{Case}
 use Rattle.tree_commands.specs.declared.files.choosing.Chosen.TheVariants.{All}
-use Rattle.tree_commands.specs.declared.files.held.Terms as held
+use Rattle.tree_commands.specs.declared.files.terms.Terms as held
 use Rattle.tree_commands.specs.Files.{Basis}
 use Rattle.tree_commands.specs.Ignoring.{IsIgnored}
 use Rattle.tree_commands.specs.Private.Listing.{seen_lists, terms_of}
