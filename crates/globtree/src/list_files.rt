@@ -15,7 +15,7 @@ use anyhow::{Result, bail};
 use gix_glob::search::Watched;
 use std::alloc::{AllocError, Global};
 use std::io::Write;
-use std::rt::{Env, Files};
+use std::rt::{Clock, Env, Files};
 use told_paths::Standpoint;
 use tree_answers::Form;
 use tree_commands::files::Listing;
@@ -25,12 +25,13 @@ use tree_words::Options;
 use tree_words::files::FilesFlags;
 
 /// Lists files below a folder.
-pub(crate) fn list_files<R: Files + Env + Eprint + AllocGlobal + Clone + Drop, O: Write>(
+pub(crate) fn list_files<R: Files + Env + Clock + Eprint + AllocGlobal + Clone + Drop, O: Write>(
     rt: &R,
     alloc: Global,
     options: Options<'_>,
     flags: FilesFlags,
     folder: &str,
+    shows_progress: bool,
     output: &mut Watched<O>,
 ) -> Result<u8>
     ensures status { IfOk result IsAnswered }
@@ -44,7 +45,16 @@ pub(crate) fn list_files<R: Files + Env + Eprint + AllocGlobal + Clone + Drop, O
     }
     let fronts = fronts_of(rt, alloc, options, index_by(flags))?;
     let status = if flags.are_usual() || flags.others {
-        list_found(rt, alloc, options, flags, &fronts, folder, output)?
+        list_found(
+            rt,
+            alloc,
+            options,
+            flags,
+            &fronts,
+            folder,
+            shows_progress,
+            output,
+        )?
     } else {
         ANSWERED
     };
@@ -72,13 +82,14 @@ fn index_by(flags: FilesFlags) -> IndexUse {
 }
 
 /// Lists the files that are found below a folder.
-fn list_found<R: Files + Env + Eprint + AllocGlobal + Clone + Drop, O: Write>(
+fn list_found<R: Files + Env + Clock + Eprint + AllocGlobal + Clone + Drop, O: Write>(
     rt: &R,
     alloc: Global,
     options: Options<'_>,
     flags: FilesFlags,
     fronts: &Fronts,
     folder: &str,
+    shows_progress: bool,
     output: &mut Watched<O>,
 ) -> Result<u8>
     ensures status { IfOk result IsAnswered }
@@ -93,7 +104,7 @@ fn list_found<R: Files + Env + Eprint + AllocGlobal + Clone + Drop, O: Write>(
         fronts: copies_of(alloc, &fronts.lists)?,
         case: case_of(options, fronts.folds),
     };
-    run_listing(rt, alloc, listing, fronts, folder, output)
+    run_listing(rt, alloc, listing, fronts, folder, shows_progress, output)
 }
 
 /// Which files are listed that are found: without options those that aren't ignored; else what the patterns say, where they count.

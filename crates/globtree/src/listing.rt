@@ -5,6 +5,7 @@ ghost use Rattle.globtree.specs.Answers.{ListsFound};
 ghost use Rattle.globtree.specs.Running.{IsAnswered};
 
 use crate::fronts::Fronts;
+use crate::progress::{CountedFiles, Progress};
 use crate::running::ANSWERED;
 use anyhow::{Context, Result};
 use gix_glob::search::Watched;
@@ -13,7 +14,7 @@ use glob_lists::PreparedList;
 use repository_files::{DiskFiles, RepositoryVariables, User};
 use std::alloc::{AllocError, Global};
 use std::io::Write;
-use std::rt::{Env, Files};
+use std::rt::{Clock, Env, Files};
 use told_paths::LeadFault;
 use tree_commands::files::fault::FilesFault;
 use tree_commands::files::{Listing, run_files};
@@ -23,22 +24,26 @@ use tree_files::{CheckFault, NestedRepositories, TreeFiles};
 pub(crate) const NOT_ALL_LISTED: u8 = 1;
 
 /// Lists files at or below a folder, and answers what the command ends with.
-pub(crate) fn run_listing<R: Files + Env + Eprint + AllocGlobal + Clone + Drop, O: Write>(
+pub(crate) fn run_listing<R: Files + Env + Clock + Eprint + AllocGlobal + Clone + Drop, O: Write>(
     rt: &R,
     alloc: Global,
     listing: Listing,
     fronts: &Fronts,
     folder: &str,
+    shows_progress: bool,
     output: &mut Watched<O>,
 ) -> Result<u8>
     ensures status { IfOk result IsAnswered }
     ensures found { IfOk result (λ _. ListsFound listing.mark listing.standpoint listing.form (O.contents (inner output.old)) (O.contents (inner output.new))) }
 {
     let nested = nested_repositories(rt, alloc, fronts)?;
-    let mut source = TreeFiles::new(rt, alloc, &fronts.indexed, nested)?;
+    let files = TreeFiles::new(rt, alloc, &fronts.indexed, nested)?;
+    let mut source = CountedFiles::new(files, Progress::new(rt, shows_progress));
     let told = folder.as_bytes();
-    match run_files(alloc, listing, &fronts.tracked, &mut source, told, output) {
-        Ok(()) if source.is_short() => Ok(NOT_ALL_LISTED),
+    let outcome = run_files(alloc, listing, &fronts.tracked, &mut source, told, output);
+    let is_short = source.end();
+    match outcome {
+        Ok(()) if is_short => Ok(NOT_ALL_LISTED),
         Ok(()) => Ok(ANSWERED),
         Err(FilesFault::Write(error)) => Err(error).context("writing"),
         Err(FilesFault::Endless) => None.context("a tree without an end"),

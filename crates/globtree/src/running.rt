@@ -91,7 +91,7 @@ fn answer_command<R: Files + Env + Clock + Eprint + AllocGlobal + Clone + Drop, 
             show_config(rt, alloc, options, flags, words, output)
         }
         Command::Status { flags, words } => {
-            show_status(rt, alloc, options, flags, words, output)
+            show_status(rt, alloc, options, flags, words, shows_progress, output)
         }
     }
 }

@@ -13,7 +13,7 @@ use anyhow::{Context, Result, bail};
 use gix_glob::search::Watched;
 use std::alloc::Global;
 use std::io::Write;
-use std::rt::{Env, Files};
+use std::rt::{Clock, Env, Files};
 use told_paths::Standpoint;
 use tree_answers::Form;
 use tree_commands::files::Listing;
@@ -23,12 +23,13 @@ use tree_words::status::{IgnoredFiles, StatusFlags, UntrackedFiles};
 use tree_words::{Options, operands_of};
 
 /// Tells which files aren't tracked, and which are ignored.
-pub(crate) fn show_status<R: Files + Env + Eprint + AllocGlobal + Clone + Drop, O: Write>(
+pub(crate) fn show_status<R: Files + Env + Clock + Eprint + AllocGlobal + Clone + Drop, O: Write>(
     rt: &R,
     alloc: Global,
     options: Options<'_>,
     flags: StatusFlags,
     words: &[String],
+    shows_progress: bool,
     output: &mut Watched<O>,
 ) -> Result<u8>
     ensures status { IfOk result IsAnswered }
@@ -43,12 +44,12 @@ pub(crate) fn show_status<R: Files + Env + Eprint + AllocGlobal + Clone + Drop, 
     let mut status = ANSWERED;
     if flags.tells_untracked() {
         let listing = listing_of(alloc, options, flags, &fronts, Mark::Untracked)?;
-        status = run_listing(rt, alloc, listing, &fronts, ".", output)?;
+        status = run_listing(rt, alloc, listing, &fronts, ".", shows_progress, output)?;
     }
     if flags.tells_ignored() {
         // what can't be read for those that aren't ignored can't be for these, which lie in more folders
         let listing = listing_of(alloc, options, flags, &fronts, Mark::Ignored)?;
-        status = run_listing(rt, alloc, listing, &fronts, ".", output)?;
+        status = run_listing(rt, alloc, listing, &fronts, ".", shows_progress, output)?;
     }
     Ok(status)
 }
