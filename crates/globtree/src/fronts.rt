@@ -5,7 +5,7 @@ ghost use Rattle.globtree.specs.Answers.{case_by};
 ghost use Rattle.globtree.specs.Tracked.{IsOfIndex};
 
 use crate::excludes::{excludes, named_excludes};
-use crate::index_use::{IndexUse, Taken, taken};
+use crate::index_use::{IndexUse, Taken, take_from_index};
 use crate::moving::go_to_folders;
 use crate::work_tree::{WorkTree, work_tree};
 use anyhow::{Context, Result};
@@ -59,7 +59,7 @@ pub(crate) fn fronts_of<R: Files + Env + Eprint + AllocGlobal>(
         None => None,
     };
     let tree = work_tree(rt, alloc, options)?;
-    let Taken { tracked, indexed } = taken(rt, alloc, &tree.index, index)?;
+    let Taken { tracked, indexed } = take_from_index(rt, alloc, &tree.index, index)?;
     let WorkTree {
         standpoint,
         folds,

@@ -32,7 +32,7 @@ pub(crate) struct Taken {
 }
 
 /// What a command takes from the index of a repository, if there is one.
-pub(crate) fn taken<R: Files>(
+pub(crate) fn take_from_index<R: Files>(
     rt: &R,
     alloc: Global,
     file: &Option<IndexFile>,

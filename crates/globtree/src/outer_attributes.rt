@@ -1,6 +1,6 @@
 //! The attribute files that don't depend on a path: the system's, the user's, the top's and the repository's own.
 
-use crate::index_use::{IndexUse, Taken, taken};
+use crate::index_use::{IndexUse, Taken, take_from_index};
 use crate::moving::go_to_folders;
 use crate::work_tree::{WorkTree, work_tree};
 use anyhow::Result;
@@ -51,7 +51,7 @@ pub(crate) fn outer_attributes<R: Files + Env + Eprint + AllocGlobal>(
     let system = named_file(alloc, &reader, options.system)?;
     let named = named_file(alloc, &reader, options.attributes)?;
     let tree = work_tree(rt, alloc, options)?;
-    let Taken { indexed, .. } = taken(rt, alloc, &tree.index, IndexUse::Attributes)?;
+    let Taken { indexed, .. } = take_from_index(rt, alloc, &tree.index, IndexUse::Attributes)?;
     let WorkTree {
         standpoint,
         folds,
