@@ -149,8 +149,13 @@ module _ (line : List ℕ → List ℕ) (Known : FileTree → Type 0) (terms : T
             (it.under_way.counts next (among_last pending next))
             Now (stays tree known) new_lists new_pending (subst (λ (t : Terms). Enters Now t is.folder next.list_count is.is_ignored lists new_lists pending new_pending) (sym same) is.enters)
 
+    pub writes_nothing : (new_pending : List Pending) (new_lists : List (EntryList (Unit {0}))) → IsEntered Now terms next lists new_lists pending new_pending ⊎ IsPassedOver Now terms next lists new_lists pending new_pending
+        → IsWriting line Known terms beginning old middle text new_pending new_lists
+    writes_nothing new_pending new_lists (inl entered) = writes_entered new_pending new_lists entered
+    writes_nothing new_pending new_lists (inr passed) = writes_passed new_pending new_lists passed
+
     -- what is written beside it goes on what was
-    pub asked_is_met : (folder : Folder) → path_of next ≡ start_of folder → OfKnown Known case beginning (λ basis tree start. IsMet basis tree start (start_of folder))
+    pub asked_is_met : (folder : Folder) → path_of next ≡ start_of folder → OfKnown Known terms beginning (λ basis tree start. IsMet basis tree start (start_of folder))
     asked_is_met folder is = λ tree known basis same start halfway.
         let now = it.halfway tree known basis same start halfway in subst (IsMet basis tree start) is (now.met next (among_last pending next))
 
@@ -171,11 +176,7 @@ module _ (line : List ℕ → List ℕ) (Known : FileTree → Type 0) (terms : T
       (listed : Option (List ℕ)) → IsWriting line Known terms beginning old middle text (pending ++ next ∷ []) lists → Visits Now terms next lists new_lists pending new_pending listed
       → WritesOut middle new (with_line line text listed) left → IsWriting line Known terms beginning old new left new_pending new_lists
   writes_on Now stays middle new text left next pending new_pending lists new_lists None it visited out =
-      writes_out middle new text left out.0 new_pending new_lists (visited_on visited) out.1 out.2
-    where
-      visited_on : IsEntered Now terms next lists new_lists pending new_pending ⊎ IsPassedOver Now terms next lists new_lists pending new_pending → IsWriting line Known terms beginning old middle text new_pending new_lists
-      visited_on (inl entered) = writes_entered Now stays middle text next pending lists it new_pending new_lists entered
-      visited_on (inr passed) = writes_passed Now stays middle text next pending lists it new_pending new_lists passed
+      writes_out middle new text left out.0 new_pending new_lists (writes_nothing Now stays middle text next pending lists it new_pending new_lists visited) out.1 out.2
   writes_on Now stays middle new text left next pending new_pending lists new_lists (Some path) it visited out =
       writes_listed Now stays middle text next pending lists it new new_pending new_lists path (text ++ line path) left out.0 visited refl out.1 out.2
 

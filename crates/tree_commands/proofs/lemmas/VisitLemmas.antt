@@ -116,12 +116,12 @@ module _ (Known : FileTree → Type 0) (terms : Terms) (next : Pending) (lists :
     pub folder_listed : (is_listed : Bool) → ListsFolder terms folder is_ignored is_listed → (tree : FileTree) → IsShut terms tree folder (IsTrue is_ignored) → IsTrue is_listed ↔ IsListedBy terms tree (IsIgnoredNext terms lists next) (path_of next)
     folder_listed is_listed lists_it tree shut = (
       λ yes. (let it = lists_it.0 yes in inr (record {
-          folder = folder;
-          start = is_start;
-          shut = shut_as terms tree folder (IsTrue is_ignored) (IsIgnoredNext terms lists next folder true) (λ told. (let known = told_ignored told in known.0)) shut;
-          free = it.1;
-          chosen = λ told. (let known = told_ignored told in known.0 (it.0 told));
-        })),
+        folder = folder;
+        start = is_start;
+        shut = shut_as terms tree folder (IsTrue is_ignored) (IsIgnoredNext terms lists next folder true) (λ told. (let known = told_ignored told in known.0)) shut;
+        free = it.1;
+        chosen = λ told. (let known = told_ignored told in known.0 (it.0 told));
+      })),
       λ by. ⊎_elim
           (λ (file : IsListedFile terms (IsIgnoredNext terms lists next) (path_of next)).
           absurd (file.whole (subst EndsInSlash (sym is_start) (start_ends folder (λ none. file.some (is_start ∙ none))))))

@@ -16,7 +16,7 @@ use Rattle.tree_commands.specs.declared.files.choosing.Chosen.TheVariants.{All, 
 use Rattle.tree_commands.specs.declared.files.choosing.Folders.{Folders}
 use Rattle.tree_commands.specs.declared.files.pending.Pending.{Pending}
 use Rattle.tree_commands.specs.declared.files.source.EntryKind.{EntryKind}
-use Rattle.tree_commands.specs.declared.files.terms.Terms as terms
+use Rattle.tree_commands.specs.declared.files.terms.Terms as held
 use Rattle.tree_commands.specs.FileTrees.{FileTree, names_in}
 use Rattle.tree_commands.specs.Files.{Basis, BeginsAt, BeginsBelow, ComesBefore, IsBelowIgnored, IsEntryName, IsFound, IsHidden, IsKept, IsListedBy, IsNamed, IsShut, LetsPass, Terms, is_folder, is_git, lists_to}
 use Rattle.tree_commands.specs.Ignoring.{IsIgnored}
@@ -29,7 +29,7 @@ abbrev pub seen_lists : {T X : Type 0} → List (patterns.List T X) → List (En
 seen_lists lists = map (entry_list_of (λ _. tt)) lists
 
 -- the terms as plain data
-abbrev pub terms_of : terms.Terms → Terms
+abbrev pub terms_of : held.Terms → Terms
 terms_of terms = record { case = terms.case; chosen = terms.chosen; folders = terms.folders; tracked = terms.tracked.now }
 
 -- an element of a list

@@ -101,9 +101,21 @@ impl<'a> Lister<'a> {
         ensures asks { GivesOnly (λ _. ⊥) (S.asked source.old) (S.asked source.new) }
     {
         self.on_way.lists.truncate(next.list_count);
-        push_list_of(self.alloc, source, &mut self.on_way, folder, is_ignored, names)?;
+        push_list_of(
+            self.alloc,
+            source,
+            &mut self.on_way,
+            folder,
+            is_ignored,
+            names,
+        )?;
         let paths = entries_of(self.alloc, source, &self.on_way, &next.path, &names.bytes)?;
-        put_in_order(&mut self.pending, paths, self.on_way.lists.len(), is_ignored)?;
+        put_in_order(
+            &mut self.pending,
+            paths,
+            self.on_way.lists.len(),
+            is_ignored,
+        )?;
         Ok(())
     }
 }
@@ -131,7 +143,12 @@ fn is_ignored(on_way: &ListsOnWay<'_>, next: &Pending, path: &[u8], is_dir: bool
     if next.is_below {
         return true;
     }
-    is_ignored_by(&on_way.lists[..next.list_count], on_way.terms.case, path, is_dir)
+    is_ignored_by(
+        &on_way.lists[..next.list_count],
+        on_way.terms.case,
+        path,
+        is_dir,
+    )
 }
 
 /// The same of a folder. The top is never ignored.

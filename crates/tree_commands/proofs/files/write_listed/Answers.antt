@@ -8,7 +8,7 @@ use Rattle.gix_glob.specs.Watched.{inner}
 use Rattle.glob_trees.specs.Ways.{start_of}
 use Rattle.tree_commands.specs.declared.files.pending.Pending.{Pending}
 use Rattle.tree_commands.specs.declared.files.mark.Mark.{Mark}
-use Rattle.tree_commands.specs.declared.files.terms.Terms as terms
+use Rattle.tree_commands.specs.declared.files.terms.Terms as held
 use Rattle.tree_commands.specs.Files.{IsMet, Terms, path_line}
 use Rattle.tree_commands.specs.Private.Listing.{MayVisit, Visits, WritesOut, seen_lists, terms_of, with_line}
 use Rattle.tree_commands.specs.Private.UnderWay.{IsUnderWay, IsWriting, OfKnown, WritesFront, beginning_of}
@@ -33,7 +33,7 @@ visit-requires-clause-may g c =
     let lists = seen_lists c.paths.lister.on_way.lists.items in
     let writing = c.paths.invariant.writing in
     let under = subst (λ (ps : List Pending). IsUnderWay c.args.lister.now.on_way.terms.case writing.listed ps lists) c.in-Some.ensures.items writing.under_way in
-    subst (λ (t : terms.Terms). MayVisit t.case c.in-Some.next.path.items) (sym c.paths.invariant.terms) (may_next (terms_of c.args.lister.now.on_way.terms) writing.listed c.pop.new.self.items c.in-Some.next lists under)
+    subst (λ (t : held.Terms). MayVisit t.case c.in-Some.next.path.items) (sym c.paths.invariant.terms) (may_next (terms_of c.args.lister.now.on_way.terms) writing.listed c.pop.new.self.items c.in-Some.next lists under)
 
 pub visit-requires-clause-count : goal.visit-requires-clause-count
 visit-requires-clause-count g c =

@@ -4,7 +4,7 @@ use Rattle.gix_glob.specs.Bytes.{HasByte, slash}
 use Rattle.glob_lists.proofs.lemmas.Deciding.PathsLemmas.{IsPlainPath-folder}
 use Rattle.gix_glob.specs.declared.pattern.Case.{Case}
 use Rattle.tree_commands.specs.declared.files.choosing.Chosen.TheVariants.{All}
-use Rattle.tree_commands.specs.declared.files.terms.Terms as terms
+use Rattle.tree_commands.specs.declared.files.terms.Terms as held
 use Rattle.tree_commands.specs.Files.{Basis}
 use Rattle.tree_commands.specs.Ignoring.{IsIgnored}
 use Rattle.tree_commands.specs.Private.Listing.{seen_lists, terms_of}
@@ -12,7 +12,7 @@ use Rattle.tree_commands.proofs.lemmas.SourceLemmas.{gives_none, stays_further}
 use Rattle.tree_commands.proofs.lemmas.StartLemmas.{puts_all, puts_by, way_ends, way_enters, way_is_shut, way_passes}
 use Rattle.tree_commands.proofs.files.start.put_lists_to.Goals as goal
 
-abbrev case_of : terms.Terms → Case
+abbrev case_of : held.Terms → Case
 case_of terms = terms.case
 
 pub returns-then-takes_all-clause-puts : goal.returns-then-takes_all-clause-puts
