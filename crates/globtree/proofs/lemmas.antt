@@ -1,3 +1,4 @@
 pub mod InputLemmas
+pub mod ListingLemmas
 pub mod OperandLemmas
 pub mod ResultLemmas

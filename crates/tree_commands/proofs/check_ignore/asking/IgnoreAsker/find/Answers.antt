@@ -19,7 +19,7 @@ pub returns-then-is_empty-clause-found : goal.returns-then-is_empty-clause-found
 returns-then-is_empty-clause-found g c =
     let told = c.args.told.now in
     let question = g.Q.AskedQuestion.question in
-    let spelt = c.if-is_path.ensures c.if-is_path.true in
+    let spelt = c.is_path.ensures c.if-is_path.true in
     let here : led c.args.self.now.standpoint.now told ≡ Some told = search rules in
     let leads_so : question.leads told ≡ Some told = ap (λ (q : Question). q.leads told) (sym c.args.self.now.asked) ∙ (ap (option_and_then (leads c.args.self.now.standpoint.now)) spelt ∙ here) in
     let bare_here : names_folder false (parts_of told) ≡ false = search rules in

@@ -1,0 +1,23 @@
+-- Lines of paths that are told from a standpoint.
+use Rattle.std.proofs.Common.{◌≡◌, ℕ, Bool, List, []  , ◌∷◌, ◌++◌, if◌then◌else◌, Option, subst, sym}
+use Rattle.std.specs.Prelude.{AllPairs}
+use Rattle.std.specs.Io.KnownBytes.{Appends}
+use Rattle.std.specs.List.{flat_map}
+use Rattle.told_paths.specs.declared.standpoint.Standpoint.{Standpoint}
+use Rattle.told_paths.specs.Paths.{below, folder_parts, seen_from}
+use Rattle.tree_answers.specs.declared.form.Form.{Form}
+use Rattle.tree_answers.specs.Lines.{behind}
+use Rattle.tree_commands.specs.declared.files.mark.Mark.{Mark}
+use Rattle.tree_commands.specs.Files.{ComesBefore, mark_text, marked_name}
+use Rattle.globtree.specs.Answers.{ListsFound}
+
+-- what a standpoint says counts, and not where it lies in memory
+pub as_seen_from : (mark : Mark) (one other : Standpoint) (form : Form) (old new : Option (List ℕ)) → one.top.items ≡ other.top.items → one.here.items ≡ other.here.items → one.is_inside ≡ other.is_inside
+    → ListsFound mark one form old new → ListsFound mark other form old new
+as_seen_from mark one other form old new top here inside lists =
+    let line : List ℕ → List ℕ → Bool → List ℕ → List ℕ = λ at from within path. mark_text mark ++ (marked_name mark form (seen_from (folder_parts from) (if within then path else below at path)) ++ behind form 10 ∷ []) in
+    let Written : (List ℕ → List ℕ) → Type 0 = λ of_path. Appends old new (flat_map of_path lists.0) in
+    (lists.0, lists.1,
+    subst (λ at. Written (line at other.here.items other.is_inside)) top
+    (subst (λ from. Written (line one.top.items from other.is_inside)) here
+    (subst (λ within. Written (line one.top.items one.here.items within)) inside lists.2)))
