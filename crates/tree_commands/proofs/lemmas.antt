@@ -23,6 +23,7 @@ pub mod ListsLemmas
 pub mod MetLemmas
 pub mod NameLemmas
 pub mod OrderLemmas
+pub mod OutcomeLemmas
 pub mod PathLemmas
 pub mod PieceLemmas
 pub mod PuttingLemmas

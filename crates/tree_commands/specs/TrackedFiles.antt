@@ -1,6 +1,6 @@
 -- Which tracked paths are listed, and what is written of those that are ignored.
-use Rattle.std.specs.Prelude.{ℕ, Bool, true, false, ◌&&◌, ◌||◌, not, nat_eq, List, [], ◌∷◌, ◌++◌, map, filter, Option}
-use Rattle.std.specs.List.{starts_with}
+use Rattle.std.specs.Prelude.{◌≡◌, ℕ, Bool, true, false, ◌&&◌, ◌||◌, not, nat_eq, List, [], ◌∷◌, ◌++◌, map, filter, Option, codes}
+use Rattle.std.specs.List.{list_any, starts_with}
 use Rattle.std.specs.Option.{option_map}
 use Rattle.std.specs.Str.{bytes_eq}
 use Rattle.git_index.specs.declared.entry.Kind.{Kind}
@@ -41,6 +41,10 @@ paths_asked standpoint told entries = option_map (λ path. paths_at path (names_
 abbrev pub names_alone : Form → IgnoreFlags
 names_alone form = record { form = form; verbose = false; non_matching = false; quiet = false }
 
--- the text has the lines of those of these paths that are ignored, each told as it is seen from the current folder
+abbrev pub is_signed : List ℕ → Bool
+is_signed name = starts_with nat_eq name (codes ":")
+
+-- the text has the lines of those of these paths that are ignored, each told as it is seen from the current folder; none of them is seen
+-- with a colon in front, behind which a word spells another path
 abbrev pub AreIgnored : Question → (Folder → EntryList (Unit {0}) → Type 0) → Standpoint → List (List ℕ) → List ℕ → Type 0
-AreIgnored question shows standpoint paths text = TextOf (IsIgnoreAnswer question shows) (map (shown standpoint) paths) text
+AreIgnored question shows standpoint paths text = (list_any is_signed (map (shown standpoint) paths) ≡ false) × TextOf (IsIgnoreAnswer question shows) (map (shown standpoint) paths) text

@@ -2,7 +2,7 @@
 ghost use Rattle.std.specs.Prelude.{◌≡◌, ◌++◌, ◌∷◌, ℕ, [], false, List, None, Err, Ok, OnErr, OnOk, Some, IfOk, IsErrOf, MatchResult, map};
 ghost use Rattle.std.specs.Borrow.{Bor};
 ghost use Rattle.std.specs.Io.KnownBytes.{Appends};
-ghost use Rattle.std.specs.List.{flat_map};
+ghost use Rattle.std.specs.List.{flat_map, list_any};
 ghost use Rattle.std.specs.Vec.{vec_items};
 ghost use Rattle.git_index.specs.Entries.{tracked};
 ghost use Rattle.gix_glob.specs.Bytes.{slash};
@@ -15,7 +15,7 @@ ghost use Rattle.tree_commands.specs.declared.files.mark.Mark.TheVariants as mar
 ghost use Rattle.tree_commands.specs.Answering.{Writes};
 ghost use Rattle.tree_commands.specs.CheckIgnore.{question_of};
 ghost use Rattle.tree_commands.specs.Files.{path_line};
-ghost use Rattle.tree_commands.specs.TrackedFiles.{AreIgnored, is_submodule, lies_at, names_alone, paths_asked, paths_at};
+ghost use Rattle.tree_commands.specs.TrackedFiles.{AreIgnored, is_signed, is_submodule, lies_at, names_alone, paths_asked, paths_at};
 
 use crate::answering::write_text;
 use crate::check_ignore::{IgnoreFault, IgnoreFlags, IgnoreSources, PathKinds, check_ignore_paths};
@@ -164,7 +164,8 @@ fn lines_of(
 /// Writes the line of each of these paths that is ignored, in order, as [`check_ignore_paths`] answers them where no index counts: told
 /// as they are seen from the current folder. Gives the sources back.
 ///
-/// All paths are answered before anything is written, and where one gets no answer, nothing is. No call on the writer may have failed
+/// All paths are answered before anything is written, and where one gets no answer, nothing is. A path that is seen with a colon in front
+/// gets none, since such a word spells another one. No call on the writer may have failed
 /// before, and none that fails is tried again.
 ///
 /// # Errors
@@ -201,12 +202,30 @@ pub fn write_ignored<
     let Ok(seen) = seen_paths(alloc, standpoint, paths) else {
         return (sources, Err(RecordFault::Memory));
     };
+    if is_any_signed(&seen) {
+        return (sources, Err(RecordFault::Answer(signed(alloc))));
+    }
     let Ok(told) = bytes_of(alloc, &seen) else {
         return (sources, Err(RecordFault::Memory));
     };
     let flags = names_alone(form);
     let (sources, outcome) = check_ignore_paths(alloc, standpoint, flags, sources, &told, writer);
     (sources, without_status(outcome))
+}
+
+/// Whether some name begins with a colon.
+fn is_any_signed(names: &[Vec<u8>]) -> bool
+    ensures { result ≡ list_any is_signed (map vec_items names.now) }
+{
+    names.iter().any(|name| name.starts_with(b":"))
+}
+
+/// The fault of a name that begins with a colon.
+fn signed<F>(alloc: Global) -> IgnoreFault<F> {
+    match Vec::from_slice(alloc, b":") {
+        Ok(sign) => IgnoreFault::Unspelt(sign),
+        Err(_refused) => IgnoreFault::Memory,
+    }
 }
 
 /// What is written of paths where those alone are told that are ignored, without lines.
