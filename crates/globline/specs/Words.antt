@@ -68,12 +68,16 @@ Ask words (command.Wild mode pattern) = AskWild words mode pattern.now
 Ask words (command.List case file root) = AskList words case file.now (option_copied root)
 Ask words (command.Ignore case root files) = AskIgnore words case (option_copied root) (map string_bytes files.now)
 
--- the words ask for nothing that the program does
-pub record AreWrong (words : List (List ℕ)) : Type 0 where
-  pub about : (topic : Topic) → ¬ AskAbout words topic
+-- the words ask for no command
+pub record AskNoCommand (words : List (List ℕ)) : Type 0 where
   pub wild : (mode : Mode) (pattern : List ℕ) → ¬ AskWild words mode pattern
   pub list : (case : Case) (file : List ℕ) (root : Option (List ℕ)) → ¬ AskList words case file root
   pub ignore : (case : Case) (root : Option (List ℕ)) (files : List (List ℕ)) → ¬ AskIgnore words case root files
+
+-- the words ask for nothing that the program does
+pub record AreWrong (words : List (List ℕ)) : Type 0 where
+  pub about : (topic : Topic) → ¬ AskAbout words topic
+  pub command : AskNoCommand words
 
 -- the list is what the bytes of an ignore file mean, with the base of the file under the root
 pub record IsIgnoreList (bytes file : List ℕ) (root : Option (List ℕ)) (list : EntryList (Unit {0})) : Type 0 where

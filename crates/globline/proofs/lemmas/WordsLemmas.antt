@@ -12,7 +12,7 @@ use Rattle.glob_lines.specs.Transfers.{ReadsWhole, Run}
 use Rattle.glob_lines.specs.Values.{ValuesText}
 use Rattle.glob_lines.specs.declared.fault.EngineFault.{EngineFault}
 use Rattle.glob_lines.specs.declared.fault.EngineFault.TheVariants.{Memory, Read, Write}
-use Rattle.globline.specs.Words.{AnswersWords, AreIgnoreLists, Ask}
+use Rattle.globline.specs.Words.{AnswersWords, AreIgnoreLists, Ask, AskNoCommand}
 use Rattle.globline.specs.Private.Commands.{CarriesOut}
 use Rattle.globline.specs.declared.command.Command.{Command}
 use Rattle.globline.specs.declared.command.Command.TheVariants as command
@@ -94,3 +94,9 @@ pub or_answers_words : {P : Type 0} (words : List (List ℕ)) (asked : Command) 
 or_answers_words words asked input_old input_new Written asks (inl stopped) = inl stopped
 or_answers_words words asked input_old input_new Written asks (inr done) =
     inr (answers_words words asked input_old input_new Written asks done)
+
+-- words that ask for a command don't ask for none
+pub asks_one : (words : List (List ℕ)) (asked : Command) → Ask words asked → ¬ AskNoCommand words
+asks_one words (command.Wild mode pattern) asks none = none.wild mode pattern.now asks
+asks_one words (command.List case file root) asks none = none.list case file.now (option_copied root) asks
+asks_one words (command.Ignore case root files) asks none = none.ignore case (option_copied root) (map string_bytes files.now) asks

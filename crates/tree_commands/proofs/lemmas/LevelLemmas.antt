@@ -140,7 +140,7 @@ module _ (basis : Basis) (tree : FileTree) (lists : List (EntryList (Unit {0})))
         let known = flags.below some in
         let one = known.asked told in
         let two = next_ignored told folder true (is_marked some) in
-        ((λ yes. two.0 (one.0 yes)), (λ ignored. one.1 (two.1 ignored)))
+        ((λ so. two.0 (one.0 so)), (λ ignored. one.1 (two.1 ignored)))
 
     -- a folder that is gone into by its flag is gone into
     pub open_by_flag : ¬ IsShut basis.terms tree folder (IsTrue flag) → ¬ IsShut basis.terms tree folder (IsIgnoredAt basis tree folder true)
@@ -155,14 +155,14 @@ module _ (basis : Basis) (tree : FileTree) (lists : List (EntryList (Unit {0})))
         below_none true told same none some = absurd (false≢true (sym none ∙ (let known = flags.below some in let one = known.asked told in one.1 (inl same))))
 
         unflagged : (b : Bool) → reads_list Ignored b ≡ true → b ≡ false
-        unflagged false yes = refl
-        unflagged true yes = absurd (false≢true yes)
+        unflagged false so = refl
+        unflagged true so = absurd (false≢true so)
 
         by_level : (c : Chosen) → basis.terms.chosen ≡ c → reads_list c flag ≡ true → folder ≢ [] → IsLevel c basis tree (take next.list_count lists) next.is_below folder → take next.list_count lists ≡ lists_to basis tree folder
-        by_level All told yes some level = absurd (false≢true yes)
-        by_level Unignored told yes some level = level
-        by_level Ignored told yes some level =
-            let none = below_none next.is_below told refl (unflagged flag yes) some in
+        by_level All told so some level = absurd (false≢true so)
+        by_level Unignored told so some level = level
+        by_level Ignored told so some level =
+            let none = below_none next.is_below told refl (unflagged flag so) some in
             let known = subst (λ b. MatchBool b (IsBelowIgnored basis tree folder) ((take next.list_count lists ≡ lists_to basis tree folder) × (¬ IsBelowIgnored basis tree folder))) none level in
             known.0
 
@@ -181,7 +181,7 @@ module _ (basis : Basis) (tree : FileTree) (lists : List (EntryList (Unit {0})))
     level_of_entry new_lists are name none Ignored told = by_flag flag refl
       where
         some_folder : flag ≡ true → folder ≢ []
-        some_folder yes top = false≢true (sym (flags.top top) ∙ yes)
+        some_folder so top = false≢true (sym (flags.top top) ∙ so)
 
         by_flag : (b : Bool) → flag ≡ b → MatchBool b (IsBelowIgnored basis tree (start_of folder ++ name)) ((new_lists ≡ lists_to basis tree (start_of folder ++ name)) × (¬ IsBelowIgnored basis tree (start_of folder ++ name)))
         by_flag true is = below_entry basis tree folder name none (some_folder is) (let same = flag_ignored told (some_folder is) in same.0 is)

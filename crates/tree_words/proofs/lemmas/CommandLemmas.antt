@@ -55,24 +55,6 @@ named word words (command.Files flags folder) is = ap (names (command.Files flag
 none_some : {X : Type 0} (o : Option X) (x : X) → o ≡ None → o ≡ Some x → ⊥
 none_some o x none some = absurd (let both : None ≡ Some x = sym none ∙ some in cc)
 
--- no word asks for nothing
-pub no_words : (words : List (List ℕ)) → words ≡ [] → (asked : Command) → ¬ IsCommand words asked
-no_words words none asked is = by_command asked (subst (λ ws. IsCommand ws asked) none is)
-  where
-    no_front : (word : List ℕ) (rest : List (List ℕ)) → ¬ ([] ≡ word ∷ rest)
-    no_front word rest is = absurd (cc)
-
-    by_command : (asked : Command) → ¬ IsCommand [] asked
-    by_command (command.Help None) (rest, inl is) = no_front _ rest is
-    by_command (command.Help None) (rest, inr is) = no_front _ rest is
-    by_command (command.Help (Some name)) is = no_front _ is.0 is.1
-    by_command command.Version (rest, is) = no_front _ rest is
-    by_command (command.CheckIgnore flags behind) is = no_front _ (map string_bytes behind.now) is.0
-    by_command (command.CheckAttr flags behind) is = no_front _ (map string_bytes behind.now) is.0
-    by_command (command.Config flags behind) is = no_front _ (map string_bytes behind.now) is.0
-    by_command (command.Status flags behind) is = no_front _ (map string_bytes behind.now) is.0
-    by_command (command.Files flags folder) is = no_front _ is.0 is.1
-
 module _ (words rest : List (List ℕ)) (unasked : (name : CommandName) → ¬ AsksHelp words name) where
   pub no_check_ignore : words ≡ codes "check-ignore" ∷ rest → flags_among check_ignore.with_name check_ignore.with_letter check_ignore.none rest ≡ None → (asked : Command) → ¬ IsCommand words asked
   no_check_ignore are none asked is = by_command asked (subst (λ ws. IsCommand ws asked) are is)

@@ -23,13 +23,13 @@ module _ {F : Type 0} (named : F → List ℕ → Option F) (lettered : F → �
   -- words that no `--` is among give what the words behind them begin with
   pub flags_append : (front back : List (List ℕ)) (flags more : F) → list_any are_dashes front ≡ false → flags_among named lettered flags front ≡ Some more
       → flags_among named lettered flags (front ++ back) ≡ flags_among named lettered more back
-  flags_append [] back flags more no told = ap (option_and_then (λ (f : F). flags_among named lettered f back)) told
-  flags_append (word ∷ words) back flags more no told =
-      by_kind (λ (next : F) (told' : flags_among named lettered next words ≡ Some more). flags_append words back next more (second_fails (are_dashes word) (list_any are_dashes words) no) told')
+  flags_append [] back flags more undashed told = ap (option_and_then (λ (f : F). flags_among named lettered f back)) told
+  flags_append (word ∷ words) back flags more undashed told =
+      by_kind (λ (next : F) (told' : flags_among named lettered next words ≡ Some more). flags_append words back next more (second_fails (are_dashes word) (list_any are_dashes words) undashed) told')
       (is_option word) refl (with_option named lettered flags word) refl
     where
       fails : are_dashes word ≡ false
-      fails = first_fails (are_dashes word) (list_any are_dashes words) no
+      fails = first_fails (are_dashes word) (list_any are_dashes words) undashed
 
       by_kind : ((next : F) → flags_among named lettered next words ≡ Some more → flags_among named lettered next (words ++ back) ≡ flags_among named lettered more back)
           → (kind : Bool) → is_option word ≡ kind → (next : Option F) → with_option named lettered flags word ≡ next

@@ -1,4 +1,4 @@
-use Rattle.std.proofs.Common.{◌≡◌, ◌+◌, [], ◌∷◌, ◌++◌, drop, map, string_bytes, take, refl, subst, sym, ◌∙◌}
+use Rattle.std.proofs.Common.{◌≡◌, ◌+◌, [], ◌∷◌, ◌++◌, map, string_bytes, take, refl, subst, sym, ◌∙◌}
 use Rattle.tree_words.proofs.lemmas.FlagsLemmas.{AreKnown, first_unknown, known_before, known_operand, known_option, next_front, none_known, split_words}
 use Rattle.tree_words.proofs.flags.flags_of.Goals as goal
 use Rattle.tree_words.proofs.flags.flags_of.Goals.{then-is_option+in-Some, else-is_option}

@@ -65,4 +65,4 @@ returns-then-is_some c =
     let some = one_found c.words.only (sym c.is_some.ensures ∙ c.if-is_some.true) in
     let both : AreOneOperand words rest (some.0 ∷ word ∷ []) c.words.is_behind =
     subst (λ ws. AreOneOperand words rest (ws ++ word ∷ []) c.words.is_behind) some.1 (one_more_operand words rest found word c.words.is_behind fails other before) in
-    (not_one words rest some.0 word c.words.is_behind both c.args.usual.now, (c.as_str-word.result, refl, some.0, (if c.words.is_behind then rest else operands_among rest), both))
+    (not_one words rest some.0 word c.words.is_behind both c.args.usual.now, (c.as_str-word.result, refl, (some.0, (if c.words.is_behind then rest else operands_among rest), both)))
