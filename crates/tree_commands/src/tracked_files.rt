@@ -215,7 +215,7 @@ pub fn write_ignored<
 
 /// Whether some name begins with a colon.
 fn is_any_signed(names: &[Vec<u8>]) -> bool
-    ensures { result ≡ list_any is_signed (map vec_items names.now) }
+    ensures { result ≡ list_any (λ name. is_signed (vec_items name)) names.now }
 {
     names.iter().any(|name| name.starts_with(b":"))
 }

@@ -12,7 +12,7 @@ use Rattle.tree_commands.specs.Answering.{Writes}
 use Rattle.tree_commands.specs.CheckIgnore.{IsIgnoreAnswer, question_of}
 use Rattle.tree_commands.specs.declared.check_ignore.flags.IgnoreFlags.{IgnoreFlags}
 use Rattle.tree_commands.specs.TrackedFiles.{AreIgnored, is_signed, names_alone}
-use Rattle.tree_commands.proofs.lemmas.OutcomeLemmas.{ended_well}
+use Rattle.tree_commands.proofs.lemmas.OutcomeLemmas.{any_seen, ended_well}
 use Rattle.tree_commands.proofs.tracked_files.write_ignored.Goals as goal
 
 pub returns-clause-ok : goal.returns-clause-ok
@@ -25,7 +25,8 @@ returns-clause-ok g c =
     let new = g.W.Write.contents (inner c.check_ignore_paths-sources.new.writer) in
     let seen : map vec_items c.in-Ok.seen.items ≡ map (shown c.args.standpoint.now) paths = c.in-Ok.ensures ∙ sym (map-map (shown c.args.standpoint.now) see c.args.paths.now) in
     let none : list_any is_signed (map (shown c.args.standpoint.now) paths) ≡ false =
-    ap (list_any is_signed) (sym seen) ∙ (ap (λ ls. list_any is_signed (map vec_items ls)) (sym c.deref.ensures.value) ∙ (sym c.is_any_signed.ensures ∙ c.if-is_any_signed.false)) in
+    ap (list_any is_signed) (sym seen) ∙ (sym (any_seen is_signed vec_items c.in-Ok.seen.items)
+    ∙ (ap (list_any (λ name. is_signed (vec_items name))) (sym c.deref.ensures.value) ∙ (sym c.is_any_signed.ensures ∙ c.if-is_any_signed.false))) in
     let words : map see c.deref-3.result.now ≡ map (shown c.args.standpoint.now) paths =
     ap (map see) c.deref-3.ensures.value ∙ (c.in-Ok-bytes_of.ensures ∙ (ap (map vec_items) c.deref-2.ensures.value ∙ seen)) in
     ended_well c.check_ignore_paths-sources.result.1 c.without_status.result c.without_status.ensures _ _

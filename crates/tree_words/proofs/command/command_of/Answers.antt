@@ -3,9 +3,11 @@ use Rattle.std.proofs.lemmas.Result.{err_from_is_err_and}
 use Rattle.tree_words.specs.CheckAttr as check_attr
 use Rattle.tree_words.specs.CheckIgnore as check_ignore
 use Rattle.tree_words.specs.Config as config
+use Rattle.tree_words.specs.Files as files
 use Rattle.tree_words.specs.Operands.{flags_among}
-use Rattle.tree_words.specs.declared.names.CommandName.TheVariants.{CheckAttr, CheckIgnore, Config, Files}
-use Rattle.tree_words.proofs.lemmas.CommandLemmas.{no_check_attr, no_check_ignore, no_config, no_files}
+use Rattle.tree_words.specs.Status as status
+use Rattle.tree_words.specs.declared.names.CommandName.TheVariants.{CheckAttr, CheckIgnore, Config, Files, Status}
+use Rattle.tree_words.proofs.lemmas.CommandLemmas.{no_check_attr, no_check_ignore, no_config, no_files, no_status}
 use Rattle.tree_words.proofs.lemmas.WordFaultLemmas.{names_operand, names_option}
 use Rattle.tree_words.proofs.command.command_of.Goals as goal
 
@@ -28,7 +30,10 @@ returns-in_err-flags_of-in-files c =
     let are : words ≡ codes "files" ∷ rest = ap (map string_bytes) c.in-Some-split_first.ensures.cases.0 ∙ ap (λ w. w ∷ rest) (sym c.as_str.ensures.value ∙ c.in-files.is) in
     let wrong = c.in_err-flags_of-in-files.ensures in
     let p = err_from_is_err_and c.from_residual-in_err-flags_of-in-files.result c.from_residual-in_err-flags_of-in-files.ensures.1 in
-    rw (p.1, p.2) (no_files words rest c.in_default.ensures are (inl wrong.0), names_option Files words rest _ are _ (λ ws. refl) wrong.1)
+    rw (p.1, p.2) (
+      no_files words rest c.in_default.ensures are (inl (ap (λ none. flags_among files.with_name files.with_letter none rest) (sym c.none-in-files.ensures) ∙ wrong.0)),
+      names_option Files words rest _ are _ (λ ws. ap (λ none. is_some (flags_among files.with_name files.with_letter none ws)) c.none-in-files.ensures) wrong.1,
+    )
 
 pub returns-in_err-only_operand-in-files : goal.returns-in_err-only_operand-in-files
 returns-in_err-only_operand-in-files c =
@@ -61,6 +66,18 @@ returns-in_err-flags_of-in-config c =
     rw (p.1, p.2) (
       no_config words rest c.in_default.ensures are (ap (λ none. flags_among config.with_name config.with_letter none rest) (sym c.none-in-config.ensures) ∙ wrong.0),
       names_option Config words rest _ are _ (λ ws. ap (λ none. is_some (flags_among config.with_name config.with_letter none ws)) c.none-in-config.ensures) wrong.1,
+    )
+
+pub returns-in_err-flags_of-in-status : goal.returns-in_err-flags_of-in-status
+returns-in_err-flags_of-in-status c =
+    let words = map string_bytes c.args.words.now in
+    let rest = map string_bytes c.in-Some-split_first.rest.now in
+    let are : words ≡ codes "status" ∷ rest = ap (map string_bytes) c.in-Some-split_first.ensures.cases.0 ∙ ap (λ w. w ∷ rest) (sym c.as_str.ensures.value ∙ c.in-status.is) in
+    let wrong = c.in_err-flags_of-in-status.ensures in
+    let p = err_from_is_err_and c.from_residual-in_err-flags_of-in-status.result c.from_residual-in_err-flags_of-in-status.ensures.1 in
+    rw (p.1, p.2) (
+      no_status words rest c.in_default.ensures are (ap (λ none. flags_among status.with_name status.with_letter none rest) (sym c.none-in-status.ensures) ∙ wrong.0),
+      names_option Status words rest _ are _ (λ ws. ap (λ none. is_some (flags_among status.with_name status.with_letter none ws)) c.none-in-status.ensures) wrong.1,
     )
 
 pub returns-in-text-3 : goal.returns-in-text-3
