@@ -7,6 +7,7 @@ ghost use Rattle.globtree.specs.Tracked.{IsOfIndex};
 use crate::excludes::{excludes, named_excludes};
 use crate::index_use::{IndexUse, Taken, take_from_index};
 use crate::moving::go_to_folders;
+use crate::signs::tell_signs;
 use crate::work_tree::{WorkTree, work_tree};
 use anyhow::{Context, Result};
 use git_index::Index;
@@ -59,6 +60,7 @@ pub(crate) fn fronts_of<R: Files + Env + Eprint + AllocGlobal>(
         None => None,
     };
     let tree = work_tree(rt, alloc, options)?;
+    tell_signs(rt, alloc)?;
     let Taken { tracked, indexed } = take_from_index(rt, alloc, &tree.index, index)?;
     let WorkTree {
         standpoint,

@@ -1,5 +1,5 @@
 -- Lines of paths that are told from a standpoint.
-use Rattle.std.proofs.Common.{◌≡◌, ℕ, Bool, List, []  , ◌∷◌, ◌++◌, if◌then◌else◌, Option, subst, sym}
+use Rattle.std.proofs.Common.{◌≡◌, ℕ, Bool, List, [], ◌∷◌, ◌++◌, if◌then◌else◌, Option, subst, sym}
 use Rattle.std.specs.Prelude.{AllPairs}
 use Rattle.std.specs.Io.KnownBytes.{Appends}
 use Rattle.std.specs.List.{flat_map}
@@ -16,8 +16,10 @@ pub as_seen_from : (mark : Mark) (one other : Standpoint) (form : Form) (old new
     → ListsFound mark one form old new → ListsFound mark other form old new
 as_seen_from mark one other form old new top here inside lists =
     let line : List ℕ → List ℕ → Bool → List ℕ → List ℕ = λ at from within path. mark_text mark ++ (marked_name mark form (seen_from (folder_parts from) (if within then path else below at path)) ++ behind form 10 ∷ []) in
-    let Written : (List ℕ → List ℕ) → Type 0 = λ of_path. Appends old new (flat_map of_path lists.0) in
-    (lists.0, lists.1,
-    subst (λ at. Written (line at other.here.items other.is_inside)) top
-    (subst (λ from. Written (line one.top.items from other.is_inside)) here
-    (subst (λ within. Written (line one.top.items one.here.items within)) inside lists.2)))
+    let Written : (List ℕ → List ℕ) → Type 0 = λ of_path. Appends old new (flat_map of_path lists.0) in (
+      lists.0,
+      lists.1,
+      subst (λ at. Written (line at other.here.items other.is_inside)) top
+          (subst (λ from. Written (line one.top.items from other.is_inside)) here
+          (subst (λ within. Written (line one.top.items one.here.items within)) inside lists.2)),
+    )
