@@ -130,7 +130,7 @@ impl<'a> WordFault<'a> {
 impl<'a> Display for WordFault<'a> {
     fn fmt<W: fmt::Write>(&self, f: &mut fmt::Formatter<W>) -> fmt::Result {
         match *self {
-            WordFault::NoCommand => f.write_str("no command is told"),
+            WordFault::NoCommand => f.write_str("a command is missing"),
             WordFault::UnknownCommand { word } => write!(f, "{word:?} is no command"),
             WordFault::Missing { command } => {
                 let (name, operands) = (command.as_str(), command.operands());

@@ -1,6 +1,5 @@
 -- What is wrong with words, and which word it is.
 use Rattle.std.specs.Prelude.{◌≡◌, ◌≢◌, ℕ, Bool, true, false, ◌||◌, IsFalse, IsTrue, List, [], ◌∷◌, ◌++◌, Option, None, Some, codes}
-use Rattle.std.specs.Borrow.{Bor}
 use Rattle.std.specs.List.{AllByRecursion, flat_map}
 use Rattle.std.specs.Str.{bytes_eq}
 use Rattle.tree_words.specs.Names.{has_option, has_options, is_command, name_of}
@@ -28,13 +27,6 @@ pub record IsFirstWrong (good : List (List ℕ) → Bool) (words : List (List �
 -- the word is the second operand
 abbrev pub IsSecond : List (List ℕ) → List ℕ → Type 0
 IsSecond words word = (first : List ℕ) × (more : List (List ℕ)) × (operands_among words ≡ first ∷ word ∷ more)
-
--- An option that the command hasn't, by what is good for it; and a word too much behind it.
-abbrev pub NamesUnknown : CommandName → (List (List ℕ) → Bool) → List (List ℕ) → WordFault → Type 0
-NamesUnknown command good words told = (word : Bor (List ℕ)) × (told ≡ fault.UnknownOptionOf command word) × IsFirstWrong good words word.now
-
-abbrev pub NamesSecond : CommandName → List (List ℕ) → WordFault → Type 0
-NamesSecond command words told = (word : Bor (List ℕ)) × (told ≡ fault.Surplus command word) × IsSecond words word.now
 
 -- what is wrong with the words behind the options
 abbrev pub IsFaultBehind : List (List ℕ) → WordFault → Type 0

@@ -1,7 +1,7 @@
 //! What the options behind a command ask for.
 ghost use Rattle.std.specs.Prelude.{◌≡◌, None, Some, MatchResult, is_some, map, string_bytes};
 ghost use Rattle.tree_words.specs.Operands.{flags_among, with_letters, with_option};
-ghost use Rattle.tree_words.specs.WordFaults.{NamesUnknown};
+ghost use Rattle.tree_words.specs.Private.WordFaults.{NamesUnknown};
 
 use crate::names::CommandName;
 use crate::operands::is_option;

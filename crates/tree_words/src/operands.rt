@@ -2,7 +2,7 @@
 ghost use Rattle.std.specs.Prelude.{◌≡◌, ◌≤◌, ℕ, List, IfOk, IfSome, MatchResult, length, map, string_bytes};
 ghost use Rattle.std.specs.Borrow.{Bor};
 ghost use Rattle.tree_words.specs.Operands.{IsOnly, dashes_at, is_option, operands_among};
-ghost use Rattle.tree_words.specs.WordFaults.{NamesSecond};
+ghost use Rattle.tree_words.specs.Private.WordFaults.{NamesSecond};
 
 use crate::names::CommandName;
 use crate::word_fault::WordFault;

@@ -1,7 +1,8 @@
 -- What is wrong with words, told of all of them.
 use Rattle.std.proofs.Common.{◌≡◌, ℕ, Bool, List, [], ◌∷◌, ◌++◌, sym, subst, ◌∙◌}
 use Rattle.tree_words.specs.Names.{has_options, name_of}
-use Rattle.tree_words.specs.WordFaults.{IsFaultBehind, NamesSecond, NamesUnknown}
+use Rattle.tree_words.specs.Private.WordFaults.{NamesSecond, NamesUnknown}
+use Rattle.tree_words.specs.WordFaults.{IsFaultBehind}
 use Rattle.tree_words.specs.declared.names.CommandName.{CommandName}
 use Rattle.tree_words.specs.declared.word_fault.WordFault.{WordFault}
 
