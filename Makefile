@@ -17,7 +17,7 @@ INSTALL = install
 tree = $(if $(wildcard tools/release),out/tree,.)
 # $(call put,FOLDER,TO,MODE) installs the files of a folder of the tree, and $(call take,FOLDER,TO) takes them back.
 put = $(INSTALL) -d "$(DESTDIR)$(2)" && find $(tree)/$(1) -maxdepth 1 -type f -exec $(INSTALL) -m $(3) -t "$(DESTDIR)$(2)" {} +
-take = (cd $(tree)/$(1) && find . -maxdepth 1 -type f | while read -r file; do rm -f "$(DESTDIR)$(2)/$$file"; done)
+take = find $(tree)/$(1) -maxdepth 1 -type f -printf '%f\n' | while read -r file; do rm -f "$(DESTDIR)$(2)/$$file"; done
 notes = PROVED.md LICENSE-APACHE LICENSE-MIT
 programs = $(call $(1),bin,$(bindir),755) && \
 	$(call $(1),share/man/man1,$(mandir)/man1,644) && \
