@@ -29,7 +29,9 @@ UNSPELT = [b":!x", b":^x", b":-x", b":/~", b":(top", b":(x)x", b":(exclude)x", b
 # kinds of differences that the documents name: the first in "From Git" of docs/GLOBTREE.md
 NESTED, MESSAGES, BARE, UNKNOWN, REMOTES = "`.git`", "messages", "no work tree", "another's folder", "files read for remotes alone"
 NAMED = kinds_in("GLOBTREE.md")
-OF_CONFIG = "`config`"
+OF_CONFIG, OF_STATUS = "`config`", "`status`"
+NO_OBJECT = re.compile(rb"fatal: (bad object HEAD|unable to read [0-9a-f]+)\n")
+ORIGIN = re.compile(rb"file:\"?[^\t\0]*/")
 # and those that "From Git" of docs/REPOSITORIES.md has: what tells a path otherwise, by the variables, options, links and texts of a repository
 TOLD = {
     "a listing from outside": lambda made, question: question.words[0] in LISTINGS and made.says(rb'(?im)excludesfile *= *"?[^/~@%\s"]'),
@@ -213,6 +215,8 @@ class Comparison:
             return None
         if command == "config" and OF_CONFIG in NAMED and self.is_shown_otherwise(expected, found):
             return OF_CONFIG
+        if command == "status" and OF_STATUS in NAMED and NO_OBJECT.search(expected.errors):
+            return OF_STATUS
         if RELATIVE_CONDITION in expected.errors and found.is_as(expected._replace(errors=found.errors)):
             return MESSAGES
         return next((kind for kind, holds in TOLD.items() if holds(self.pair.made, question)), None)
@@ -222,6 +226,8 @@ class Comparison:
         if WARNINGS.fullmatch(expected.errors) and found.is_as(expected._replace(errors=found.errors)):
             return True
         is_fault = not is_answer(expected) and not is_answer(found) and not found.output
+        if expected.status == found.status and ORIGIN.sub(b"file:", expected.output) == ORIGIN.sub(b"file:", found.output):
+            return True
         return is_fault or OF_FORMAT.search(found.errors) or b"fatal: cannot chdir to" in expected.errors or b"/." in self.pair.made.variables.get(b"GIT_CONFIG_SYSTEM", b"")
 
     # ---- texts of faults
