@@ -1,20 +1,19 @@
 //! The help of `files`.
 
 pub(crate) const HELP: &str = "\
-usage: globtree [OPTION..] files [-c] [-o] [-i] [--exclude-standard] [--directory] [-z] [DIR]
+usage: globtree [OPTION..] files [-c] [-o] [-i] [--directory] [--exclude-standard] [-z] [DIR]
 
 Prints the files below DIR that aren't ignored, tracked or not; without DIR, those below the current
 folder. With options, prints what git ls-files prints with the same ones.
 
 options:
-  -c, --cached          the tracked paths
-  -o, --others          the files that aren't tracked
-  -i, --ignored         of these, the ignored ones alone; goes with --exclude-standard
-  --exclude-standard    patterns count
-  --directory           with -o: a folder without tracked files is told by its name
-  --no-empty-directory  with --directory: not where nothing to tell lies in it
-  -z                    a byte 0 ends each name, and none is quoted
-  -h, --help            this text (-h: alone)
+  -c, --cached         the tracked paths
+  -o, --others         the files that aren't tracked
+  -i, --ignored        of these, the ignored ones alone; goes with --exclude-standard
+  --exclude-standard   patterns count
+  --directory          with -o, without -i: a folder without tracked files by its name
+  -z                   a byte 0 ends each name, and none is quoted
+  -h, --help           this text (-h: alone)
 
 example:
   $ globtree files src
