@@ -46,10 +46,8 @@ pub(crate) fn list_files<R: Files + Env + Clock + Eprint + AllocGlobal + Clone +
     };
     let progress = Progress::new(rt, shows_progress);
     let mut source = CountedFiles::new(TreeFiles::new(rt, alloc)?, progress);
-    let outcome = run_files(alloc, listing, &mut source, folder.as_bytes(), output);
-    let is_short = source.end();
-    match outcome {
-        Ok(()) if is_short => Ok(NOT_ALL_LISTED),
+    match run_files(alloc, listing, &mut source, folder.as_bytes(), output) {
+        Ok(()) if source.end() => Ok(NOT_ALL_LISTED),
         Ok(()) => Ok(ANSWERED),
         Err(FilesFault::Write(error)) => Err(error).context("writing"),
         Err(FilesFault::Endless) => None.context("a tree without an end"),
