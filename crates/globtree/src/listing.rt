@@ -40,10 +40,8 @@ pub(crate) fn run_listing<R: Files + Env + Clock + Eprint + AllocGlobal + Clone 
     let files = TreeFiles::new(rt, alloc, &fronts.indexed, nested)?;
     let mut source = CountedFiles::new(files, Progress::new(rt, shows_progress));
     let told = folder.as_bytes();
-    let outcome = run_files(alloc, listing, &fronts.tracked, &mut source, told, output);
-    let is_short = source.end();
-    match outcome {
-        Ok(()) if is_short => Ok(NOT_ALL_LISTED),
+    match run_files(alloc, listing, &fronts.tracked, &mut source, told, output) {
+        Ok(()) if source.end() => Ok(NOT_ALL_LISTED),
         Ok(()) => Ok(ANSWERED),
         Err(FilesFault::Write(error)) => Err(error).context("writing"),
         Err(FilesFault::Endless) => None.context("a tree without an end"),
