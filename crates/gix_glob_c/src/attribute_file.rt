@@ -26,7 +26,9 @@ pub struct GlobAttributeLine<'a> {
 
 /// What stands for each further answer, `enum gix_glob_line` of the header: a macro, the file is too large, the memory is too short.
 const MACRO: u32 = 3;
+
 const FILE_TOO_LARGE: u32 = 9;
+
 const NO_MEMORY: u32 = 10;
 
 /// Takes the next line off an attribute file, and reads it as [`read_line`](glob_attributes::read_line) does. A byte order mark is
@@ -133,7 +135,8 @@ fn write_parts<'a>(
     definition: &mut TextMacro<'a>,
 ) -> u32
     requires { (gives : Gives) × GivesParts reading gives parts }
-    ensures { (gives : Gives) → GivesParts reading gives parts.entry → ReadsAttributes reading gives out.old out.new definition.old definition.new result }
+    ensures reads { (gives : Gives) → GivesParts reading gives parts.entry → ReadsAttributes reading gives out.old out.new definition.old definition.new result }
+    ensures taken { IsTaken result }
 {
     match parts {
         LineParts::Nothing => NOTHING,
@@ -154,7 +157,8 @@ fn write_parts<'a>(
 
 /// The kind of a line that says nothing for this reason.
 fn number_of(silence: Silence) -> u32
-    ensures { result ≡ number_of silence }
+    ensures number { result ≡ number_of silence }
+    ensures range { (4 ≤ result) × (result ≤ 8) }
 {
     match silence {
         Silence::TooLong => 4,

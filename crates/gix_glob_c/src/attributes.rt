@@ -15,7 +15,6 @@ use crate::lists::is_folder;
 use crate::parsed::{is_matched, path_of_file};
 use crate::paths::GlobPath;
 use crate::rules_of;
-
 use glob_attributes::State;
 use glob_attributes::borrowed::{Text, TextMacro, tell_state};
 use glob_lists::{Reading, RepositoryPath, Rules};

@@ -1,8 +1,10 @@
 //! The lines of an ignore file, one after the other: `struct gix_glob_lines` of the header.
-ghost use Rattle.std.specs.Prelude.{◌≡◌, ◌≢◌, ◌↔◌, ◌==◌, ◌+◌, ◌-◌, ◌^◌, [], if◌then◌else◌, min, true, false};
+ghost use Rattle.std.specs.Prelude.{◌≡◌, ◌≢◌, ◌↔◌, ◌==◌, ◌+◌, ◌-◌, ◌^◌, [], min, true, false};
+ghost use Rattle.std.specs.Option.{ForSome, option_copied};
 ghost use Rattle.glob_lines.specs.Memory.{end_of};
-ghost use Rattle.gix_glob_c.specs.IgnoreFile.{TakesLine, TakesLineAsGit, number_after, unread_of};
+ghost use Rattle.gix_glob_c.specs.IgnoreFile.{ReadsText, ReadsTextAsGit, TakesLine, TakesLineAsGit, number_after, unread_of};
 ghost use Rattle.gix_glob_c.specs.Places.{IsPartOf};
+ghost use Rattle.gix_glob_c.specs.Private.Parts.{BeginsSo};
 
 use crate::parsed::{GlobPattern, gix_glob_parse, gix_glob_parse_as_git};
 use crate::places::front_part;
@@ -20,7 +22,9 @@ pub struct GlobLines<'a> {
 
 /// What stands for each answer, `enum gix_glob_line` of the header: no line is left, a line that gives nothing, one that gives a pattern.
 pub(crate) const END: u32 = 0;
+
 pub(crate) const NOTHING: u32 = 1;
+
 pub(crate) const PATTERN: u32 = 2;
 
 /// Takes the next line off an ignore file, by the rules of [`next_ignore_line`], and reads its pattern, whose text is a part of the
@@ -46,10 +50,7 @@ pub extern "C" fn gix_glob_parse_ignore_line<'a>(
         return END;
     };
     let text = go_behind(lines, line);
-    match text {
-        Some(text) => told(gix_glob_parse(front_part(bytes, text), out)),
-        None => NOTHING,
-    }
+    told(read_text(bytes, text, out))
 }
 
 /// The same as Git reads it, by the rules of [`next_git_line`]: no line is blank but one without bytes.
@@ -72,18 +73,40 @@ pub extern "C" fn gix_glob_parse_ignore_line_as_git<'a>(
         return END;
     };
     let text = go_behind(lines, line);
+    told(read_git_text(bytes, text, out))
+}
+
+/// Reads the pattern of a text that the bytes begin with; there is none where there is no text.
+fn read_text<'a>(bytes: &'a [u8], text: Option<&'a [u8]>, out: &mut GlobPattern<'a>) -> bool
+    requires { ForSome (option_copied text) (BeginsSo bytes.now) }
+    ensures reads { ReadsText (option_copied text.entry) out.old out.new result }
+    ensures place { result ≡ true → IsPartOf out.new.text bytes.entry }
+{
+    match text {
+        Some(text) => gix_glob_parse(front_part(bytes, text), out),
+        None => false,
+    }
+}
+
+/// The same, as Git reads it.
+fn read_git_text<'a>(bytes: &'a [u8], text: Option<&'a [u8]>, out: &mut GlobPattern<'a>) -> bool
+    requires { ForSome (option_copied text) (BeginsSo bytes.now) }
+    ensures reads { ReadsTextAsGit (option_copied text.entry) out.old out.new result }
+    ensures place { result ≡ true → IsPartOf out.new.text bytes.entry }
+{
     match text {
         Some(text) => {
             gix_glob_parse_as_git(front_part(bytes, text), out);
-            PATTERN
+            true
         }
-        None => NOTHING,
+        None => false,
     }
 }
 
 /// What is answered for a line, by whether it has a pattern.
 fn told(has_pattern: bool) -> u32
-    ensures { result ≡ (if has_pattern then PATTERN else NOTHING) }
+    ensures pattern { (result == PATTERN) ≡ has_pattern }
+    ensures line { result ≢ END }
 {
     if has_pattern { PATTERN } else { NOTHING }
 }

@@ -80,7 +80,9 @@ pub extern "C" fn gix_glob_matches(
 ) -> bool
     ensures { IsLawful pattern.now → IsTrue result ↔ Splits value.now pattern.now.text.now (record { 0 = mode.bits }) }
 {
-    pattern.view().matches(value, Mode::from_bits_retain(mode.bits))
+    pattern
+        .view()
+        .matches(value, Mode::from_bits_retain(mode.bits))
 }
 
 /// The place, where it is inside the text.

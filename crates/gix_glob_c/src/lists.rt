@@ -62,6 +62,7 @@ pub extern "C" fn gix_glob_rows_at() -> usize
 
 /// How many bytes the heads and a row take.
 const HEADS: usize = size_of::<Heads>();
+
 const ROW: usize = size_of::<Row>();
 
 /// Prepares patterns, in memory of the caller: a row for each, and the heads. `false` is answered, and nothing written, where there
@@ -110,7 +111,11 @@ pub extern "C" fn gix_glob_last_match(
 
 /// The place of the last pattern of a list that matches what the base of the list leaves of a path. A base that is no folder's
 /// leaves nothing.
-pub(crate) fn last_match_under(list: &GlobList<'_>, path: &RepositoryPath<'_>, rules: Rules) -> Option<usize>
+pub(crate) fn last_match_under(
+    list: &GlobList<'_>,
+    path: &RepositoryPath<'_>,
+    rules: Rules,
+) -> Option<usize>
     ensures inside { IfSome result (λ last. last < length list.now.patterns.now) }
     ensures folder { IfSome result (λ last. names_folder list.now.base.now ≡ true) }
     ensures some { IfSome result (λ last. last < none) }

@@ -1,8 +1,7 @@
 -- Where texts stand in others.
-use Rattle.std.proofs.Common.{◌≡◌, ◌×◌, ◌==◌, ℕ, ◌+◌, ◌-◌, ◌≤◌, List, ◌++◌, length, take, drop, ap, sym, refl, ◌∙◌, append_assoc, length-append, take-append-drop, arith, Option, Some}
+use Rattle.std.proofs.Common.{◌≡◌, ⊎_elim, ℕ, ◌+◌, ◌-◌, ◌≤◌, Bool, true, false, cond, List, [], ◌∷◌, ◌++◌, length, take, drop, ap, sym, refl, ◌∙◌, append_assoc, length-append, take-append-drop, arith, Option, None, Some, nat_eq}
 use Rattle.std.specs.Borrow.{Bor}
 use Rattle.std.specs.List.{concat, position_or_len}
-use Rattle.std.proofs.Math.Seq.{drop-append_seam, take-append_seam}
 use Rattle.std.proofs.lemmas.List.Folds.{concat-append}
 use Rattle.glob_patterns.specs.declared.mode.Mode.{Mode}
 use Rattle.glob_patterns.specs.GitLines.{GitReads}
@@ -10,9 +9,14 @@ use Rattle.glob_patterns.specs.Patterns.{Reads, is_for_directories, slash_if}
 use Rattle.glob_patterns.proofs.lemmas.ModeBits.{is_for_directories-sum}
 use Rattle.glob_patterns.proofs.lemmas.ShownLines.{slash_if-lead}
 use Rattle.glob_lines.specs.GitLines.{BeginsWithGitLine, before_zero, return_of}
-use Rattle.glob_lines.specs.Ignore.{BeginsWithLine, Trims, without_mark}
+use Rattle.glob_lines.specs.Ignore.{BeginsWithLine, Trims, units_of, without_mark}
 use Rattle.glob_lines.specs.Memory.{end_of}
-use Rattle.glob_lines.proofs.lemmas.TrimLemmas.{concat-units_of}
+use Rattle.std.specs.Prelude.{◌==◌}
+use Rattle.std.specs.Option.{ForSome}
+use Rattle.std.specs.List.{starts_with}
+use Rattle.std.proofs.lemmas.Bool.{cases_Bool}
+use Rattle.std.proofs.lemmas.List.{length-drop}
+use Rattle.gix_glob.specs.Bytes.{backslash}
 use Rattle.gix_glob_c.specs.Places.{IsPartOf}
 use Rattle.gix_glob_c.specs.Private.Parts.{BeginsSo, HasBefore}
 
@@ -33,48 +37,41 @@ git_read_before line text mode place r = record {
   many = sym (ap length (ap slash_if (is_for_directories-sum mode _ _ _ _ _ r.bits) ∙ slash_if-lead r.tail _ r.trails));
 }
 
--- the length of such a text
-pub before_lengths : (bytes text : List ℕ) (count : ℕ) (h : HasBefore bytes text count) → length bytes ≡ length h.before + (length text + count)
-before_lengths bytes text count h =
-    ap length h.joined ∙ length-append h.before (text ++ h.behind) ∙ ap (λ n. length h.before + n) (length-append text h.behind ∙ ap (λ n. length text + n) h.many)
-
--- the text as it is cut out
-pub cut_before : (bytes text : List ℕ) (count start : ℕ) (h : HasBefore bytes text count) → start ≡ length h.before → take (length text) (drop start bytes) ≡ text
-cut_before bytes text count start h at =
-    ap (λ n. take (length text) (drop n bytes)) at
-    ∙ ap (λ bs. take (length text) (drop (length h.before) bs)) h.joined
-    ∙ ap (take (length text)) (drop-append_seam h.before (text ++ h.behind))
-    ∙ take-append_seam text h.behind
+-- the units of a line are all of it
+units_whole : (line : List ℕ) → concat (units_of line) ≡ line
+units_whole [] = refl
+units_whole (b ∷ []) = refl
+units_whole (b ∷ c ∷ bytes) =
+    let by_test = λ (test : Bool). concat (cond test ((b ∷ c ∷ []) ∷ units_of bytes) ((b ∷ []) ∷ units_of (c ∷ bytes))) in
+    ⊎_elim
+    (λ (is : (b == backslash) ≡ true). ap by_test is ∙ ap (λ l. b ∷ c ∷ l) (units_whole bytes))
+    (λ (other : (b == backslash) ≡ false). ap by_test other ∙ ap (λ l. b ∷ l) (units_whole (c ∷ bytes)))
+    (cases_Bool (b == backslash))
 
 -- a line begins with the text that is left of it
 trimmed_so : (line text : List ℕ) → Trims line text → BeginsSo line text
 trimmed_so line text h = (
   concat h.spaces,
-  sym (concat-units_of line) ∙ ap concat h.units ∙ concat-append h.kept h.spaces ∙ ap (λ t. t ++ concat h.spaces) (sym h.joined),
+  sym (units_whole line) ∙ ap concat h.units ∙ concat-append h.kept h.spaces ∙ ap (λ t. t ++ concat h.spaces) (sym h.joined),
 )
 
 begins_longer : (bytes line text more : List ℕ) → bytes ≡ line ++ more → BeginsSo line text → BeginsSo bytes text
 begins_longer bytes line text more joined h = (h.0 ++ more, joined ∙ ap (λ l. l ++ more) h.1 ∙ append_assoc text h.0 more)
 
-pub line_begins : (bytes text rest : List ℕ) → BeginsWithLine bytes (Some text) rest → BeginsSo bytes text
-line_begins bytes text rest h = begins_longer bytes h.line text (h.cut.ending ++ rest) h.cut.joined (trimmed_so h.line text h.gives.trims)
+pub line_begins : (bytes : List ℕ) (text : Option (List ℕ)) (rest : List ℕ) → BeginsWithLine bytes text rest → ForSome text (BeginsSo bytes)
+line_begins bytes None rest h = tt
+line_begins bytes (Some text) rest h = begins_longer bytes h.line text (h.cut.ending ++ rest) h.cut.joined (trimmed_so h.line text h.gives.trims)
 
 -- what stands before the first byte 0 begins the bytes
 zero_rest : (bytes : List ℕ) → bytes ≡ before_zero bytes ++ drop (position_or_len (λ b. b == 0) bytes) bytes
 zero_rest bytes = sym (take-append-drop (position_or_len (λ b. b == 0) bytes) bytes)
 
-pub git_line_begins : (bytes text rest : List ℕ) → BeginsWithGitLine bytes (Some text) rest → BeginsSo bytes text
-git_line_begins bytes text rest h =
+pub git_line_begins : (bytes : List ℕ) (text : Option (List ℕ)) (rest : List ℕ) → BeginsWithGitLine bytes text rest → ForSome text (BeginsSo bytes)
+git_line_begins bytes None rest h = tt
+git_line_begins bytes (Some text) rest h =
     let body = h.gives.body in
     let in_body = begins_longer body (before_zero body) text (drop (position_or_len (λ b. b == 0) body) body) (zero_rest body) (trimmed_so (before_zero body) text h.gives.trims) in
     begins_longer bytes h.line text (h.cut.ending ++ rest) h.cut.joined (begins_longer h.line body text (return_of h.line) h.gives.returned in_body)
-
--- the text that is cut off the front
-pub cut_front : (bytes text : List ℕ) → BeginsSo bytes text → take (length text) bytes ≡ text
-cut_front bytes text h = ap (take (length text)) h.1 ∙ take-append_seam text h.0
-
-pub front_within : (bytes text : List ℕ) → BeginsSo bytes text → length text ≤ length bytes
-front_within bytes text h = omega (arith, ap length h.1, length-append text h.0)
 
 -- ---- parts of parts
 
@@ -98,3 +95,13 @@ part_at_end text bytes ends shorter =
       begins = ap (λ n. (n, text.ref_ptr.1)) space ∙ ap (λ n. (bytes.ref_ptr.0, n)) first;
       inside = omega (arith, shorter);
     }
+
+-- what a byte order mark leaves is no longer
+pub mark_shorter : (bytes : List ℕ) → length (without_mark bytes) ≤ length bytes
+mark_shorter bytes =
+    let marked = starts_with nat_eq bytes (239 ∷ 187 ∷ 191 ∷ []) in
+    let by_test = λ (test : Bool). length (cond test (drop 3 bytes) bytes) in
+    ⊎_elim
+    (λ (is : marked ≡ true). (let same = ap by_test is in omega (arith, same, length-drop 3 bytes)))
+    (λ (other : marked ≡ false). (let same = ap by_test other in omega (arith, same)))
+    (cases_Bool marked)

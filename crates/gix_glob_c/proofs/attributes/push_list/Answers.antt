@@ -13,14 +13,14 @@ use Rattle.gix_glob_c.proofs.lemmas.FindingLemmas.{answers-none, answers-only, a
 use Rattle.gix_glob_c.proofs.attributes.push_list.Goals.{then-is_matched+in_ok-count, else-is_matched}
 use Rattle.gix_glob_c.proofs.attributes.push_list.Goals as goal
 
-pub returns-else-is_folder-clause-row : goal.returns-else-is_folder-clause-row
-returns-else-is_folder-clause-row c = λ lawful found.
+pub returns-then-not-is_folder-clause-row : goal.returns-then-not-is_folder-clause-row
+returns-then-not-is_folder-clause-row c = λ lawful found.
     let lists = c.args.lists.now in
     let path = c.args.path.now in
     let list = slice_index_or lists c.args.i blank_attributes in
     let there = list_there lists c.args.i c.requires.list in
     found-list lists path c.args.rules c.args.i list there 0 (row_of c.args.texts.now c.args.before)
-    (λ m answered. absurd (answers-none lists path c.args.rules c.args.i list there (sym c.is_folder.ensures.value) m answered))
+    (λ m answered. absurd (answers-none lists path c.args.rules c.args.i list there (sym c.if-not-is_folder.ensures.value) m answered))
     found
 
 pub returns-in_default-clause-row : goal.returns-in_default-clause-row
@@ -55,7 +55,7 @@ lines-preserved c =
     let row = row_of c.lines.texts c.lines.count in
     let there = list_there lists i c.requires.list in
     let within : m < length list.lines.now = omega (arith, c.lines-test.true) in
-    let folder = sym c.is_folder.ensures.value in
+    let folder = sym c.if-not-is_folder.ensures.value in
     let here = line_there list m folder within in
     let left : Rest rules.case list.base.now path.bytes rest.bytes = c.in-Some.ensures.0 in
     let each : All IsLawfulAttributes lists → IsLawful line.pattern = λ lawful.
@@ -90,7 +90,7 @@ returns-clause-row c = λ lawful found.
     let there = list_there lists c.args.i c.requires.list in
     let all : length list.lines.now ≤ c.lines.m = omega (arith, c.lines-test.false) in
     found-list lists c.args.path.now c.args.rules c.args.i list there c.lines.m (row_of c.lines.texts c.lines.count)
-    (λ m answered. (let inside = answers-within lists c.args.path.now c.args.rules c.args.i list there (sym c.is_folder.ensures.value) m answered in omega (arith, inside, all)))
+    (λ m answered. (let inside = answers-within lists c.args.path.now c.args.rules c.args.i list there (sym c.if-not-is_folder.ensures.value) m answered in omega (arith, inside, all)))
     (c.lines.invariant.row lawful found)
 
 pub returns-clause-fewer : goal.returns-clause-fewer

@@ -2,4 +2,4 @@
 use Rattle.gix_glob_c.proofs.lists.last_of_all.Goals as goal
 
 pub returns-clause-exact : goal.returns-clause-exact
-returns-clause-exact c = λ lawful. c.last_match-3.ensures.exact lawful.patterns (lawful.prepared c.in-Some.heads c.in-Some.ensures)
+returns-clause-exact c = λ lawful. c.last_match-2.ensures.exact lawful.patterns (lawful.prepared c.in-Some.heads c.in-Some.ensures)
