@@ -294,7 +294,8 @@ static inline bool gix_glob_rules_room(const struct gix_glob_rules *rules, struc
     return lists && files;
 }
 
-/* The folder of a base, which is added where there is none yet, with the lists on the way to it. NULL where memory was refused. */
+/* The folder of a base, which is added where there is none yet, with the lists on the way to it and room for one more. NULL, and all as it
+ * was, where memory was refused. */
 static inline struct gix_glob_rules_folder *gix_glob_rules_folder_at(struct gix_glob_rules *rules, struct gix_glob_text base)
 {
     struct gix_glob_rules_folder *above, *folder;
@@ -318,13 +319,12 @@ static inline struct gix_glob_rules_folder *gix_glob_rules_folder_at(struct gix_
     memset(folder, 0, sizeof *folder);
     folder->base = base;
     folder->hash = hash;
-    for (; folder->count < above->count; folder->count++) {
-        if (!gix_glob_rules_room(rules, folder))
-            break;
+    while (gix_glob_rules_room(rules, folder) && folder->count < above->count) {
         folder->lists[folder->count] = above->lists[folder->count];
         folder->files[folder->count] = above->files[folder->count];
+        folder->count++;
     }
-    if (folder->count < above->count) {
+    if (folder->count == folder->room || folder->count == folder->file_room) {
         gix_glob_rules_resize(rules, folder->lists, folder->room * sizeof *folder->lists, 0);
         gix_glob_rules_resize(rules, folder->files, folder->file_room * sizeof *folder->files, 0);
         return NULL;
@@ -338,11 +338,12 @@ static inline struct gix_glob_rules_folder *gix_glob_rules_folder_at(struct gix_
 static inline bool gix_glob_rules_put(struct gix_glob_rules *rules, const struct gix_glob_rules_file *file)
 {
     const struct gix_glob_text base = file->list.base;
-    if (!gix_glob_rules_folder_at(rules, base))
-        return false;
     for (size_t i = 0; i < rules->folder_count; i++)
         if (gix_glob_rules_begins(rules, base, rules->folders[i].base) && !gix_glob_rules_room(rules, &rules->folders[i]))
             return false;
+    /* (nothing is refused behind this: the base of a new folder lies in the file) */
+    if (!gix_glob_rules_folder_at(rules, base))
+        return false;
     for (size_t i = 0; i < rules->folder_count; i++) {
         struct gix_glob_rules_folder *folder = &rules->folders[i];
         if (!gix_glob_rules_begins(rules, base, folder->base))

@@ -90,10 +90,8 @@ pub extern "C" fn gix_glob_parse_as_git<'a>(line: &'a [u8], out: &mut GlobPatter
     ensures reads { IsReadAsGit line.now out.new }
     ensures place { IsPartOf out.new.text line.entry }
 {
-    *out = parts_of(
-        part_of(line, PatternView::from_git_line(line)),
-        Reading::Git,
-    );
+    let view = PatternView::from_git_line(line);
+    *out = parts_of(part_of(line, view), Reading::Git);
 }
 
 /// A pattern that was read of a line, with the text where it lies in the line.
