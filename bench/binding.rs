@@ -6,9 +6,19 @@ use gix_glob::pattern::{Case, Mode};
 use gix_glob::{Pattern, wildmatch};
 use std::hint::black_box;
 
+/// `struct gix_glob_pattern`.
+#[repr(C)]
+struct Parts {
+    text: *const u8,
+    text_len: usize,
+    first_wildcard_pos: usize,
+    mode: u32,
+    reading: u32,
+}
+
 unsafe extern "C" {
     fn gix_glob_wildmatch(pattern: *const u8, pattern_len: usize, value: *const u8, value_len: usize, mode: u8) -> bool;
-    fn gix_glob_matches(text: *const u8, text_len: usize, pattern_mode: u32, place: usize, value: *const u8, value_len: usize, mode: u8) -> bool;
+    fn gix_glob_matches(pattern: *const Parts, value: *const u8, value_len: usize, mode: u8) -> bool;
 }
 
 /// A path, and where its last part begins.
@@ -28,9 +38,10 @@ fn by_c(line: &Pattern, path: &Path, case: Case) -> bool {
     let is_for_name = line.mode.contains(Mode::NO_SUB_DIR) && !line.mode.contains(Mode::ABSOLUTE);
     let start = path.basename_start.filter(|_| is_for_name).unwrap_or(0);
     let value = &path.bytes[start..];
-    let place = line.first_wildcard_pos.unwrap_or(usize::MAX);
+    let first_wildcard_pos = line.first_wildcard_pos.unwrap_or(usize::MAX);
+    let parts = Parts { text: line.text.as_ptr(), text_len: line.text.len(), first_wildcard_pos, mode: line.mode.bits(), reading: 0 };
     let mode = if case == Case::Fold { work::PATH | work::FOLD } else { work::PATH };
-    unsafe { gix_glob_matches(line.text.as_ptr(), line.text.len(), line.mode.bits(), place, value.as_ptr(), value.len(), mode) }
+    unsafe { gix_glob_matches(&parts, value.as_ptr(), value.len(), mode) }
 }
 
 /// By the binding.

@@ -4,9 +4,19 @@ mod work;
 use std::hint::black_box;
 use upstream::wildmatch::Mode;
 
+/// `struct gix_glob_pattern`.
+#[repr(C)]
+struct Parts {
+    text: *const u8,
+    text_len: usize,
+    first_wildcard_pos: usize,
+    mode: u32,
+    reading: u32,
+}
+
 unsafe extern "C" {
     fn gix_glob_wildmatch(pattern: *const u8, pattern_len: usize, value: *const u8, value_len: usize, mode: u8) -> bool;
-    fn gix_glob_matches(text: *const u8, text_len: usize, pattern_mode: u32, place: usize, value: *const u8, value_len: usize, mode: u8) -> bool;
+    fn gix_glob_matches(pattern: *const Parts, value: *const u8, value_len: usize, mode: u8) -> bool;
 }
 
 type Engine = fn(&[u8], &[u8], u8) -> bool;
@@ -23,8 +33,9 @@ const ENGINES: [(&str, Engine); 3] = [
 const MATCHERS: [(&str, Matcher); 3] = [
     ("crate", |l, v, m| l.matches(v.into(), Mode::from_bits_retain(m))),
     ("here", |l, v, m| {
-        let place = l.first_wildcard_pos.unwrap_or(usize::MAX);
-        unsafe { gix_glob_matches(l.text.as_ptr(), l.text.len(), l.mode.bits(), place, v.as_ptr(), v.len(), m) }
+        let first_wildcard_pos = l.first_wildcard_pos.unwrap_or(usize::MAX);
+        let parts = Parts { text: l.text.as_ptr(), text_len: l.text.len(), first_wildcard_pos, mode: l.mode.bits(), reading: 0 };
+        unsafe { gix_glob_matches(&parts, v.as_ptr(), v.len(), m) }
     }),
     ("nothing", |_, _, _| false),
 ];

@@ -20,25 +20,6 @@ struct Parts {
 const AS_CRATE: u32 = 0;
 const AS_GIT: u32 = 1;
 
-/// `struct gix_glob_row`.
-#[repr(C)]
-#[derive(Clone)]
-struct Row(u64, u32, [u8; 2]);
-
-/// `struct gix_glob_heads`.
-#[repr(C)]
-struct Heads([u32; 512]);
-
-/// `struct gix_glob_index`.
-#[repr(C)]
-struct Prepared {
-    patterns: *const Parts,
-    count: usize,
-    rows: *const Row,
-    row_count: usize,
-    heads: *const Heads,
-}
-
 /// `struct gix_glob_list`.
 #[repr(C)]
 struct Listed {
@@ -46,12 +27,17 @@ struct Listed {
     count: usize,
     base: *const u8,
     base_len: usize,
+    rows: *const u64,
+    row_count: usize,
+    heads: *const u64,
+    head_count: usize,
 }
 
 unsafe extern "C" {
-    fn gix_glob_last_match(patterns: *const Parts, count: usize, path: *const u8, path_len: usize, is_dir: bool, fold: bool) -> usize;
-    fn gix_glob_prepare(patterns: *const Parts, count: usize, rows: *mut Row, row_count: usize, heads: *mut Heads) -> bool;
-    fn gix_glob_index_last_match(index: *const Prepared, path: *const u8, path_len: usize, is_dir: bool, fold: bool) -> usize;
+    fn gix_glob_last_match(list: *const Listed, path: *const u8, path_len: usize, is_dir: bool, fold: bool) -> usize;
+    fn gix_glob_prepared_size(count: usize) -> usize;
+    fn gix_glob_rows_at() -> usize;
+    fn gix_glob_prepare(patterns: *const Parts, count: usize, rows: *mut u64, row_count: usize, heads: *mut u64) -> bool;
     fn gix_glob_decide_in_tree(lists: *const Listed, count: usize, path: *const u8, path_len: usize, is_dir: bool, fold: bool, out: *mut [usize; 2]) -> bool;
 }
 
@@ -75,7 +61,7 @@ fn lines(bytes: &[u8]) -> impl Iterator<Item = &[u8]> {
 fn main() {
     let words: Vec<String> = std::env::args().skip(1).collect();
     let [what, folder, rounds] = words.iter().map(String::as_str).collect::<Vec<_>>()[..] else {
-        panic!("nothing | prepare | c_in_turn | c_index | rust_index | c_tree | rust_tree, FOLDER, ROUNDS")
+        panic!("nothing | prepare | c_in_turn | c_index | rust_index | c_tree | c_prepared_tree | rust_tree, FOLDER, ROUNDS")
     };
     let (what, reading) = what.strip_suffix("_as_git").map_or((what, AS_CRATE), |what| (what, AS_GIT));
     let [patterns, paths] = ["patterns", "paths"].map(|name| std::fs::read(format!("{folder}/{name}")).expect("a file"));
@@ -86,8 +72,10 @@ fn main() {
         AS_GIT => as_git.iter().map(|it| parts_of(it, reading)).collect(),
         _ => list.patterns.iter().map(|it| parts_of(&it.pattern, reading)).collect(),
     };
-    let (mut rows, mut heads) = (vec![Row(0, 0, [0; 2]); parts.len()], Heads([0; 512]));
-    let mut prepare = || unsafe { gix_glob_prepare(parts.as_ptr(), parts.len(), rows.as_mut_ptr(), rows.len(), &mut heads) };
+    let mut block = vec![0u64; unsafe { gix_glob_prepared_size(parts.len()) }.div_ceil(8)];
+    let heads = block.as_mut_ptr();
+    let rows = unsafe { heads.byte_add(gix_glob_rows_at()) };
+    let prepare = || unsafe { gix_glob_prepare(parts.as_ptr(), parts.len(), rows, parts.len(), heads) };
     assert!(prepare());
     let rounds = rounds.parse::<u32>().expect("a number of rounds");
     if what == "prepare" {
@@ -95,14 +83,16 @@ fn main() {
         println!("{}", parts.len());
         return;
     }
-    let prepared = Prepared { patterns: parts.as_ptr(), count: parts.len(), rows: rows.as_ptr(), row_count: rows.len(), heads: &heads };
-    let listed = Listed { patterns: parts.as_ptr(), count: parts.len(), base: b"".as_ptr(), base_len: 0 };
+    let (base, base_len) = (b"".as_ptr(), 0);
+    let prepared = Listed { patterns: parts.as_ptr(), count: parts.len(), base, base_len, rows, row_count: parts.len(), heads, head_count: 1 };
+    let listed = Listed { row_count: 0, head_count: 0, ..prepared };
     let index = Index::new(&list).expect("an index");
     let lists = Lists::new(std::slice::from_ref(&list));
     let ask: &dyn Fn(&[u8]) -> bool = match what {
-        "c_in_turn" => &|it| unsafe { gix_glob_last_match(parts.as_ptr(), parts.len(), it.as_ptr(), it.len(), false, false) } != usize::MAX,
-        "c_index" => &|it| unsafe { gix_glob_index_last_match(&prepared, it.as_ptr(), it.len(), false, false) } != usize::MAX,
+        "c_in_turn" => &|it| unsafe { gix_glob_last_match(&listed, it.as_ptr(), it.len(), false, false) } != usize::MAX,
+        "c_index" => &|it| unsafe { gix_glob_last_match(&prepared, it.as_ptr(), it.len(), false, false) } != usize::MAX,
         "rust_index" => &|it| index.last_match(it.into(), false, Case::Sensitive).is_some(),
+        "c_prepared_tree" => &|it| unsafe { gix_glob_decide_in_tree(&prepared, 1, it.as_ptr(), it.len(), false, false, &mut [0; 2]) },
         "c_tree" => &|it| unsafe { gix_glob_decide_in_tree(&listed, 1, it.as_ptr(), it.len(), false, false, &mut [0; 2]) },
         "rust_tree" => &|it| lists.decide_in_tree(it.into(), false, Case::Sensitive).is_some(),
         _ => &|_| false,

@@ -7,30 +7,25 @@
 
 #define COUNT_OF(rows) (sizeof(rows) / sizeof *(rows))
 
-/* The bytes of a literal and how many, as two arguments or two members. */
-#define TEXT(literal) (const uint8_t *)(literal), sizeof(literal) - 1
-
-struct text {
-    const uint8_t *bytes;
-    size_t len;
-};
+/* A text as an argument. */
+#define OF(literal) ((struct gix_glob_text)GIX_GLOB_TEXT(literal))
 
 /* Tells what isn't so of which row, counted from 0. */
 void check(bool is_so, const char *asked, size_t row);
 
-static inline bool is_text(const uint8_t *bytes, size_t len, struct text wanted)
+static inline bool is_text(struct gix_glob_text text, struct gix_glob_text wanted)
 {
-    bool is_same = len == wanted.len;
-    for (size_t i = 0; is_same && i < len; i++)
-        is_same = bytes[i] == wanted.bytes[i];
+    bool is_same = text.len == wanted.len;
+    for (size_t i = 0; is_same && i < text.len; i++)
+        is_same = text.bytes[i] == wanted.bytes[i];
     return is_same;
 }
 
 /* The pattern of a line that has one. */
-static inline struct gix_glob_pattern parsed(const uint8_t *line, size_t len)
+static inline struct gix_glob_pattern parsed(const char *line)
 {
     struct gix_glob_pattern pattern = GIX_GLOB_PATTERN_INIT;
-    check(gix_glob_parse(line, len, &pattern), "the line has a pattern", 0);
+    check(gix_glob_parse(gix_glob_string(line), &pattern), "the line has a pattern", 0);
     return pattern;
 }
 
@@ -42,5 +37,6 @@ void trees(void);
 void ignore_lines(void);
 void attribute_lines(void);
 void attribute_states(void);
+void memory(void);
 
 #endif

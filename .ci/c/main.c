@@ -22,5 +22,6 @@ int main(void)
     ignore_lines();
     attribute_lines();
     attribute_states();
+    memory();
     return failed > 0;
 }

@@ -14,8 +14,8 @@
 
 static struct gix_glob_attribute_list list;   /* the lines of the file that give a pattern */
 static struct gix_glob_attributes attributes; /* that list, and the macros */
-static struct gix_glob_text *texts;           /* memory for a question: one for each line and macro, */
-static bool *marks;                           /* and one for each macro */
+static struct gix_glob_texts texts;           /* memory for a question: one for each line and macro, */
+static struct gix_glob_marks marks;           /* and one for each macro */
 
 static void stop(const char *what)
 {
@@ -55,7 +55,6 @@ static void load(const char *file)
     static const struct gix_glob_macro no_macro = GIX_GLOB_MACRO_INIT, binary = GIX_GLOB_MACRO_BINARY;
     size_t len = 0, most = 2, count = 0, macro_count = 1;
     const char *bytes = read_whole(file, &len);
-    uint32_t kind = GIX_GLOB_LINE_NOTHING;
 
     for (size_t i = 0; i < len; i++)
         most += bytes[i] == '\n';
@@ -67,38 +66,37 @@ static void load(const char *file)
     for (;;) {
         lines[count] = no_line;
         macros[macro_count] = no_macro;
-        uint8_t *memory = heads + (len - left.rest_len);
-        if (!gix_glob_parse_attribute_line(&left, true, memory, left.rest_len, &lines[count], &macros[macro_count], &kind))
+        const struct gix_glob_memory memory = gix_glob_memory_of(heads + (len - left.rest.len), left.rest.len);
+        const enum gix_glob_line kind = gix_glob_parse_attribute_line(&left, memory, &lines[count], &macros[macro_count], true);
+        if (kind == GIX_GLOB_LINE_END)
             break;
+        if (kind == GIX_GLOB_LINE_FILE_TOO_LARGE) {
+            fprintf(stderr, "attributes: %s has 100 MiB or more, and says nothing\n", file);
+            break;
+        }
         count += kind == GIX_GLOB_LINE_PATTERN;
         macro_count += kind == GIX_GLOB_LINE_MACRO;
         if (kind > GIX_GLOB_LINE_MACRO)
             fprintf(stderr, "attributes: line %zu of %s says nothing\n", left.number, file);
     }
-    list.lines = lines;
-    list.count = count;
-    list.base = gix_glob_bytes(NULL);
-    attributes.lists = &list;
-    attributes.count = 1;
-    attributes.macros = macros;
-    attributes.macro_count = macro_count;
-    texts = (struct gix_glob_text *)cleared(count + macro_count, sizeof *texts);
-    gix_glob_init_texts(texts, count + macro_count);
-    marks = (bool *)cleared(macro_count, sizeof *marks);
+    list = gix_glob_attribute_list_of(lines, count, gix_glob_string(""));
+    attributes = gix_glob_attributes_of(&list, 1, macros, macro_count);
+    texts = gix_glob_texts_of((struct gix_glob_text *)cleared(count + macro_count, sizeof(struct gix_glob_text)), count + macro_count);
+    marks = gix_glob_marks_of((bool *)cleared(macro_count, sizeof(bool)), macro_count);
 }
 
 static void tell(const char *path, size_t len, const char *name)
 {
     static const char *const states[] = { "unspecified", "set", "unset" };
     const bool is_dir = len > 0 && path[len - 1] == '/';
-    const struct gix_glob_path asked = { gix_glob_bytes(path), len - is_dir, is_dir };
+    const struct gix_glob_path asked = { gix_glob_text_of(path, len - is_dir), is_dir };
     struct gix_glob_state state = GIX_GLOB_STATE_INIT;
 
-    gix_glob_attribute_of(&attributes, &asked, false, gix_glob_bytes(name), strlen(name), texts, list.count + attributes.macro_count, marks,
-                          attributes.macro_count, &state);
+    if (!gix_glob_attribute_of(&attributes, &asked, gix_glob_string(name), texts, marks, false, &state))
+        state.kind = GIX_GLOB_UNSPECIFIED; /* it is no path */
     printf("%.*s: %s: ", (int)len, path, name);
     if (state.kind == GIX_GLOB_VALUE)
-        printf("%.*s\n", (int)state.value_len, (const char *)state.value);
+        printf("%.*s\n", (int)state.value.len, (const char *)state.value.bytes);
     else
         puts(states[state.kind]);
 }

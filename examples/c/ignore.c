@@ -18,13 +18,12 @@ static struct gix_glob_list *lists; /* one for each file */
 static size_t **numbers, files;     /* for each list the number of each pattern's line, and how many lists there are */
 
 /* The folder of a file below ROOT, with its slash. */
-static void find_base(struct gix_glob_list *list, const char *file, const char *root)
+static struct gix_glob_text base_of(const char *file, const char *root)
 {
     const char *slash = strrchr(file, '/');
     const size_t len = strlen(root), skipped = len + (len > 0 && root[len - 1] != '/'), end = slash ? (size_t)(slash - file) + 1 : 0;
     const bool is_below = strcmp(root, "-") && skipped < end && !strncmp(file, root, len) && (skipped == len || file[len] == '/');
-    list->base = gix_glob_bytes(file + (is_below ? skipped : 0));
-    list->base_len = is_below ? end - skipped : 0;
+    return is_below ? gix_glob_text_of(file + skipped, end - skipped) : gix_glob_string("");
 }
 
 static void stop(const char *what)
@@ -66,22 +65,19 @@ static void load(const char *file, const char *root)
     static const struct gix_glob_pattern blank = GIX_GLOB_PATTERN_INIT;
     struct gix_glob_pattern *patterns = NULL;
     size_t len = 0, count = 0, *lines = NULL;
-    bool has_pattern = false;
     const char *bytes = read_whole(file, &len);
 
     if (!bytes)
         return;
     struct gix_glob_lines left = gix_glob_lines_of(bytes, len);
-    for (bool is_left = true; is_left; count += is_left && has_pattern) {
+    for (enum gix_glob_line line = GIX_GLOB_LINE_NOTHING; line != GIX_GLOB_LINE_END; count += line == GIX_GLOB_LINE_PATTERN) {
         patterns = (struct gix_glob_pattern *)grown(patterns, count + 1, sizeof *patterns);
         lines = (size_t *)grown(lines, count + 1, sizeof *lines);
         patterns[count] = blank;
-        is_left = gix_glob_parse_ignore_line(&left, &patterns[count], &has_pattern);
+        line = gix_glob_parse_ignore_line(&left, &patterns[count]);
         lines[count] = left.number;
     }
-    find_base(&lists[files], file, root);
-    lists[files].patterns = patterns;
-    lists[files].count = count;
+    lists[files] = gix_glob_list_of(patterns, count, base_of(file, root));
     numbers[files++] = lines;
 }
 
@@ -108,13 +104,13 @@ int main(int argc, char **argv)
     for (ssize_t len; (len = getline(&path, &room, stdin)) > 0;) {
         len -= path[len - 1] == '\n';
         const bool is_dir = len > 0 && path[len - 1] == '/';
-        struct gix_glob_decision by = { 0, 0 };
+        struct gix_glob_decision by = GIX_GLOB_DECISION_INIT;
         if (!is_plain(path, (size_t)len))
             puts("!");
-        else if (!gix_glob_decide_in_tree(lists, files, gix_glob_bytes(path), (size_t)(len - is_dir), is_dir, fold, &by))
+        else if (!gix_glob_decide_in_tree(gix_glob_lists_of(lists, files), gix_glob_text_of(path, (size_t)(len - is_dir)), is_dir, fold, &by))
             puts("none");
         else
-            printf("%s %zu:%zu\n", lists[by.list].patterns[by.pattern].mode & GIX_GLOB_NEGATIVE ? "kept" : "ignored", by.list + 1,
+            printf("%s %zu:%zu\n", gix_glob_is_negative(&lists[by.list].patterns[by.pattern]) ? "kept" : "ignored", by.list + 1,
                    numbers[by.list][by.pattern]);
     }
     free(path);

@@ -30,13 +30,16 @@ struct RawLines {
 #[link(name = "gix_glob_c", kind = "static")]
 unsafe extern "C" {
     fn gix_glob_parse(line: *const u8, line_len: usize, out: *mut Parts) -> bool;
-    fn gix_glob_parse_ignore_line(lines: *mut RawLines, out: *mut Parts, has_pattern: *mut bool) -> bool;
+    fn gix_glob_parse_ignore_line(lines: *mut RawLines, out: *mut Parts) -> u32;
     fn gix_glob_pattern_matches_path(pattern: *const Parts, path: *const u8, path_len: usize, is_dir: bool, fold: bool) -> bool;
     fn gix_glob_decide_in_tree(lists: *const List<'_>, count: usize, path: *const u8, path_len: usize, is_dir: bool, fold: bool, out: *mut Decision) -> bool;
 }
 
 const BLANK: Parts = Parts { text: std::ptr::NonNull::dangling().as_ptr(), text_len: 0, first_wildcard_pos: usize::MAX, mode: 0, reading: 0 };
 const NEGATIVE: u32 = 8;
+/// `GIX_GLOB_LINE_END` and `GIX_GLOB_LINE_PATTERN`.
+const END: u32 = 0;
+const PATTERN: u32 = 2;
 
 /// A pattern that was read. Its text is a part of the line, which it borrows.
 #[derive(Clone, Copy)]
@@ -66,19 +69,25 @@ impl<'a> Pattern<'a> {
 /// The patterns of an ignore file, each with the number of its line.
 pub fn ignore_lines(file: &[u8]) -> impl Iterator<Item = (usize, Pattern<'_>)> {
     let mut lines = RawLines { rest: file.as_ptr(), rest_len: file.len(), number: 0 };
-    let mut is_left = true;
     std::iter::from_fn(move || {
-        while is_left {
-            let (mut parts, mut has_pattern) = (BLANK, false);
-            // SAFETY: `lines` stays within the file, which is borrowed, and all three are initialised.
-            is_left = unsafe { gix_glob_parse_ignore_line(&mut lines, &mut parts, &mut has_pattern) };
-            if is_left && has_pattern {
-                return Some((lines.number, Pattern(parts, PhantomData)));
+        let mut parts = BLANK;
+        loop {
+            // SAFETY: `lines` stays within the file, which is borrowed, and both are initialised.
+            match unsafe { gix_glob_parse_ignore_line(&mut lines, &mut parts) } {
+                END => return None,
+                PATTERN => return Some((lines.number, Pattern(parts, PhantomData))),
+                _ => {}
             }
         }
-        None
     })
 }
+
+/// What is prepared of a list, here nothing: an aligned pointer, and no count.
+#[repr(C)]
+#[derive(Clone, Copy)]
+struct Nothing(std::ptr::NonNull<u64>, usize);
+
+const NOTHING: Nothing = Nothing(std::ptr::NonNull::dangling(), 0);
 
 /// The patterns of an ignore file, and its folder.
 #[repr(C)]
@@ -87,6 +96,7 @@ pub struct List<'a> {
     count: usize,
     base: *const u8,
     base_len: usize,
+    prepared: [Nothing; 2],
     lives: PhantomData<&'a [Pattern<'a>]>,
 }
 
@@ -94,7 +104,8 @@ impl<'a> List<'a> {
     /// The patterns in the order of their lines, and the folder from the top of the tree on: empty, or with a slash at its end.
     pub fn new(patterns: &'a [Pattern<'a>], base: &'a [u8]) -> List<'a> {
         // `Pattern` is laid out as its parts
-        List { patterns: patterns.as_ptr().cast(), count: patterns.len(), base: base.as_ptr(), base_len: base.len(), lives: PhantomData }
+        let (patterns, count) = (patterns.as_ptr().cast(), patterns.len());
+        List { patterns, count, base: base.as_ptr(), base_len: base.len(), prepared: [NOTHING; 2], lives: PhantomData }
     }
 }
 

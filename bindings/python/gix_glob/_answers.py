@@ -1,8 +1,8 @@
 """Whether a library answers as one of this version does: each call that is used is asked what tells it from another one.
 
-The library has no call that tells its version. A file may have calls of these names that answer otherwise, or that write to other
-structures; so each is asked a few questions, the plain ones first, and nothing more after a wrong answer. What a call writes to has
-room behind it that is to stay as it was. A call that harms memory elsewhere, or never ends, isn't seen by this.
+The library tells its version. A file may still have calls of these names that answer otherwise, or that write to other structures; so
+each is asked a few questions, the plain ones first, and nothing more after a wrong answer. What a call writes to has room behind it
+that is to stay as it was. A call that harms memory elsewhere, or never ends, isn't seen by this.
 """
 
 from __future__ import annotations
@@ -10,7 +10,7 @@ from __future__ import annotations
 import ctypes
 from typing import Any, Callable, List, NamedTuple, Optional, Sequence, Tuple
 
-from ._calls import AS_CRATE, AS_GIT, NONE, Asked, Heads, Index, Lines, Parts, Row, blank
+from ._calls import AS_CRATE, AS_GIT, END, NONE, NOTHING, PATTERN, VERSION, Asked, Lines, Parts, Rules, blank
 
 #: The bytes behind what a call writes to.
 _MARK = b"\xa5" * 256
@@ -60,6 +60,11 @@ class _Text:
         return self._memory.raw[begin:end] if 0 <= begin < end <= self.length else None
 
 
+def _version(c: Any) -> bool:
+    major, minor, patch = map(int, VERSION.split("."))
+    return bool(c.gix_glob_version() == major * 10000 + minor * 100 + patch)
+
+
 def _wildmatch(c: Any) -> bool:
     rows = (
         (b"*.[ch]", b"src/main.c", 0, True),
@@ -76,7 +81,8 @@ def _matches(c: Any) -> bool:
     rows = ((b"*.o", 3, 0, b"a.o", 1, True), (b"*.o", 3, 0, b"a.c", 1, False), (b"a/[bc]", 0, 2, b"a/c", 1, True))
     for line, bits, place, value, mode, told in rows:
         text = _Text(line)
-        if c.gix_glob_matches(text.address, text.length, bits, place, value, len(value), mode) is not told:
+        parts = Parts(text.address, text.length, place, bits, AS_CRATE)
+        if c.gix_glob_matches(parts, value, len(value), mode) is not told:
             return False
     return True
 
@@ -121,18 +127,19 @@ class _Read(NamedTuple):
 def _read(take_line: Any) -> Optional[_Read]:
     """The file, as a call reads it line by line; None where the call counts otherwise, or writes past its structures."""
     file = _Text(_FILE)
-    lines, out, has_pattern = _Room(Lines), _Room(Parts, bytes(blank())), _Room(ctypes.c_bool)
+    lines, out = _Room(Lines), _Room(Parts, bytes(blank()))
     lines.it.rest, lines.it.rest_len = file.address, file.length
-    told = ctypes.byref(lines.it), ctypes.byref(out.it), ctypes.byref(has_pattern.it)
+    told = ctypes.byref(lines.it), ctypes.byref(out.it)
     texts: List[Optional[bytes]] = []
     patterns = []
     for number in range(1, len(_BY_CRATE) + 1):
-        if take_line(*told) is not True or lines.it.number != number:
+        line = take_line(*told)
+        if line not in (NOTHING, PATTERN) or lines.it.number != number:
             return None
-        texts.append(file.part(out.it) if has_pattern.it.value else None)
-        if has_pattern.it.value:
+        texts.append(file.part(out.it) if line == PATTERN else None)
+        if line == PATTERN:
             patterns.append(Parts.from_buffer_copy(out.it))
-    if take_line(*told) is not False or not (lines.is_kept() and out.is_kept() and has_pattern.is_kept()):
+    if take_line(*told) != END or lines.it.rest_len or not (lines.is_kept() and out.is_kept()):
         return None
     return _Read(texts, patterns, file)
 
@@ -154,11 +161,20 @@ class _Prepared:
         read = _read(c.gix_glob_parse_ignore_line)
         patterns = read.patterns if read else ()
         count = len(patterns)
-        self._kept = (read, (Parts * count)(*patterns))
-        self.rows, self.heads = _Room(Row * count), _Room(Heads)
-        told = ctypes.addressof(self._kept[1]), count, self.rows.address
-        self.has_room = [c.gix_glob_prepare(*told, rows, ctypes.byref(self.heads.it)) for rows in (count - 1, count)]
-        self.index = Index(*told, count, self.heads.address)
+        self._kept = (read, (Parts * count)(*patterns), _Text(b""))
+        self.rows, self.heads = _Room(ctypes.c_uint64 * (2 * count)), _Room(ctypes.c_uint64 * 256)
+        told = ctypes.addressof(self._kept[1]), count
+        self.has_room = [c.gix_glob_prepare(*told, self.rows.address, rows, self.heads.address) for rows in (count - 1, count)]
+        self.index = Rules(*told, self._kept[2].address, 0, self.rows.address, count, self.heads.address, 1)
+
+
+def _prepared_size(c: Any) -> bool:
+    sizes = [c.gix_glob_prepared_size(count) for count in (0, 3, 1 << 32)]
+    return sizes == [2048, 2096, NONE]
+
+
+def _rows_at(c: Any) -> bool:
+    return bool(c.gix_glob_rows_at() == 2048)
 
 
 def _prepare(c: Any) -> bool:
@@ -169,7 +185,7 @@ def _prepare(c: Any) -> bool:
 def _last_match(c: Any) -> bool:
     prepared = _Prepared(c)
     asked = ((path, len(path), is_dir, not counts) for path, is_dir, counts, _ in _PATHS)
-    found = [c.gix_glob_index_last_match(ctypes.byref(prepared.index), *path) for path in asked]
+    found = [c.gix_glob_last_match(ctypes.byref(prepared.index), *path) for path in asked]
     return found == [told for _, _, _, told in _PATHS]
 
 
@@ -178,13 +194,14 @@ def _last_matches(c: Any) -> bool:
     rows = [(_Text(path), is_dir, told) for path, is_dir, counts, told in _PATHS if counts]
     asked = (Asked * len(rows))(*(Asked(path.address, path.length, is_dir) for path, is_dir, _ in rows))
     places = _Room(ctypes.c_size_t * len(rows))
-    told = ctypes.byref(prepared.index), ctypes.addressof(asked), len(rows), False, places.address
-    has_room = [c.gix_glob_index_last_matches(*told, count) for count in (len(rows) - 1, len(rows))]
+    told = ctypes.byref(prepared.index), ctypes.addressof(asked), len(rows), places.address
+    has_room = [c.gix_glob_last_matches(*told, count, False) for count in (len(rows) - 1, len(rows))]
     return has_room == [False, True] and list(places.it) == [told for _, _, told in rows] and places.is_kept()
 
 
 #: The calls, each with what it is asked; one that takes what another one writes comes behind that one.
 QUESTIONS: Sequence[Tuple[str, Callable[[Any], bool]]] = (
+    ("gix_glob_version", _version),
     ("gix_glob_wildmatch", _wildmatch),
     ("gix_glob_matches", _matches),
     ("gix_glob_parse", _parse),
@@ -192,9 +209,11 @@ QUESTIONS: Sequence[Tuple[str, Callable[[Any], bool]]] = (
     ("gix_glob_pattern_matches_path", _matches_path),
     ("gix_glob_parse_ignore_line", _parse_ignore_line),
     ("gix_glob_parse_ignore_line_as_git", _parse_ignore_line_as_git),
+    ("gix_glob_prepared_size", _prepared_size),
+    ("gix_glob_rows_at", _rows_at),
     ("gix_glob_prepare", _prepare),
-    ("gix_glob_index_last_match", _last_match),
-    ("gix_glob_index_last_matches", _last_matches),
+    ("gix_glob_last_match", _last_match),
+    ("gix_glob_last_matches", _last_matches),
 )
 
 

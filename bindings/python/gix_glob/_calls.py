@@ -1,8 +1,13 @@
-"""The calls of the C library gix_glob_c as its header gix_glob.h declares them: numbers, structures, parameters and answers."""
+"""The calls of the C library gix_glob_c as its header gix_glob.h declares them: numbers, structures, parameters and answers.
+
+A structure of a pointer and a count that is passed by value is declared as two parameters, and one of a number as that number: the
+header says that they are passed so.
+"""
 
 from __future__ import annotations
 
 import ctypes
+from typing import Any, Tuple
 
 #: The version of the header that is declared here, and of this package.
 VERSION = "0.1.0"
@@ -12,6 +17,8 @@ NONE = ctypes.c_size_t(-1).value
 NEGATIVE = 8
 #: GIX_GLOB_AS_CRATE and GIX_GLOB_AS_GIT: whose reading a pattern is.
 AS_CRATE, AS_GIT = 0, 1
+#: GIX_GLOB_LINE_END, GIX_GLOB_LINE_NOTHING and GIX_GLOB_LINE_PATTERN: what a line of an ignore file gives.
+END, NOTHING, PATTERN = 0, 1, 2
 
 
 class Parts(ctypes.Structure):
@@ -26,39 +33,25 @@ class Parts(ctypes.Structure):
     ]
 
 
-class Row(ctypes.Structure):
-    """struct gix_glob_row: what a pattern asks of a path, as the library writes it."""
-
-    _fields_ = [
-        ("asked", ctypes.c_uint64),
-        ("before", ctypes.c_uint32),
-        ("spare", ctypes.c_uint8),
-        ("part", ctypes.c_uint8),
-    ]
-
-
-class Heads(ctypes.Structure):
-    """struct gix_glob_heads: where the chains of rows begin."""
-
-    _fields_ = [("links", ctypes.c_uint32 * 512)]
-
-
-class Index(ctypes.Structure):
-    """struct gix_glob_index: patterns that were prepared."""
+class Rules(ctypes.Structure):
+    """struct gix_glob_list: patterns, their folder, and what was prepared for them."""
 
     _fields_ = [
         ("patterns", ctypes.c_void_p),
         ("count", ctypes.c_size_t),
+        ("base", ctypes.c_void_p),
+        ("base_len", ctypes.c_size_t),
         ("rows", ctypes.c_void_p),
         ("row_count", ctypes.c_size_t),
         ("heads", ctypes.c_void_p),
+        ("head_count", ctypes.c_size_t),
     ]
 
 
 class Asked(ctypes.Structure):
     """struct gix_glob_path: a path that is asked about, in three words."""
 
-    _fields_ = [("bytes", ctypes.c_void_p), ("len", ctypes.c_size_t), ("is_dir", ctypes.c_bool)]
+    _fields_ = [("text", ctypes.c_void_p), ("text_len", ctypes.c_size_t), ("is_dir", ctypes.c_bool)]
 
 
 class Lines(ctypes.Structure):
@@ -69,46 +62,41 @@ class Lines(ctypes.Structure):
 
 #: The calls that are used, each with its parameters and its answer. A `bytes` is handed over as c_char_p, an address as c_void_p.
 CALLS = {
+    "gix_glob_version": ([], ctypes.c_uint32),
     "gix_glob_wildmatch": (
         [ctypes.c_char_p, ctypes.c_size_t, ctypes.c_char_p, ctypes.c_size_t, ctypes.c_uint8],
         ctypes.c_bool,
     ),
     "gix_glob_matches": (
-        [ctypes.c_void_p, ctypes.c_size_t, ctypes.c_uint32, ctypes.c_size_t]
-        + [ctypes.c_char_p, ctypes.c_size_t, ctypes.c_uint8],
+        [ctypes.POINTER(Parts), ctypes.c_char_p, ctypes.c_size_t, ctypes.c_uint8],
         ctypes.c_bool,
     ),
     "gix_glob_parse": ([ctypes.c_void_p, ctypes.c_size_t, ctypes.POINTER(Parts)], ctypes.c_bool),
     "gix_glob_parse_as_git": ([ctypes.c_void_p, ctypes.c_size_t, ctypes.POINTER(Parts)], None),
-    "gix_glob_parse_ignore_line": (
-        [ctypes.POINTER(Lines), ctypes.POINTER(Parts), ctypes.POINTER(ctypes.c_bool)],
-        ctypes.c_bool,
-    ),
-    "gix_glob_parse_ignore_line_as_git": (
-        [ctypes.POINTER(Lines), ctypes.POINTER(Parts), ctypes.POINTER(ctypes.c_bool)],
-        ctypes.c_bool,
-    ),
+    "gix_glob_parse_ignore_line": ([ctypes.POINTER(Lines), ctypes.POINTER(Parts)], ctypes.c_uint32),
+    "gix_glob_parse_ignore_line_as_git": ([ctypes.POINTER(Lines), ctypes.POINTER(Parts)], ctypes.c_uint32),
     "gix_glob_pattern_matches_path": (
         [ctypes.POINTER(Parts), ctypes.c_char_p, ctypes.c_size_t, ctypes.c_bool, ctypes.c_bool],
         ctypes.c_bool,
     ),
+    "gix_glob_prepared_size": ([ctypes.c_size_t], ctypes.c_size_t),
+    "gix_glob_rows_at": ([], ctypes.c_size_t),
     "gix_glob_prepare": (
-        [ctypes.c_void_p, ctypes.c_size_t, ctypes.c_void_p, ctypes.c_size_t, ctypes.POINTER(Heads)],
+        [ctypes.c_void_p, ctypes.c_size_t, ctypes.c_void_p, ctypes.c_size_t, ctypes.c_void_p],
         ctypes.c_bool,
     ),
-    "gix_glob_index_last_match": (
-        [ctypes.POINTER(Index), ctypes.c_char_p, ctypes.c_size_t, ctypes.c_bool, ctypes.c_bool],
+    "gix_glob_last_match": (
+        [ctypes.POINTER(Rules), ctypes.c_char_p, ctypes.c_size_t, ctypes.c_bool, ctypes.c_bool],
         ctypes.c_size_t,
     ),
-    "gix_glob_index_last_matches": (
-        [ctypes.POINTER(Index), ctypes.c_void_p, ctypes.c_size_t, ctypes.c_bool, ctypes.c_void_p, ctypes.c_size_t],
+    "gix_glob_last_matches": (
+        [ctypes.POINTER(Rules), ctypes.c_void_p, ctypes.c_size_t, ctypes.c_void_p, ctypes.c_size_t, ctypes.c_bool],
         ctypes.c_bool,
     ),
 }
 
 #: The header's other calls: a library of this version has them, too.
 OTHERS = (
-    "gix_glob_last_match",
     "gix_glob_decide_in_tree",
     "gix_glob_parse_attribute_line",
     "gix_glob_parse_attribute_line_as_git",
@@ -123,3 +111,20 @@ _EMPTY = ctypes.create_string_buffer(1)
 def blank() -> Parts:
     """GIX_GLOB_PATTERN_INIT: a pattern before one was read."""
     return Parts(ctypes.addressof(_EMPTY), 0, NONE, 0, AS_CRATE)
+
+
+def prepared(library: Any, patterns: int, count: int) -> Tuple[Rules, Any]:
+    """gix_glob_list_of and gix_glob_prepare_list: so many patterns at an address as a list of the top, and the block in which it is prepared.
+
+    Raises:
+        OverflowError: there are 2^32 patterns or more.
+    """
+    size = library.gix_glob_prepared_size(count)
+    if size == NONE:
+        raise OverflowError("a file is to have fewer than 2^32 patterns")
+    block = (ctypes.c_uint64 * (size // 8 + 1))()
+    heads = ctypes.addressof(block)
+    rows = heads + library.gix_glob_rows_at()
+    if not library.gix_glob_prepare(patterns, count, rows, count, heads):
+        raise OverflowError("the library didn't prepare as many patterns as it said")
+    return Rules(patterns, count, ctypes.addressof(_EMPTY), 0, rows, count, heads, 1), block

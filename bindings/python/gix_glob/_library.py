@@ -5,10 +5,10 @@ What the header asks of a caller, and who keeps it:
 
 - A text can be read for its whole length, and isn't written: a call is handed a `bytes` itself (no object of a subclass, whose
   length could be another one), which can't change, and which the call refers to.
-- What C keeps a pointer to stays where it is: a line, a file, or the rows of its patterns, are in memory of ctypes' own, which the
-  object that has the pointer refers to.
-- No pointer is NULL, also where a length is 0: neither has one.
-- What a call writes to is initialised, and lies apart from what it reads: each is a ctypes structure of its own.
+- What a structure leads to stays where it is: a line, a file, or what was prepared for its patterns, are in memory of ctypes' own,
+  which the object that has the pointer refers to.
+- No pointer is NULL, also where a count is 0, and each is aligned: ctypes' memory and structures are.
+- What a call writes is initialised, and overlaps nothing else: each is a ctypes structure of its own.
 
 Objects of this module don't change once they are made, so threads may share them. A call lets other threads run.
 """
@@ -21,7 +21,7 @@ from itertools import accumulate
 from typing import Any, Iterable, Optional, Sequence
 
 from . import _loading
-from ._calls import AS_CRATE, NEGATIVE, NONE, Heads, Index, Lines, Parts, Row, blank
+from ._calls import AS_CRATE, END, NEGATIVE, NONE, PATTERN, Lines, Parts, blank, prepared
 from ._reading import Reading
 
 _c: Any = _loading.load()
@@ -82,8 +82,7 @@ class Line:
 
     def matches(self, value: bytes, mode: int) -> bool:
         _check(value)
-        it = self._parts
-        return bool(_c.gix_glob_matches(it.text, it.text_len, it.mode, it.first_wildcard_pos, value, len(value), mode))
+        return bool(_c.gix_glob_matches(self._parts, value, len(value), mode))
 
 
 def parse(line: bytes, reading: Reading) -> Optional[Line]:
@@ -100,17 +99,18 @@ def parse(line: bytes, reading: Reading) -> Optional[Line]:
 class Rules:
     """The patterns of an ignore file, in order and prepared, each with the number of its line."""
 
-    __slots__ = ("_heads", "_index", "_memory", "_patterns", "_pointer", "_rows", "numbers")
+    __slots__ = ("_block", "_list", "_memory", "_patterns", "_pointer", "numbers")
 
     def __init__(self, file: bytes, reading: Reading) -> None:
         memory = Memory(file)
         is_gits = reading is Reading.GIT
         take_line = _c.gix_glob_parse_ignore_line_as_git if is_gits else _c.gix_glob_parse_ignore_line
-        lines, parts, has_pattern = Lines(memory.address, memory.length, 0), blank(), ctypes.c_bool()
+        lines, parts = Lines(memory.address, memory.length, 0), blank()
+        told = ctypes.byref(lines), ctypes.byref(parts)
         readings = bytearray()
         numbers = array("Q")
-        while take_line(ctypes.byref(lines), ctypes.byref(parts), ctypes.byref(has_pattern)):
-            if has_pattern.value:
+        for line in iter(lambda: take_line(*told), END):
+            if line == PATTERN:
                 readings += parts
                 numbers.append(lines.number)
         # (one more, so that there is an address where there is no pattern)
@@ -122,13 +122,8 @@ class Rules:
         self._prepare()
 
     def _prepare(self) -> None:
-        count = len(self.numbers)
-        self._rows, self._heads = (Row * (count + 1))(), Heads()
-        patterns, rows = ctypes.addressof(self._patterns), ctypes.addressof(self._rows)
-        if not _c.gix_glob_prepare(patterns, count, rows, count, ctypes.byref(self._heads)):
-            raise OverflowError("a file is to have fewer than 2^32 patterns")
-        self._index = Index(patterns, count, rows, count, ctypes.addressof(self._heads))
-        self._pointer = ctypes.pointer(self._index)
+        self._list, self._block = prepared(_c, ctypes.addressof(self._patterns), len(self.numbers))
+        self._pointer = ctypes.pointer(self._list)
 
     @property
     def text(self) -> bytes:
@@ -146,7 +141,7 @@ class Rules:
     def last_match(self, path: bytes, is_dir: bool, fold: bool) -> Optional[int]:
         """The index of the last pattern that matches the path, or None."""
         _check(path)
-        index = _c.gix_glob_index_last_match(self._pointer, path, len(path), is_dir, fold)
+        index = _c.gix_glob_last_match(self._pointer, path, len(path), is_dir, fold)
         return None if index == NONE else index
 
     def last_matches(self, paths: Sequence[bytes], are_dirs: Iterable[bool], fold: bool) -> Sequence[int]:
@@ -163,9 +158,7 @@ class Rules:
         asked[0:-3:3] = array("Q", accumulate(lengths, initial=memory.address))[:count]
         asked[1:-3:3] = lengths
         asked[2:-3:3] = dirs
-        _c.gix_glob_index_last_matches(
-            self._pointer, asked.buffer_info()[0], count, fold, places.buffer_info()[0], count
-        )
+        _c.gix_glob_last_matches(self._pointer, asked.buffer_info()[0], count, places.buffer_info()[0], count, fold)
         return places[:count]
 
 

@@ -84,10 +84,10 @@ class Answers(unittest.TestCase):
         ends = {
             "gix_glob_parse": [lambda words: end_of(words, 2)],
             "gix_glob_parse_as_git": [lambda words: end_of(words, 2)],
-            "gix_glob_parse_ignore_line": [lambda words, at=at: end_of(words, at) for at in range(3)],
-            "gix_glob_parse_ignore_line_as_git": [lambda words, at=at: end_of(words, at) for at in range(3)],
-            "gix_glob_prepare": [lambda words: words[2] + 16 * words[1], lambda words: end_of(words, 4)],
-            "gix_glob_index_last_matches": [lambda words: words[4] + 8 * words[2]],
+            "gix_glob_parse_ignore_line": [lambda words, at=at: end_of(words, at) for at in range(2)],
+            "gix_glob_parse_ignore_line_as_git": [lambda words, at=at: end_of(words, at) for at in range(2)],
+            "gix_glob_prepare": [lambda words: words[2] + 16 * words[1], lambda words: words[4] + 2048],
+            "gix_glob_last_matches": [lambda words: words[3] + 8 * words[2]],
         }
         for name, places in ends.items():
             for at, end in enumerate(places):
@@ -116,7 +116,7 @@ class OtherLibraries(unittest.TestCase):
                 said = run("import gix_glob", GIX_GLOB_LIBRARY=library)
                 with self.subTest(answer=answer):
                     self.assertEqual(said.returncode, 1)
-                    wanted = f"{library}: gix_glob_wildmatch doesn't answer as that of version {_calls.VERSION}"
+                    wanted = f"{library}: gix_glob_version doesn't answer as that of version {_calls.VERSION}"
                     self.assertIn(wanted, said.stderr)
                     self.assertIn("examples/c/install PREFIX", said.stderr)
             # one name is missing, which this package doesn't use

@@ -21,22 +21,20 @@ HEADER = os.path.join(PACKAGE, "..", "..", "crates", "gix_glob_c", "include", "g
 TYPES = {
     "const uint8_t *": (ctypes.c_void_p, ctypes.c_char_p),
     "const struct gix_glob_pattern *": (ctypes.c_void_p, ctypes.POINTER(_calls.Parts)),
-    "struct gix_glob_row *": (ctypes.c_void_p,),
-    "const struct gix_glob_row *": (ctypes.c_void_p,),
-    "struct gix_glob_heads *": (ctypes.POINTER(_calls.Heads),),
-    "const struct gix_glob_heads *": (ctypes.c_void_p,),
-    "const struct gix_glob_index *": (ctypes.POINTER(_calls.Index),),
+    "const struct gix_glob_list *": (ctypes.POINTER(_calls.Rules),),
+    "void *": (ctypes.c_void_p,),
+    "const void *": (ctypes.c_void_p,),
     "const struct gix_glob_path *": (ctypes.c_void_p,),
     "size_t *": (ctypes.c_void_p,),
     "struct gix_glob_pattern *": (ctypes.POINTER(_calls.Parts),),
     "struct gix_glob_lines *": (ctypes.POINTER(_calls.Lines),),
-    "bool *": (ctypes.POINTER(ctypes.c_bool),),
     "void ": (None,),
     "bool ": (ctypes.c_bool,),
     "size_t ": (ctypes.c_size_t,),
     "uint64_t ": (ctypes.c_uint64,),
-    "uint32_t ": (ctypes.c_uint32, ctypes.c_uint32 * 512),
+    "uint32_t ": (ctypes.c_uint32,),
     "uint8_t ": (ctypes.c_uint8,),
+    "enum gix_glob_line ": (ctypes.c_uint32,),
 }
 
 
@@ -54,9 +52,35 @@ def run(program, **variables):
     )
 
 
+#: structures of a pointer and a count, or of a number, which are passed as what they have
+PASSED = {
+    "struct gix_glob_text ": ("const uint8_t *", "size_t "),
+    "struct gix_glob_patterns ": ("const struct gix_glob_pattern *", "size_t "),
+    "struct gix_glob_rows ": ("void *", "size_t "),
+    "struct gix_glob_paths ": ("const struct gix_glob_path *", "size_t "),
+    "struct gix_glob_places ": ("size_t *", "size_t "),
+    "struct gix_glob_match_mode ": ("uint8_t ",),
+    "struct gix_glob_pattern_mode ": ("uint32_t ",),
+    "void": (),
+}
+
+
 def parameters(text):
     """The types of a list of C parameters."""
-    return [re.sub(r"\w+$", "", one.strip()) for one in re.sub(r"\s+", " ", text).split(",")]
+    types = [re.sub(r"(?<=[ *])\w+$", "", one.strip()) for one in re.sub(r"\s+", " ", text).split(",")]
+    return [it for one in types for it in PASSED.get(one, (one,))]
+
+
+def fields_of(body):
+    """The types and names of the fields of a C structure, of which those of a text have the names of ctypes' structures."""
+    for kind, all_fields in re.findall(r"(\S.*?[ *])(\w+(?:, \w+)*);", body):
+        for field in all_fields.split(", "):
+            if kind == "struct gix_glob_text ":
+                yield "const uint8_t *", field
+                yield "size_t ", f"{field}_len"
+            else:
+                for it in PASSED.get(kind, (kind,)):
+                    yield it, field
 
 
 class Declarations(unittest.TestCase):
@@ -64,7 +88,7 @@ class Declarations(unittest.TestCase):
     def test_calls_are_those_of_the_header(self):
         with open(HEADER, encoding="utf-8") as file:
             code = re.sub(r"/\*.*?\*/", "", file.read(), flags=re.S)
-        calls = {name: (words, answer) for answer, name, words in re.findall(r"^(\w+ )(\w+)\(([^)]*)\);", code, re.M)}
+        calls = {name: (words, answer) for answer, name, words in re.findall(r"^GIX_GLOB_[A-Z]+ ((?:enum )?\w+ )(\w+)\(([^)]*)\);", code, re.M)}
         self.assertEqual({*_calls.CALLS, *_calls.OTHERS}, set(calls))
         self.assertEqual({name for name, _ in _answers.QUESTIONS}, set(_calls.CALLS))
         version = [re.search(rf"GIX_GLOB_VERSION_{part} (\d+)", code)[1] for part in ("MAJOR", "MINOR", "PATCH")]
@@ -78,19 +102,13 @@ class Declarations(unittest.TestCase):
                 self.assertIn(answer, TYPES[calls[name][1]])
         structs = {
             "gix_glob_pattern": _calls.Parts,
-            "gix_glob_row": _calls.Row,
-            "gix_glob_heads": _calls.Heads,
-            "gix_glob_index": _calls.Index,
+            "gix_glob_list": _calls.Rules,
             "gix_glob_path": _calls.Asked,
             "gix_glob_lines": _calls.Lines,
         }
         for name, struct in structs.items():
             body = re.search(r"struct %s \{(.*?)\}" % name, code, re.S)[1]
-            fields = [
-                (kind, re.sub(r"\W.*", "", field))
-                for kind, all_fields in re.findall(r"(\S.*?[ *])(\w+(?:\[\d+\])?(?:, \w+(?:\[\d+\])?)*);", body)
-                for field in all_fields.split(", ")
-            ]
+            fields = list(fields_of(body))
             with self.subTest(struct=name):
                 self.assertEqual([field for _, field in fields], [field for field, _ in struct._fields_])
                 for (one, _), (_, it) in zip(fields, struct._fields_):
@@ -124,7 +142,7 @@ class Finding(unittest.TestCase):
             self.assert_told(run("import gix_glob", GIX_GLOB_LIBRARY=folder), folder)
             # a library without the calls
             os.symlink(sys.modules["_ctypes"].__file__, other)
-            self.assert_told(run("import gix_glob", GIX_GLOB_LIBRARY=other), "gix_glob_last_match")
+            self.assert_told(run("import gix_glob", GIX_GLOB_LIBRARY=other), "gix_glob_decide_in_tree")
 
     def test_the_file_beside_the_package_and_the_systems(self):
         program = "import gix_glob; print(gix_glob.wildmatch('*', 'a'))"

@@ -40,6 +40,7 @@
 //! assert_eq!(decided("src/main.c"), None);
 //! ```
 use std::fmt;
+use std::path::Path;
 
 use bstr::BStr;
 
@@ -47,6 +48,29 @@ use crate::library;
 use crate::pattern::Case;
 use crate::search::Pattern;
 use crate::search::pattern::{List, Mapping};
+
+/// The lines of an ignore file, as Git reads them: a parser for [`List`]s, which [`Lists::as_git`] decides by.
+///
+/// ```
+/// use gix_glob::decide::{IgnoreLines, Lists};
+/// use gix_glob::{pattern::Case, search::pattern::List};
+///
+/// let list = [List::from_bytes(b"# objects\n*.o\n!keep.o \n", ".gitignore".into(), None, IgnoreLines)];
+/// let lists = Lists::as_git(&list);
+/// let decided = lists.decide_in_tree("src/keep.o".into(), false, Case::Sensitive).unwrap().1;
+/// assert_eq!((decided.sequence_number, decided.pattern.is_negative()), (3, true));
+/// ```
+#[derive(Clone, Copy, PartialEq, Eq, Debug, Hash, PartialOrd, Ord, Default)]
+pub struct IgnoreLines;
+
+impl Pattern for IgnoreLines {
+    type Value = ();
+
+    fn bytes_to_patterns(&self, bytes: &[u8], _source: &Path) -> Vec<Mapping<()>> {
+        let lines = library::ignore_lines(bytes);
+        lines.map(|(sequence_number, it)| Mapping { pattern: it.pattern_of(bytes), value: (), sequence_number }).collect()
+    }
+}
 
 /// Lists of patterns, laid out once for many questions. A later list comes after an earlier one.
 pub struct Lists<'a, T: Pattern> {

@@ -1,8 +1,9 @@
 //! The calls of the C library `gix_glob_c`, as `gix_glob.h` declares them. All unsafe code is here.
 //!
-//! What the header asks of a caller holds of every slice: its pointer isn't null, also where it is empty; its bytes can be read
-//! for its whole length, which is below 2^63; and while it is borrowed nobody writes them. A call keeps nothing, so no borrow
-//! has to last longer than the call.
+//! What the header asks of a caller holds of every slice: its pointer isn't null, also where it is empty, and is aligned; its elements
+//! can be read for its whole length, and have fewer than 2^63 bytes; and while it is borrowed nobody writes them. A call keeps
+//! nothing, so no borrow has to last longer than the call. Each struct of the header that is a pointer and a count is passed as two
+//! parameters, and one of a number as that number, as the header says.
 #![allow(unsafe_code)]
 
 use std::marker::PhantomData;
@@ -35,38 +36,60 @@ impl<'a> Parts<'a> {
     }
 }
 
-/// `struct gix_glob_list`.
+/// `struct gix_glob_list`, and that its patterns and its base are borrowed.
 #[repr(C)]
+#[derive(Debug)]
 struct ListParts<'a> {
     patterns: *const Parts<'a>,
     count: usize,
     base: *const u8,
     base_len: usize,
-}
-
-/// `struct gix_glob_row`; what its numbers mean is the library's.
-#[repr(C)]
-#[derive(Clone, Copy)]
-struct Row {
-    asked: u64,
-    before: u32,
-    bytes: [u8; 2],
-}
-
-/// `struct gix_glob_heads`.
-#[repr(C)]
-struct Heads {
-    links: [u32; 512],
-}
-
-/// `struct gix_glob_index`.
-#[repr(C)]
-struct IndexParts<'a> {
-    patterns: *const Parts<'a>,
-    count: usize,
-    rows: *const Row,
+    rows: *const u64,
     row_count: usize,
-    heads: *const Heads,
+    heads: *const u64,
+    head_count: usize,
+}
+
+/// What a pointer leads to where nothing was prepared.
+static NOTHING: u64 = 0;
+
+impl<'a> ListParts<'a> {
+    /// `gix_glob_list_of`: a list of which nothing is prepared.
+    fn new(patterns: &[Parts<'a>], base: &'a [u8]) -> Self {
+        ListParts {
+            patterns: patterns.as_ptr(),
+            count: patterns.len(),
+            base: base.as_ptr(),
+            base_len: base.len(),
+            rows: &NOTHING,
+            row_count: 0,
+            heads: &NOTHING,
+            head_count: 0,
+        }
+    }
+
+    /// `gix_glob_prepare_list`: the block in which the list is prepared, and which it leads to from then on. `None` where it has 2^32
+    /// patterns or more.
+    fn prepare(&mut self) -> Option<Box<[u64]>> {
+        // SAFETY: both take numbers.
+        let (size, rows_at) = unsafe { (gix_glob_prepared_size(self.count), gix_glob_rows_at()) };
+        if size == NONE {
+            return None;
+        }
+        let mut block = vec![0; size.div_ceil(8)].into_boxed_slice();
+        let heads = block.as_mut_ptr();
+        // SAFETY: the patterns are a slice's; the block is initialised, aligned to 8, apart from them, and as large as the library asks for
+        // so many of them; its rows begin inside of it.
+        let is_prepared =
+            unsafe { gix_glob_prepare(self.patterns, self.count, heads.byte_add(rows_at), self.count, heads) };
+        if !is_prepared {
+            return None;
+        }
+        // SAFETY: as above.
+        self.rows = unsafe { heads.byte_add(rows_at) };
+        (self.row_count, self.heads, self.head_count) = (self.count, heads, 1);
+        Some(block)
+    }
 }
 
 /// `struct gix_glob_decision`.
@@ -81,6 +104,8 @@ unsafe extern "C" {
 
     fn gix_glob_parse_as_git(line: *const u8, line_len: usize, out: *mut Parts<'_>);
 
+    fn gix_glob_parse_ignore_line_as_git(lines: *mut LineParts, out: *mut Parts<'_>) -> u32;
+
     fn gix_glob_pattern_matches_path(
         pattern: *const Parts<'_>,
         path: *const u8,
@@ -89,16 +114,20 @@ unsafe extern "C" {
         fold: bool,
     ) -> bool;
 
+    fn gix_glob_prepared_size(count: usize) -> usize;
+
+    fn gix_glob_rows_at() -> usize;
+
     fn gix_glob_prepare(
         patterns: *const Parts<'_>,
         count: usize,
-        rows: *mut Row,
+        rows: *mut u64,
         row_count: usize,
-        heads: *mut Heads,
+        heads: *mut u64,
     ) -> bool;
 
-    fn gix_glob_index_last_match(
-        index: *const IndexParts<'_>,
+    fn gix_glob_last_match(
+        list: *const ListParts<'_>,
         path: *const u8,
         path_len: usize,
         is_dir: bool,
@@ -118,20 +147,24 @@ unsafe extern "C" {
     fn gix_glob_wildmatch(pattern: *const u8, pattern_len: usize, value: *const u8, value_len: usize, mode: u8)
     -> bool;
 
-    fn gix_glob_matches(
-        text: *const u8,
-        text_len: usize,
-        pattern_mode: u32,
-        first_wildcard_pos: usize,
-        value: *const u8,
-        value_len: usize,
-        mode: u8,
-    ) -> bool;
+    fn gix_glob_matches(pattern: *const Parts<'_>, value: *const u8, value_len: usize, mode: u8) -> bool;
+}
+
+/// `GIX_GLOB_LINE_END` and `GIX_GLOB_LINE_PATTERN`: what a line of an ignore file gives.
+const END: u32 = 0;
+const PATTERN: u32 = 2;
+
+/// `struct gix_glob_lines`.
+#[repr(C)]
+struct LineParts {
+    rest: *const u8,
+    rest_len: usize,
+    number: usize,
 }
 
 /// What was read of a line.
 pub(crate) struct Reading {
-    /// Where the text lies in the line.
+    /// Where the text lies in the line, or in the file of the line.
     pub(crate) text: Range<usize>,
     /// The bits of a pattern's mode.
     pub(crate) mode: u32,
@@ -153,6 +186,23 @@ pub(crate) fn parse_as_git(line: &[u8]) -> Reading {
     // SAFETY: as in `parse`.
     unsafe { gix_glob_parse_as_git(line.as_ptr(), line.len(), &mut parts) };
     reading_of(line, &parts)
+}
+
+/// The lines of an ignore file that have a pattern, as Git reads them, each with its number.
+pub(crate) fn ignore_lines(file: &[u8]) -> impl Iterator<Item = (usize, Reading)> {
+    let mut lines = LineParts { rest: file.as_ptr(), rest_len: file.len(), number: 0 };
+    std::iter::from_fn(move || {
+        let mut parts = Parts::new(b"", 0, None, AS_CRATE);
+        loop {
+            // SAFETY: `lines` stays within the file, which is borrowed; it and `parts` are initialised, apart from each other, and
+            // laid out as in the header.
+            match unsafe { gix_glob_parse_ignore_line_as_git(&mut lines, &mut parts) } {
+                END => return None,
+                PATTERN => return Some((lines.number, reading_of(file, &parts))),
+                _ => {}
+            }
+        }
+    })
 }
 
 /// The parts that were read of a line.
@@ -182,9 +232,10 @@ pub(crate) fn wildmatch(pattern: &[u8], value: &[u8], mode: u8) -> bool {
 /// Whether the text of a pattern that was read matches the whole of a value.
 #[inline]
 pub(crate) fn matches(text: &[u8], pattern_mode: u32, place: Option<usize>, value: &[u8], mode: u8) -> bool {
-    let place = place.unwrap_or(NONE);
-    // SAFETY: both are slices; any modes and any place are allowed, also such as don't belong to the text.
-    unsafe { gix_glob_matches(text.as_ptr(), text.len(), pattern_mode, place, value.as_ptr(), value.len(), mode) }
+    let pattern = Parts::new(text, pattern_mode, place, AS_CRATE);
+    // SAFETY: `pattern` is laid out as in the header, and its text is borrowed; `value` is a slice; any modes and any place are allowed,
+    // also such as don't belong to the text.
+    unsafe { gix_glob_matches(&pattern, value.as_ptr(), value.len(), mode) }
 }
 
 /// Lists as the library takes them. Their texts are borrowed.
@@ -203,12 +254,7 @@ impl<'a> Lists<'a> {
     /// The lists of bases and patterns.
     pub(crate) fn new(lists: impl Iterator<Item = (&'a [u8], Box<[Parts<'a>]>)>) -> Self {
         let (bases, patterns): (Vec<&[u8]>, Vec<_>) = lists.unzip();
-        let lists = bases.iter().zip(&patterns).map(|(base, patterns)| ListParts {
-            patterns: patterns.as_ptr(),
-            count: patterns.len(),
-            base: base.as_ptr(),
-            base_len: base.len(),
-        });
+        let lists = bases.iter().zip(&patterns).map(|(base, patterns)| ListParts::new(patterns, base));
         Lists { lists: lists.collect(), _patterns: patterns }
     }
 
@@ -234,12 +280,13 @@ impl<'a> Lists<'a> {
 
 /// Patterns, and what the library wrote for them.
 pub(crate) struct Index<'a> {
-    patterns: Box<[Parts<'a>]>,
-    rows: Box<[Row]>,
-    heads: Box<Heads>,
+    list: ListParts<'a>,
+    /// What `list` points to: nothing of it is changed or moved any more.
+    _patterns: Box<[Parts<'a>]>,
+    _block: Box<[u64]>,
 }
 
-// SAFETY: as for lists, of which this has what it points to.
+// SAFETY: as for lists.
 unsafe impl Send for Index<'_> {}
 // SAFETY: as above.
 unsafe impl Sync for Index<'_> {}
@@ -247,26 +294,15 @@ unsafe impl Sync for Index<'_> {}
 impl<'a> Index<'a> {
     /// Prepares patterns; `None` where there are 2^32 or more.
     pub(crate) fn new(patterns: Box<[Parts<'a>]>) -> Option<Self> {
-        let mut rows = vec![Row { asked: 0, before: 0, bytes: [0; 2] }; patterns.len()].into_boxed_slice();
-        let mut heads = Box::new(Heads { links: [0; 512] });
-        // SAFETY: patterns, rows and heads are initialised, apart from each other, and laid out as in the header; the texts of the
-        // patterns are borrowed.
-        let has_room =
-            unsafe { gix_glob_prepare(patterns.as_ptr(), patterns.len(), rows.as_mut_ptr(), rows.len(), &mut *heads) };
-        has_room.then_some(Index { patterns, rows, heads })
+        let mut list = ListParts::new(&patterns, b"");
+        let block = list.prepare()?;
+        Some(Index { list, _patterns: patterns, _block: block })
     }
 
     /// The place of the last pattern that matches a path.
     pub(crate) fn last_match(&self, path: &[u8], is_dir: bool, fold: bool) -> Option<usize> {
-        let index = IndexParts {
-            patterns: self.patterns.as_ptr(),
-            count: self.patterns.len(),
-            rows: self.rows.as_ptr(),
-            row_count: self.rows.len(),
-            heads: &*self.heads,
-        };
-        // SAFETY: what the index names lives as long as `self`, and is laid out as in the header; `path` is a slice.
-        let place = unsafe { gix_glob_index_last_match(&index, path.as_ptr(), path.len(), is_dir, fold) };
+        // SAFETY: what the list names lives as long as `self`, and is laid out as in the header; `path` is a slice.
+        let place = unsafe { gix_glob_last_match(&self.list, path.as_ptr(), path.len(), is_dir, fold) };
         (place != NONE).then_some(place)
     }
 }

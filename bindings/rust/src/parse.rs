@@ -19,11 +19,7 @@ impl Pattern {
     /// ```
     pub fn from_bytes(text: &[u8]) -> Option<Self> {
         let reading = library::parse(text)?;
-        Some(Pattern {
-            text: text[reading.text].into(),
-            mode: Mode::from_bits_retain(reading.mode),
-            first_wildcard_pos: reading.first_wildcard_pos,
-        })
+        Some(reading.pattern_of(text))
     }
 
     /// Reads a pattern line as Git does. Each line has a pattern, which may be empty; `\!` and `\#` at the front keep their backslash.
@@ -36,12 +32,7 @@ impl Pattern {
     /// assert_eq!(gix_glob::Pattern::from_git_line(b"\t").text, "\t");
     /// ```
     pub fn from_git_line(text: &[u8]) -> Self {
-        let reading = library::parse_as_git(text);
-        Pattern {
-            text: text[reading.text].into(),
-            mode: Mode::from_bits_retain(reading.mode),
-            first_wildcard_pos: reading.first_wildcard_pos,
-        }
+        library::parse_as_git(text).pattern_of(text)
     }
 
     /// Reads a pattern line in which `!`, `\!` and `\#` at the front are a part of the text. One slash is taken off each end all
@@ -65,5 +56,16 @@ impl Pattern {
             mode: Mode::from_bits_retain(reading.mode & !Mode::NEGATIVE.bits()),
             first_wildcard_pos: reading.first_wildcard_pos,
         })
+    }
+}
+
+impl library::Reading {
+    /// The pattern that was read of these bytes.
+    pub(crate) fn pattern_of(self, bytes: &[u8]) -> Pattern {
+        Pattern {
+            text: bytes[self.text].into(),
+            mode: Mode::from_bits_retain(self.mode),
+            first_wildcard_pos: self.first_wildcard_pos,
+        }
     }
 }

@@ -6,3 +6,4 @@ pub mod ListsLemmas
 pub mod Numbers
 pub mod Views
 pub mod Zipped
+pub mod PlacesLemmas

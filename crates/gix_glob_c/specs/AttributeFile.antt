@@ -1,6 +1,6 @@
 -- What a call takes off an attribute file.
-use Rattle.std.specs.Prelude.{◌≡◌, ℕ, Bool, ◌==◌, nat_le, if◌then◌else◌, List, [], length}
-use Rattle.glob_lines.specs.Ignore.{EndsIgnoreLine, without_mark}
+use Rattle.std.specs.Prelude.{◌≡◌, ℕ, ◌≤◌, Bool, ◌&&◌, ◌==◌, nat_le, List, length}
+use Rattle.glob_lines.specs.Ignore.{EndsIgnoreLine}
 use Rattle.glob_lines.specs.Lines.{CutsLine}
 use Rattle.glob_lists.specs.declared.rules.Reading.{Reading}
 use Rattle.glob_attributes.specs.declared.borrowed.telling.TextMacro.{TextMacro}
@@ -14,26 +14,26 @@ use Rattle.gix_glob_c.specs.declared.ignore_file.GlobLines.{GlobLines}
 use Rattle.gix_glob_c.specs.Parsed.{IsLawful, mode_of, reading_of}
 use Rattle.gix_glob_c.specs.Parts.{unless_none}
 
--- the bytes that are left to read: before the first line, a byte order mark isn't of them, and of a file of 100 MiB or more none is
--- left, as `FileLines` has it
-abbrev pub unread_of_file : GlobLines → List ℕ
-unread_of_file lines =
-    if lines.number == 0
-    then (if nat_le 104857600 (length lines.rest.now) then [] else without_mark lines.rest.now)
-    else lines.rest.now
+-- these are all lines of a file of 100 MiB or more, of which none is read, as `FileLines` has it
+abbrev pub is_too_large : GlobLines → Bool
+is_too_large lines = lines.number == 0 && nat_le 104857600 (length lines.rest.now)
+
+-- an answer that says that a line was taken
+abbrev pub IsTaken : ℕ → Type 0
+IsTaken answer = (1 ≤ answer) × (answer ≤ 8)
 
 -- the number that C is told for a line that says nothing for a reason, and for any line
 abbrev pub number_of : Silence → ℕ
-number_of TooLong = 3
-number_of MacroBelowTop = 4
-number_of MacroName = 5
-number_of AttributeName = 6
-number_of Negative = 7
+number_of TooLong = 4
+number_of MacroBelowTop = 5
+number_of MacroName = 6
+number_of AttributeName = 7
+number_of Negative = 8
 
 abbrev pub kind_of : Gives → ℕ
-kind_of nothing = 0
-kind_of (a_pattern bytes assignments) = 1
-kind_of (a_macro name assignments) = 2
+kind_of nothing = 1
+kind_of (a_pattern bytes assignments) = 2
+kind_of (a_macro name assignments) = 3
 kind_of (silent silence) = number_of silence
 
 -- the new line is what a line gives, where that is a pattern, by this reading, and else it is the old one

@@ -1,9 +1,8 @@
 -- Lists of attribute lines that C hands over, and the state that it is told.
-use Rattle.std.specs.Prelude.{ℕ, List, [], All, length, map, None, Some}
+use Rattle.std.specs.Prelude.{ℕ, List, [], All, length, map, None, Some, if◌then◌else◌}
 use Rattle.std.specs.List.{flat_map, sum_by}
 use Rattle.gix_glob.specs.Entries.{Entry}
 use Rattle.gix_glob.specs.EntryLists.{EntryList}
-use Rattle.gix_glob.specs.Paths.{IsFolder}
 use Rattle.glob_lists.specs.declared.rules.Reading.{Reading}
 use Rattle.glob_lists.specs.Paths.{Path}
 use Rattle.glob_attributes.specs.declared.assignment.State.{State}
@@ -13,6 +12,7 @@ use Rattle.glob_attributes.specs.States.{Assigned}
 use Rattle.gix_glob_c.specs.declared.attribute_file.GlobAttributeLine.{GlobAttributeLine}
 use Rattle.gix_glob_c.specs.declared.attributes.GlobAttributeList.{GlobAttributeList}
 use Rattle.gix_glob_c.specs.declared.paths.GlobPath.{GlobPath}
+use Rattle.gix_glob_c.specs.Lists.{names_folder}
 use Rattle.gix_glob_c.specs.Parsed.{IsLawful, first_of, mode_of, reading_of_all}
 
 -- the line as an entry, whose value is what its words assign
@@ -25,14 +25,17 @@ entry_of_line line = record {
   number = 0;
 }
 
+-- the lines of a list that say something: none where the base is that of no folder
+abbrev pub lines_of : GlobAttributeList → List GlobAttributeLine
+lines_of list = if names_folder list.base.now then list.lines.now else []
+
 -- the list as plain data
 abbrev pub attribute_list : GlobAttributeList → EntryList (List Assigned)
-attribute_list list = record { entries = map entry_of_line list.lines.now; source = None; base = Some list.base.now }
+attribute_list list = record { entries = map entry_of_line (lines_of list); source = None; base = Some list.base.now }
 
--- the base is that of a folder, and the parts of each line's pattern make one
-pub record IsLawfulAttributes (list : GlobAttributeList) : Type 0 where
-  pub folder : IsFolder list.base.now
-  pub lines : All (λ (line : GlobAttributeLine). IsLawful line.pattern) list.lines.now
+-- the parts of each line's pattern make one
+abbrev pub IsLawfulAttributes : GlobAttributeList → Type 0
+IsLawfulAttributes list = All (λ (line : GlobAttributeLine). IsLawful line.pattern) list.lines.now
 
 -- whose reading counts for the lines of a call: that of the first
 abbrev pub reading_of_lines : List GlobAttributeList → Reading

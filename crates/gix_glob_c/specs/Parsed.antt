@@ -14,7 +14,7 @@ use Rattle.gix_glob_c.specs.declared.parsed.GlobPattern.{GlobPattern}
 
 -- what is known of the text, as the mode of a pattern
 abbrev pub mode_of : GlobPattern → Mode
-mode_of pattern = record { 0 = pattern.mode }
+mode_of pattern = record { 0 = pattern.mode.bits }
 
 -- the place of the text's first special byte
 abbrev pub first_of : GlobPattern → Option ℕ

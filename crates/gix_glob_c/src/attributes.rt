@@ -11,10 +11,10 @@ ghost use Rattle.glob_attributes.specs.States.{Assigned, IsAssigned, assigned_at
 ghost use Rattle.glob_lists.specs.Index.{AreMatches};
 
 use crate::attribute_file::GlobAttributeLine;
+use crate::lists::is_folder;
 use crate::parsed::{is_matched, path_of_file};
 use crate::paths::GlobPath;
 use crate::rules_of;
-use crate::tree::is_folder;
 use glob_attributes::State;
 use glob_attributes::borrowed::{Text, TextMacro, tell_state};
 use glob_lists::{Reading, RepositoryPath, Rules};
@@ -57,10 +57,10 @@ pub struct GlobState<'a> {
 pub extern "C" fn gix_glob_attribute_of<'a>(
     attributes: &GlobAttributes<'a>,
     path: &GlobPath<'_>,
-    fold: bool,
     name: &[u8],
     texts: &mut [Text<'a>],
     marks: &mut [bool],
+    fold: bool,
     out: &mut GlobState<'a>,
 ) -> bool
     ensures kept { result ≡ false → out.new ≡ out.old }

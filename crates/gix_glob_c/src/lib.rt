@@ -1,46 +1,62 @@
-//! The matcher for C: a static library over `gix_glob`, declared in `include/gix_glob.h`.
+//! The library for C: a static library over `gix_glob`, declared in `include/gix_glob.h`.
 #![tactic(auto)]
 
 ghost use Rattle.std.specs.Prelude.{◌≡◌, ◌↔◌, true, false, IsTrue, None};
-ghost use Rattle.gix_glob.specs.Bytes.{HasByte, slash};
 ghost use Rattle.glob_lists.specs.declared.rules.Reading.TheVariants.{Crate};
 ghost use Rattle.glob_lists.specs.Deciding.{AnswersUnder};
 ghost use Rattle.gix_glob.specs.Entries.{Entry};
 ghost use Rattle.gix_glob.specs.Matching.{Splits};
-ghost use Rattle.gix_glob.specs.Patterns.{HasReading, IsPattern, Reads};
+ghost use Rattle.gix_glob.specs.Patterns.{HasReading, Reads};
+ghost use Rattle.gix_glob_c.specs.Parsed.{IsLawful, IsPathOfFile};
 ghost use Rattle.gix_glob_c.specs.Parts.{case_of, place_in, rules_of};
 
 pub mod attribute_file;
 pub mod attributes;
 pub mod ignore_file;
-pub mod index;
+pub mod lists;
 pub mod parsed;
 pub mod paths;
+mod places;
 pub mod tree;
 
-use crate::parsed::GlobPattern;
+use crate::parsed::{GlobPattern, path_of_file};
 use bitflags::Flags;
 use gix_glob::laws::line_has_one_reading;
-use gix_glob::pattern::{Case, PatternView, basename_start};
+use gix_glob::pattern::{Case, PatternView};
 use gix_glob::wildmatch::{Mode, wildmatch};
 use glob_lists::{Reading, Rules};
 
-/// Whether the pattern matches the whole of the value. The bit of value 1 in `mode` is path
-/// mode, that of value 2 folds; other bits don't count.
-#[unsafe(no_mangle)]
-pub extern "C" fn gix_glob_wildmatch(pattern: &[u8], value: &[u8], mode: u8) -> bool
-    ensures { IsTrue result ↔ Splits value.now pattern.now (record { 0 = mode }) }
-{
-    wildmatch(pattern, value, Mode::from_bits_retain(mode))
+/// `struct gix_glob_match_mode`: bits of a match mode. That of value 1 is path mode, that of value 2 folds; other bits don't count.
+#[repr(C)]
+#[derive(Copy, Clone)]
+pub struct GlobMatchMode {
+    /// The sum of the bits that stand.
+    pub bits: u8,
 }
 
-/// Whether a pattern line matches a path of a repository, in path mode. A blank line matches nothing, and a path
-/// with a leading slash isn't matched.
+/// `GIX_GLOB_VERSION` of the header that the library was built with: major * 10000 + minor * 100 + patch.
+#[unsafe(no_mangle)]
+pub extern "C" fn gix_glob_version() -> u32
+    ensures { result ≡ 100 }
+{
+    100
+}
+
+/// Whether the pattern matches the whole of the value.
+#[unsafe(no_mangle)]
+pub extern "C" fn gix_glob_wildmatch(pattern: &[u8], value: &[u8], mode: GlobMatchMode) -> bool
+    ensures { IsTrue result ↔ Splits value.now pattern.now (record { 0 = mode.bits }) }
+{
+    wildmatch(pattern, value, Mode::from_bits_retain(mode.bits))
+}
+
+/// Whether a pattern line matches a path, in path mode, as [`gix_glob_parse`](crate::parsed::gix_glob_parse) reads it and
+/// [`gix_glob_pattern_matches_path`](crate::parsed::gix_glob_pattern_matches_path) answers. A blank line matches nothing.
 #[unsafe(no_mangle)]
 pub extern "C" fn gix_glob_matches_path(line: &[u8], path: &[u8], is_dir: bool, fold: bool) -> bool
     ensures blank { ¬ HasReading line.now true → result ≡ false }
-    ensures absolute { HasByte path.now 0 slash → result ≡ false }
-    ensures answers { (entry : Entry (Unit {0})) → Reads line.now true entry.text entry.mode entry.place → ¬ HasByte path.now 0 slash
+    ensures other { ¬ IsPathOfFile path.now → result ≡ false }
+    ensures exact { (entry : Entry (Unit {0})) → Reads line.now true entry.text entry.mode entry.place → IsPathOfFile path.now
         → (IsTrue result ↔ AnswersUnder None entry path.now is_dir (rules_of Crate fold)) }
 {
     // a law does nothing: it is called for what it ensures
@@ -48,39 +64,25 @@ pub extern "C" fn gix_glob_matches_path(line: &[u8], path: &[u8], is_dir: bool, 
     let Some(view) = PatternView::from_bytes(line) else {
         return false;
     };
-    if path.starts_with(b"/") {
+    let Some(path) = path_of_file(path, is_dir) else {
         return false;
-    }
-    view.matches_repo_relative_path(
-        path,
-        basename_start(path),
-        Some(is_dir),
-        case_of(fold),
-        Mode::NO_MATCH_SLASH_LITERAL,
-    )
+    };
+    path.is_matched_by(view, rules_of(Reading::Crate, fold))
 }
 
-/// Whether the text of a pattern, whose parts were read before, matches the value. A place past the text's end stands for
-/// none. Parts that don't belong together may give a wrong answer, and nothing worse.
+/// Whether the text of a pattern matches the whole of a value, by shortcuts where it can. Parts that don't belong together may give a
+/// wrong answer, and nothing worse.
 #[unsafe(no_mangle)]
 pub extern "C" fn gix_glob_matches(
-    text: &[u8],
-    pattern_mode: u32,
-    first_wildcard_pos: usize,
+    pattern: &GlobPattern<'_>,
     value: &[u8],
-    mode: u8,
+    mode: GlobMatchMode,
 ) -> bool
-    ensures { IsPattern text.now (record { 0 = pattern_mode }) (place_in text.now first_wildcard_pos) →
-        IsTrue result ↔ Splits value.now text.now (record { 0 = mode }) }
+    ensures { IsLawful pattern.now → IsTrue result ↔ Splits value.now pattern.now.text.now (record { 0 = mode.bits }) }
 {
-    let parts = GlobPattern {
-        text,
-        first_wildcard_pos,
-        mode: pattern_mode,
-        reading: 0,
-    };
-    let view = parts.view();
-    view.matches(value, Mode::from_bits_retain(mode))
+    pattern
+        .view()
+        .matches(value, Mode::from_bits_retain(mode.bits))
 }
 
 /// The place, where it is inside the text.

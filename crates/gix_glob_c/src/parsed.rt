@@ -1,10 +1,13 @@
 //! Patterns that are read once and matched often: `struct gix_glob_pattern` of the header, and what is asked of it.
 ghost use Rattle.std.specs.Prelude.{◌≡◌, ◌<◌, ◌⊎◌, ◌↔◌, ℕ, [], ◌∷◌, length, All, IsTrue, IfSome, MatchOption, None, option_map, true, false};
 ghost use Rattle.glob_lists.specs.Deciding.{AnswersUnder, Decides};
-ghost use Rattle.gix_glob.specs.Patterns.{HasReading, IsPattern, is_blank, is_negative, without_negation};
+ghost use Rattle.gix_glob.specs.Patterns.{HasReading, IsPattern, is_blank, is_for_directories, is_negative, slash_if, without_negation};
 ghost use Rattle.gix_glob_c.specs.Parsed.{IsLawful, IsPathOfFile, IsRead, IsReadAsGit, entry_of_parts, first_of, list_of, mode_of, reading_of, reading_of_all};
 ghost use Rattle.gix_glob_c.specs.Parts.{none, reading_told, rules_of, unless_none};
+ghost use Rattle.gix_glob_c.specs.Places.{IsPartOf};
+ghost use Rattle.gix_glob_c.specs.Private.Parts.{HasBefore};
 
+use crate::places::{count_behind, part_before};
 use crate::{place_in, rules_of};
 use bitflags::Flags;
 use gix_glob::pattern::{Mode, PatternView};
@@ -12,6 +15,14 @@ use glob_lists::{Reading, RepositoryPath, Rules};
 
 /// What stands for no place and for no index.
 pub(crate) const NONE: usize = usize::MAX;
+
+/// `struct gix_glob_pattern_mode`: the bits of what is known of a pattern's text and of what stood around it.
+#[repr(C)]
+#[derive(Copy, Clone)]
+pub struct GlobPatternMode {
+    /// The sum of the bits that stand.
+    pub bits: u32,
+}
 
 /// `struct gix_glob_pattern`: the parts of a pattern. Its text is borrowed from the line that was read.
 #[repr(C)]
@@ -22,8 +33,8 @@ pub struct GlobPattern<'a> {
     /// The place of the text's first `*`, `?`, `[` or `\`, counted in bytes from 0. The calls that read a pattern write
     /// `usize::MAX` where there is none; those that match take any place past the text's end for none.
     pub first_wildcard_pos: usize,
-    /// The bits of what is known of the text and of what stood around it.
-    pub mode: u32,
+    /// What is known of the text, and of what stood around it.
+    pub mode: GlobPatternMode,
     /// Whose reading it is: 0 for the ported crate's, any other number for Git's. The calls that read a pattern write 0 or 1.
     pub reading: u32,
 }
@@ -48,35 +59,54 @@ impl<'a> GlobPattern<'a> {
     {
         PatternView {
             text: self.text,
-            mode: Mode::from_bits_retain(self.mode),
+            mode: Mode::from_bits_retain(self.mode.bits),
             first_wildcard_pos: place_in(self.text, self.first_wildcard_pos),
         }
     }
 }
 
-/// Reads a pattern line, as `Pattern::from_bytes` does. A blank line leaves `out` as it was, and is answered by `false`.
+/// Reads a pattern line, as `Pattern::from_bytes` does. The text of the pattern is a part of the line. A blank line leaves `out` as it
+/// was, and is answered by `false`.
 #[unsafe(no_mangle)]
 pub extern "C" fn gix_glob_parse<'a>(line: &'a [u8], out: &mut GlobPattern<'a>) -> bool
     ensures reads { result ≡ true → IsRead line.now out.new }
     ensures blank { (result ≡ false) ↔ IsTrue (is_blank (without_negation line.now)) }
     ensures unread { result ≡ false → ¬ HasReading line.now true }
     ensures kept { result ≡ false → out.new ≡ out.old }
+    ensures place { result ≡ true → IsPartOf out.new.text line.entry }
 {
     match PatternView::from_bytes(line) {
         Some(view) => {
-            *out = parts_of(view, Reading::Crate);
+            *out = parts_of(part_of(line, view), Reading::Crate);
             true
         }
         None => false,
     }
 }
 
-/// Reads a pattern line as Git does, as `Pattern::from_git_line` reads it. Each line has a pattern.
+/// Reads a pattern line as Git does, as `Pattern::from_git_line` reads it. Each line has a pattern, whose text is a part of the line.
 #[unsafe(no_mangle)]
 pub extern "C" fn gix_glob_parse_as_git<'a>(line: &'a [u8], out: &mut GlobPattern<'a>)
-    ensures { IsReadAsGit line.now out.new }
+    ensures reads { IsReadAsGit line.now out.new }
+    ensures place { IsPartOf out.new.text line.entry }
 {
-    *out = parts_of(PatternView::from_git_line(line), Reading::Git);
+    let view = PatternView::from_git_line(line);
+    *out = parts_of(part_of(line, view), Reading::Git);
+}
+
+/// A pattern that was read of a line, with the text where it lies in the line.
+fn part_of<'a>(line: &'a [u8], view: PatternView<'_>) -> PatternView<'a>
+    requires { HasBefore line.now view.text.now (length (slash_if (is_for_directories view.mode))) }
+    ensures text { result.text.now ≡ view.entry.text.now }
+    ensures mode { result.mode ≡ view.entry.mode }
+    ensures first { result.first_wildcard_pos ≡ view.entry.first_wildcard_pos }
+    ensures place { IsPartOf result.text line.entry }
+{
+    PatternView {
+        text: part_before(line, view.text, count_behind(view.mode)),
+        mode: view.mode,
+        first_wildcard_pos: view.first_wildcard_pos,
+    }
 }
 
 /// Whether a pattern matches a path, in path mode, by its reading. The path is that from the folder of the pattern's file on: it isn't
@@ -96,29 +126,6 @@ pub extern "C" fn gix_glob_pattern_matches_path(
         return false;
     };
     is_matched(pattern, &path, rules_of(pattern.reading(), fold))
-}
-
-/// The index of the last of the patterns that matches a path, as [`gix_glob_pattern_matches_path`] answers; `usize::MAX`
-/// where none does. The reading of the first counts for all.
-#[unsafe(no_mangle)]
-pub extern "C" fn gix_glob_last_match(
-    patterns: &[GlobPattern<'_>],
-    path: &[u8],
-    is_dir: bool,
-    fold: bool,
-) -> usize
-    ensures none { (result ≡ none) ⊎ (result < length patterns.now) }
-    ensures other { ¬ IsPathOfFile path.now → result ≡ none }
-    ensures exact { All IsLawful patterns.now → IsPathOfFile path.now
-        → Decides (list_of patterns.now ∷ []) path.now is_dir (rules_of (reading_of_all patterns.now) fold) (option_map (λ (index : ℕ). (0, index)) (unless_none result)) }
-{
-    let Some(path) = path_of_file(path, is_dir) else {
-        return NONE;
-    };
-    match last_match(patterns, &path, rules_of(reading_of_all(patterns), fold)) {
-        Some(index) => index,
-        None => NONE,
-    }
 }
 
 /// Whose reading counts for the patterns of a call: that of the first.
@@ -158,11 +165,14 @@ pub(crate) fn parts_of<'a>(view: PatternView<'a>, reading: Reading) -> GlobPatte
     ensures place { first_of result ≡ view.entry.first_wildcard_pos }
     ensures told { unless_none result.first_wildcard_pos ≡ view.entry.first_wildcard_pos }
     ensures reading { reading_of result ≡ reading }
+    ensures lies { result.text ≡ view.entry.text }
 {
     GlobPattern {
         text: view.text,
         first_wildcard_pos: view.first_wildcard_pos.unwrap_or(NONE),
-        mode: view.mode.bits(),
+        mode: GlobPatternMode {
+            bits: view.mode.bits(),
+        },
         reading: number_of(reading),
     }
 }
@@ -193,7 +203,7 @@ pub(crate) fn path_of_file(bytes: &[u8], is_dir: bool) -> Option<RepositoryPath<
 pub(crate) fn is_negative(pattern: &GlobPattern<'_>) -> bool
     ensures { result ≡ is_negative (mode_of pattern.now) }
 {
-    Mode::from_bits_retain(pattern.mode).contains(Mode::NEGATIVE)
+    Mode::from_bits_retain(pattern.mode.bits).contains(Mode::NEGATIVE)
 }
 
 /// Whether a pattern matches a path.

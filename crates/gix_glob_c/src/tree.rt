@@ -1,5 +1,4 @@
-//! Lists of patterns, each with its folder: `struct gix_glob_list` of the header, and which pattern of them decides about a path in
-//! a work tree.
+//! Which pattern of several lists, each with its folder, decides about a path in a work tree.
 ghost use Rattle.std.specs.Prelude.{◌≡◌, ◌↔◌, ◌<◌, ◌≤◌, ℕ, All, IfSome, IsTrue, MatchOption, Some, false, length, map, slice_get, true};
 ghost use Rattle.gix_glob.specs.Paths.{IsFolder};
 ghost use Rattle.gix_glob.specs.Patterns.{is_negative};
@@ -10,20 +9,11 @@ ghost use Rattle.gix_glob_c.specs.Parsed.{IsPathOfFile, mode_of};
 ghost use Rattle.gix_glob_c.specs.declared.parsed.GlobPattern.{GlobPattern};
 ghost use Rattle.gix_glob_c.specs.Parts.{rules_of};
 
-use crate::parsed::{GlobPattern, is_negative, last_match, path_of_file};
+use crate::lists::{GlobList, last_match_under};
+use crate::parsed::{GlobPattern, is_negative, path_of_file};
 use crate::rules_of;
 use glob_lists::{ListStack, Reading, RepositoryPath, Rules};
 use glob_trees::decide_in_tree_by;
-
-/// `struct gix_glob_list`: the patterns of one file, and its folder.
-#[repr(C)]
-#[derive(Copy, Clone)]
-pub struct GlobList<'a> {
-    /// The patterns, in the order of their lines.
-    pub patterns: &'a [GlobPattern<'a>],
-    /// The folder of the file, from the top of the tree on: empty, or with a slash at its end.
-    pub base: &'a [u8],
-}
 
 /// `struct gix_glob_decision`: the place of a list, and that of a pattern in it, both from 0.
 #[repr(C)]
@@ -112,29 +102,4 @@ fn is_negative_at(patterns: &[GlobPattern<'_>], place: usize) -> bool
     ensures { (pattern : GlobPattern) → slice_get patterns.now place ≡ Some pattern → result ≡ is_negative (mode_of pattern) }
 {
     is_negative(&patterns[place])
-}
-
-/// The place of the last pattern of a list that matches what the base of the list leaves of a path. A base that is no folder's
-/// leaves nothing.
-fn last_match_under(list: &GlobList<'_>, path: &RepositoryPath<'_>, rules: Rules) -> Option<usize>
-    ensures inside { IfSome result (λ last. last < length list.now.patterns.now) }
-    ensures exact { IsLawfulList list.now → MatchOption result
-        ((m : ℕ) → ¬ AnswersAt (entry_list list.now) path.now.bytes path.now.is_dir rules m)
-        (λ last. AnswersAt (entry_list list.now) path.now.bytes path.now.is_dir rules last
-        × ((m : ℕ) → AnswersAt (entry_list list.now) path.now.bytes path.now.is_dir rules m → m ≤ last)) }
-{
-    if !is_folder(list.base) {
-        return None;
-    }
-    let Some(rest) = path.below(list.base, rules.case) else {
-        return None;
-    };
-    last_match(list.patterns, &rest, rules)
-}
-
-/// Whether a base is empty or ends in a slash.
-pub(crate) fn is_folder(base: &[u8]) -> bool
-    ensures { IsTrue result ↔ IsFolder base.now }
-{
-    matches!(base, [] | [.., b'/'])
 }

@@ -16,7 +16,7 @@ struct reader {
     bool is_top;
     struct gix_glob_attribute_line line;
     struct gix_glob_macro macro;
-    uint32_t kind;
+    enum gix_glob_line kind;
 };
 
 static struct reader reader_of(const struct field *bytes, bool is_top)
@@ -30,15 +30,15 @@ static struct reader reader_of(const struct field *bytes, bool is_top)
 /* Reads a line. The heads that are quoted are kept as long as the row is asked. */
 static bool read_line(struct reader *reader, struct text *heads)
 {
-    const size_t left = reader->left.rest_len;
+    const size_t left = reader->left.rest.len;
     lacks_room |= left > sizeof heads->bytes - heads->len;
     if (lacks_room)
         return false;
-    const bool is_read = (reads_as_git ? gix_glob_parse_attribute_line_as_git : gix_glob_parse_attribute_line)(
-        &reader->left, reader->is_top, heads->bytes + heads->len, left, &reader->line, &reader->macro, &reader->kind);
-    if (!is_read)
+    reader->kind = (reads_as_git ? gix_glob_parse_attribute_line_as_git : gix_glob_parse_attribute_line)(
+        &reader->left, gix_glob_memory_of(heads->bytes + heads->len, left), &reader->line, &reader->macro, reader->is_top);
+    if (reader->kind == GIX_GLOB_LINE_END || reader->kind == GIX_GLOB_LINE_FILE_TOO_LARGE)
         return false;
-    heads->len += left - reader->left.rest_len;
+    heads->len += left - reader->left.rest.len;
     return true;
 }
 
@@ -75,7 +75,7 @@ static void add_file(const struct field *bytes, const uint8_t *base, size_t base
             sources.macros[sources.macro_count++] = reader.macro;
     }
     sources.lists[sources.list_count++] =
-        (struct gix_glob_attribute_list){&sources.lines[first], sources.line_count - first, base, base_len};
+        gix_glob_attribute_list_of(&sources.lines[first], sources.line_count - first, gix_glob_text_of(base, base_len));
 }
 
 /* How strong a file is, by its name, and how many bytes its folder has. */
@@ -111,11 +111,12 @@ static void read_sources(const struct field *fields, size_t count)
 /* The state of an attribute for a path; false where the path is none. */
 static bool ask_state(const struct gix_glob_path *path, bool fold, const struct field *name, struct gix_glob_state *state)
 {
-    const struct gix_glob_attributes all = {sources.lists, sources.list_count, sources.macros, sources.macro_count};
+    const struct gix_glob_attributes all =
+        gix_glob_attributes_of(sources.lists, sources.list_count, sources.macros, sources.macro_count);
     struct gix_glob_text texts[MOST_LINES + MOST_MACROS];
-    bool marks[MOST_MACROS] = {false};
-    gix_glob_init_texts(texts, MOST_LINES + MOST_MACROS);
-    return gix_glob_attribute_of(&all, path, fold, name->bytes, name->len, texts, MOST_LINES + MOST_MACROS, marks, MOST_MACROS, state);
+    bool marks[MOST_MACROS];
+    return gix_glob_attribute_of(&all, path, text_of(name), gix_glob_texts_of(texts, MOST_LINES + MOST_MACROS),
+                                 gix_glob_marks_of(marks, MOST_MACROS), fold, state);
 }
 
 /* Adds a space and a word that assigns the state. */
@@ -126,14 +127,16 @@ static void add_state(struct text *text, const struct field *name, const struct 
     add(text, name->bytes, name->len);
     if (state->kind == GIX_GLOB_VALUE) {
         add_word(text, "=");
-        add(text, state->value, state->value_len);
+        add(text, state->value.bytes, state->value.len);
     }
 }
 
 /* Adds what each word of a line assigns: the state that its attribute has by a line of this word alone. */
-static void add_words(struct text *text, const uint8_t *words, size_t len)
+static void add_words(struct text *text, struct gix_glob_text all)
 {
-    static const struct gix_glob_path path = {(const uint8_t *)"x", 1, false};
+    static const struct gix_glob_path path = {GIX_GLOB_TEXT("x"), false};
+    const uint8_t *const words = all.bytes;
+    const size_t len = all.len;
     for (size_t at = 0, end; at < len; at = end + 1) {
         for (end = at; end < len && !memchr(" \t\r", words[end], 3); end++)
             ;
@@ -143,11 +146,11 @@ static void add_words(struct text *text, const uint8_t *words, size_t len)
             continue;
         struct gix_glob_state state = GIX_GLOB_STATE_INIT;
         clear_sources();
-        sources.lines[0] = (struct gix_glob_attribute_line){GIX_GLOB_PATTERN_INIT, words + at, end - at};
-        gix_glob_parse((const uint8_t *)"x", 1, &sources.lines[0].pattern);
-        sources.lists[0] = (struct gix_glob_attribute_list){sources.lines, 1, words, 0};
+        sources.lines[0] = (struct gix_glob_attribute_line)GIX_GLOB_ATTRIBUTE_LINE_INIT;
+        sources.lines[0].words = gix_glob_text_of(words + at, end - at);
+        sources.lists[0] = gix_glob_attribute_list_of(sources.lines, 1, gix_glob_string(""));
         sources.list_count = 1;
-        if (!ask_state(&path, false, &name, &state))
+        if (!gix_glob_parse(path.text, &sources.lines[0].pattern) || !ask_state(&path, false, &name, &state))
             abort();
         add_state(text, &name, &state);
     }
@@ -158,12 +161,12 @@ static void add_line(struct text *text, const struct reader *reader, const char 
 {
     if (reader->kind == GIX_GLOB_LINE_PATTERN) {
         add_pattern(text, &reader->line.pattern);
-        add_words(text, reader->line.words, reader->line.words_len);
+        add_words(text, reader->line.words);
     } else if (reader->kind == GIX_GLOB_LINE_MACRO) {
         add_word(text, before);
-        add(text, reader->macro.name, reader->macro.name_len);
+        add(text, reader->macro.name.bytes, reader->macro.name.len);
         add_word(text, behind);
-        add_words(text, reader->macro.words, reader->macro.words_len);
+        add_words(text, reader->macro.words);
     } else if (reader->kind != GIX_GLOB_LINE_NOTHING) {
         add_word(text, SILENCES[reader->kind]);
     }
@@ -182,7 +185,7 @@ static void one_line(const struct field *fields, struct text *text)
 }
 
 /* What the lines of a file give that are of one kind, or of all that say nothing where `kind` is GIX_GLOB_LINE_TOO_LONG. */
-static void lines_of_kind(const struct field *bytes, bool is_top, uint32_t kind, struct text *text)
+static void lines_of_kind(const struct field *bytes, bool is_top, enum gix_glob_line kind, struct text *text)
 {
     static struct text heads;
     struct reader reader = reader_of(bytes, is_top);
@@ -206,8 +209,8 @@ static void matched_lines(const struct field *fields, struct text *text)
     const struct gix_glob_path path = path_of(&fields[1]);
     for (heads.len = 0; read_line(&reader, &heads);)
         if (reader.kind == GIX_GLOB_LINE_PATTERN &&
-            gix_glob_pattern_matches_path(&reader.line.pattern, path.bytes, path.len, path.is_dir, false))
-            add_words(text, reader.line.words, reader.line.words_len);
+            gix_glob_pattern_matches_path(&reader.line.pattern, path.text, path.is_dir, false))
+            add_words(text, reader.line.words);
 }
 
 /* Whether a part of a path is `.` or `..`: a name for the library, while Git goes where it leads. */
@@ -240,13 +243,14 @@ static void add_answer(struct text *text, const struct field *path, const struct
     static const char *const words[] = {"unspecified", "set", "unset"};
     struct gix_glob_state state = GIX_GLOB_STATE_INIT;
     const struct gix_glob_path asked = path_of(path);
-    ask_state(&asked, fold, name, &state);
+    if (!ask_state(&asked, fold, name, &state))
+        state.kind = GIX_GLOB_UNSPECIFIED;
     add(text, path->bytes, path->len);
     add(text, "", 1);
     add(text, name->bytes, name->len);
     add(text, "", 1);
     if (state.kind == GIX_GLOB_VALUE)
-        add(text, state.value, state.value_len);
+        add(text, state.value.bytes, state.value.len);
     else
         add_word(text, words[state.kind]);
     add(text, "", 1);

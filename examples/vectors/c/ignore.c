@@ -6,18 +6,19 @@ enum { MOST_RULES = 256, MOST_FILES = 16 };
 /* The patterns of an ignore file with the numbers of their lines, what is prepared of them, and the folder of the file. */
 struct file {
     struct gix_glob_pattern patterns[MOST_RULES];
-    struct gix_glob_row rows[MOST_RULES];
-    struct gix_glob_heads heads;
+    uint64_t block[(1 << 10) + 2 * MOST_RULES];
+    struct gix_glob_list list;
     size_t numbers[MOST_RULES], count;
     const struct field *base;
 };
 
 static struct file files[MOST_FILES];
 
-/* Prepares the patterns of a file. */
+/* Prepares the patterns of a file, as a list of the top. */
 static void prepare(struct file *file)
 {
-    if (!gix_glob_prepare(file->patterns, file->count, file->rows, MOST_RULES, &file->heads))
+    file->list = gix_glob_list_of(file->patterns, file->count, gix_glob_string(""));
+    if (!gix_glob_prepare_list(&file->list, file->block, sizeof file->block))
         abort();
 }
 
@@ -33,14 +34,14 @@ static const struct file *file_of(const struct gix_glob_pattern *pattern)
 /* Reads an ignore file, and prepares its patterns. */
 static void read_file(const struct field *base, const struct field *bytes, bool as_git, struct file *file)
 {
-    bool (*const take_line)(struct gix_glob_lines *, struct gix_glob_pattern *, bool *) =
+    enum gix_glob_line (*const take_line)(struct gix_glob_lines *, struct gix_glob_pattern *) =
         as_git ? gix_glob_parse_ignore_line_as_git : gix_glob_parse_ignore_line;
     struct gix_glob_lines lines = gix_glob_lines_of(bytes->bytes, bytes->len);
     struct gix_glob_pattern pattern = GIX_GLOB_PATTERN_INIT;
-    bool has_pattern = false;
+    enum gix_glob_line line;
     file->base = base;
-    for (file->count = 0; take_line(&lines, &pattern, &has_pattern);)
-        if (has_pattern) {
+    for (file->count = 0; (line = take_line(&lines, &pattern)) != GIX_GLOB_LINE_END;)
+        if (line == GIX_GLOB_LINE_PATTERN) {
             if (file->count == MOST_RULES) {
                 lacks_room = true;
                 break;
@@ -62,13 +63,13 @@ static size_t read_files(const struct field *fields, size_t count)
 /* The last pattern of a file that matches a path, by each call that tells it. */
 static size_t last_match(const struct file *file, const struct gix_glob_path *path, bool fold, struct answer *answer)
 {
-    const struct gix_glob_index index = {file->patterns, file->count, file->rows, MOST_RULES, &file->heads};
-    const size_t found = gix_glob_last_match(file->patterns, file->count, path->bytes, path->len, path->is_dir, fold);
+    const struct gix_glob_list in_turn = gix_glob_list_of(file->patterns, file->count, gix_glob_string(""));
+    const size_t found = gix_glob_last_match(&in_turn, path->text, path->is_dir, fold);
     size_t place = 0, at = file->count;
-    agree(answer, "gix_glob_index_last_match",
-          gix_glob_index_last_match(&index, path->bytes, path->len, path->is_dir, fold) == found);
-    agree(answer, "gix_glob_index_last_matches", gix_glob_index_last_matches(&index, path, 1, fold, &place, 1) && place == found);
-    while (at > 0 && !gix_glob_pattern_matches_path(&file->patterns[at - 1], path->bytes, path->len, path->is_dir, fold))
+    agree(answer, "gix_glob_last_match of a prepared list", gix_glob_last_match(&file->list, path->text, path->is_dir, fold) == found);
+    agree(answer, "gix_glob_last_matches",
+          gix_glob_last_matches(&file->list, gix_glob_paths_of(path, 1), gix_glob_places_of(&place, 1), fold) && place == found);
+    while (at > 0 && !gix_glob_pattern_matches_path(&file->patterns[at - 1], path->text, path->is_dir, fold))
         at--;
     agree(answer, "gix_glob_pattern_matches_path", (at ? at - 1 : GIX_GLOB_NONE) == found);
     return found;
@@ -77,10 +78,11 @@ static size_t last_match(const struct file *file, const struct gix_glob_path *pa
 /* Whether a path is one below the top, without empty parts. */
 static bool is_plain(const struct gix_glob_path *path)
 {
-    for (size_t i = 0; i < path->len; i++)
-        if (path->bytes[i] == '/' && (i == 0 || i + 1 == path->len || path->bytes[i + 1] == '/'))
+    const struct gix_glob_text text = path->text;
+    for (size_t i = 0; i < text.len; i++)
+        if (text.bytes[i] == '/' && (i == 0 || i + 1 == text.len || text.bytes[i + 1] == '/'))
             return false;
-    return path->len > 0;
+    return text.len > 0;
 }
 
 /* Whether the last part of a path begins where a row tells it, if it has slashes. */
@@ -93,15 +95,15 @@ static bool repository_paths(const struct field *fields, struct answer *answer)
 {
     const struct field *line = &fields[2], *path = &fields[3], *place = &fields[4];
     const bool fold = folds(&fields[0]) || is(&fields[1], "path+fold"), is_dir = is(&fields[5], "folder");
-    const struct gix_glob_path asked = {path->bytes, path->len, is_dir};
-    /* (the library always matches as `path` does, knows the kind, and finds the last part itself) */
-    if (!(mode_of(&fields[1]) & GIX_GLOB_NO_MATCH_SLASH_LITERAL) || is(&fields[5], "unknown") || !begins_at(path, place))
+    const struct gix_glob_path asked = {text_of(path), is_dir};
+    /* (the library always matches as `path` does, knows the kind, finds the last part itself, and is asked about paths alone) */
+    if (!(mode_of(&fields[1]).bits & GIX_GLOB_NO_MATCH_SLASH_LITERAL) || is(&fields[5], "unknown") || !begins_at(path, place) ||
+        !is_plain(&asked))
         return false;
-    const bool matches = gix_glob_matches_path(line->bytes, line->len, path->bytes, path->len, is_dir, fold);
-    if (is_plain(&asked)) {
-        const struct gix_glob_pattern pattern = parsed(line);
-        agree(answer, "gix_glob_last_match", (last_match(file_of(&pattern), &asked, fold, answer) == 0) == matches);
-    }
+    const bool matches = gix_glob_matches_path(text_of(line), asked.text, is_dir, fold);
+    struct gix_glob_pattern pattern = GIX_GLOB_PATTERN_INIT;
+    const bool has_pattern = gix_glob_parse(text_of(line), &pattern);
+    agree(answer, "gix_glob_last_match", (has_pattern && last_match(file_of(&pattern), &asked, fold, answer) == 0) == matches);
     push_bool(answer, matches);
     return true;
 }
@@ -109,7 +111,7 @@ static bool repository_paths(const struct field *fields, struct answer *answer)
 static bool git_paths(const struct field *fields, struct answer *answer)
 {
     const struct field *path = &fields[2], *place = &fields[3];
-    const struct gix_glob_path asked = {path->bytes, path->len, is(&fields[4], "folder")};
+    const struct gix_glob_path asked = {text_of(path), is(&fields[4], "folder")};
     const struct gix_glob_pattern pattern = parsed_as_git(&fields[1]);
     if (is(&fields[4], "unknown") || !begins_at(path, place) || !is_plain(&asked))
         return false;
@@ -136,16 +138,15 @@ static bool ignore_files(const struct field *fields, bool as_git, struct answer 
 static bool strip(const struct field *base, bool fold, struct gix_glob_path *path)
 {
     const size_t len = base->is_none ? 0 : base->len;
-    if (len >= path->len)
+    if (len >= path->text.len)
         return false;
     for (size_t i = 0; i < len; i++) {
-        const uint8_t one = base->bytes[i], other = path->bytes[i];
+        const uint8_t one = base->bytes[i], other = path->text.bytes[i];
         const bool is_letter = (one | 32) >= 'a' && (one | 32) <= 'z';
         if (one != other && !(fold && is_letter && (one ^ other) == 32))
             return false;
     }
-    path->bytes += len;
-    path->len -= len;
+    path->text = gix_glob_text_of(path->text.bytes + len, path->text.len - len);
     return true;
 }
 
@@ -157,7 +158,7 @@ static void add_decision(struct text *text, size_t count, const struct gix_glob_
         struct gix_glob_path rest = *path;
         const size_t found = strip(file->base, fold, &rest) ? last_match(file, &rest, fold, answer) : GIX_GLOB_NONE;
         if (found != GIX_GLOB_NONE) {
-            add_word(text, file->patterns[found].mode & GIX_GLOB_NEGATIVE ? "kept " : "ignored ");
+            add_word(text, gix_glob_is_negative(&file->patterns[found]) ? "kept " : "ignored ");
             add_number(text, at);
             add_word(text, ":");
             add_number(text, file->numbers[found]);
@@ -190,13 +191,19 @@ static bool trees(const struct field *fields, size_t count, size_t first, struct
     const size_t file_count = read_files(fields + first, count - first);
     const struct gix_glob_path path = path_of(&fields[first - 1]);
     struct gix_glob_list lists[MOST_FILES];
-    struct gix_glob_decision by = {0, 0};
+    struct gix_glob_decision by = GIX_GLOB_DECISION_INIT, in_turn = GIX_GLOB_DECISION_INIT;
     struct text text = {.len = 0};
     for (size_t i = 0; i < file_count; i++) {
-        const struct field *base = files[i].base;
-        lists[i] = (struct gix_glob_list){files[i].patterns, files[i].count, base->bytes, base->is_none ? 0 : base->len};
+        lists[i] = files[i].list;
+        lists[i].base = text_of(files[i].base);
     }
-    if (!gix_glob_decide_in_tree(lists, file_count, path.bytes, path.len, path.is_dir, folds(&fields[0]), &by)) {
+    const bool is_decided = gix_glob_decide_in_tree(gix_glob_lists_of(lists, file_count), path.text, path.is_dir, folds(&fields[0]), &by);
+    for (size_t i = 0; i < file_count; i++)
+        lists[i] = gix_glob_list_of(lists[i].patterns, lists[i].count, lists[i].base);
+    agree(answer, "gix_glob_decide_in_tree of lists that aren't prepared",
+          gix_glob_decide_in_tree(gix_glob_lists_of(lists, file_count), path.text, path.is_dir, folds(&fields[0]), &in_turn) == is_decided &&
+              in_turn.list == by.list && in_turn.pattern == by.pattern);
+    if (!is_decided) {
         push_none(answer);
         return true;
     }

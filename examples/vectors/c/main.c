@@ -10,13 +10,14 @@ bool lacks_room, reads_as_git;
 static bool matching(const struct field *fields, struct answer *answer)
 {
     const struct field *text = &fields[1], *value = &fields[2];
-    const uint8_t mode = mode_of(&fields[0]);
-    const bool matches = gix_glob_wildmatch(text->bytes, text->len, value->bytes, value->len, mode);
-    size_t place = 0;
-    while (place < text->len && !memchr("*?[\\", text->bytes[place], 4))
-        place++;
-    agree(answer, "gix_glob_matches",
-          gix_glob_matches(text->bytes, text->len, 0, place, value->bytes, value->len, mode) == matches);
+    const struct gix_glob_match_mode mode = mode_of(&fields[0]);
+    const bool matches = gix_glob_wildmatch(text_of(text), text_of(value), mode);
+    struct gix_glob_pattern pattern = GIX_GLOB_PATTERN_INIT;
+    pattern.text = text_of(text);
+    pattern.first_wildcard_pos = 0;
+    while (pattern.first_wildcard_pos < text->len && !memchr("*?[\\", text->bytes[pattern.first_wildcard_pos], 4))
+        pattern.first_wildcard_pos++;
+    agree(answer, "gix_glob_matches", gix_glob_matches(&pattern, text_of(value), mode) == matches);
     push_bool(answer, matches);
     return true;
 }
@@ -25,19 +26,17 @@ static bool values(const struct field *fields, struct answer *answer)
 {
     const struct gix_glob_pattern pattern = parsed(&fields[1]);
     const struct field *value = &fields[2];
-    const uint8_t mode = mode_of(&fields[0]);
-    const bool matches = gix_glob_matches(pattern.text, pattern.text_len, pattern.mode, pattern.first_wildcard_pos, value->bytes,
-                                          value->len, mode);
-    agree(answer, "gix_glob_wildmatch",
-          gix_glob_wildmatch(pattern.text, pattern.text_len, value->bytes, value->len, mode) == matches);
+    const struct gix_glob_match_mode mode = mode_of(&fields[0]);
+    const bool matches = gix_glob_matches(&pattern, text_of(value), mode);
+    agree(answer, "gix_glob_wildmatch", gix_glob_wildmatch(pattern.text, text_of(value), mode) == matches);
     push_bool(answer, matches);
     return true;
 }
 
 static void push_pattern(struct answer *answer, const struct gix_glob_pattern *pattern)
 {
-    push(answer, pattern->text, pattern->text_len);
-    push_number(answer, pattern->mode);
+    push(answer, pattern->text.bytes, pattern->text.len);
+    push_number(answer, pattern->mode.bits);
     push_number(answer, pattern->first_wildcard_pos);
 }
 
@@ -46,7 +45,7 @@ static bool reading(const struct field *fields, struct answer *answer)
     struct gix_glob_pattern pattern = GIX_GLOB_PATTERN_INIT;
     if (!is(&fields[0], "line"))
         return false;
-    if (gix_glob_parse(fields[1].bytes, fields[1].len, &pattern))
+    if (gix_glob_parse(text_of(&fields[1]), &pattern))
         push_pattern(answer, &pattern);
     else
         for (int i = 0; i < 3; i++)

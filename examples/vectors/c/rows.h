@@ -24,18 +24,25 @@ static inline bool is(const struct field *field, const char *word)
 /* Whether the case of letters doesn't count, by a field `sensitive` or `fold`. */
 static inline bool folds(const struct field *field) { return is(field, "fold"); }
 
-/* The bits of a field `plain`, `path`, `fold` or `path+fold`. */
-static inline uint8_t mode_of(const struct field *field)
+/* The mode of a field `plain`, `path`, `fold` or `path+fold`. */
+static inline struct gix_glob_match_mode mode_of(const struct field *field)
 {
-    const int path = is(field, "path") || is(field, "path+fold") ? GIX_GLOB_NO_MATCH_SLASH_LITERAL : 0;
-    return (uint8_t)(path | (is(field, "fold") || is(field, "path+fold") ? GIX_GLOB_IGNORE_CASE : 0));
+    const unsigned path = is(field, "path") || is(field, "path+fold") ? GIX_GLOB_NO_MATCH_SLASH_LITERAL : 0;
+    return gix_glob_match_mode_of(path | (is(field, "fold") || is(field, "path+fold") ? GIX_GLOB_IGNORE_CASE : 0));
+}
+
+/* The bytes of a field, of which one that stands for nothing has none. */
+static inline struct gix_glob_text text_of(const struct field *field)
+{
+    return gix_glob_text_of(field->bytes, field->is_none ? 0 : field->len);
 }
 
 /* The pattern of a line that has one. */
 static inline struct gix_glob_pattern parsed(const struct field *line)
 {
     struct gix_glob_pattern pattern = GIX_GLOB_PATTERN_INIT;
-    gix_glob_parse(line->bytes, line->len, &pattern);
+    if (!gix_glob_parse(text_of(line), &pattern))
+        pattern.text.len = 0;
     return pattern;
 }
 
@@ -43,7 +50,7 @@ static inline struct gix_glob_pattern parsed(const struct field *line)
 static inline struct gix_glob_pattern parsed_as_git(const struct field *line)
 {
     struct gix_glob_pattern pattern = GIX_GLOB_PATTERN_INIT;
-    gix_glob_parse_as_git(line->bytes, line->len, &pattern);
+    gix_glob_parse_as_git(text_of(line), &pattern);
     return pattern;
 }
 
@@ -65,7 +72,7 @@ static inline bool take(struct field *rest, uint8_t end, struct field *taken)
 static inline struct gix_glob_path path_of(const struct field *field)
 {
     const bool is_dir = field->len > 0 && field->bytes[field->len - 1] == '/';
-    return (struct gix_glob_path){field->bytes, field->len - is_dir, is_dir};
+    return (struct gix_glob_path){gix_glob_text_of(field->bytes, field->len - is_dir), is_dir};
 }
 
 /* Whether the question or its answer is larger than what the arrays of this program hold. */
@@ -100,10 +107,10 @@ static inline void add_number(struct text *text, size_t number)
 /* Adds a pattern as its line would show it. */
 static inline void add_pattern(struct text *text, const struct gix_glob_pattern *pattern)
 {
-    add_word(text, pattern->mode & GIX_GLOB_NEGATIVE ? "!" : "");
-    add_word(text, pattern->mode & GIX_GLOB_ABSOLUTE ? "/" : "");
-    add(text, pattern->text, pattern->text_len);
-    add_word(text, pattern->mode & GIX_GLOB_MUST_BE_DIR ? "/" : "");
+    add_word(text, pattern->mode.bits & GIX_GLOB_NEGATIVE ? "!" : "");
+    add_word(text, pattern->mode.bits & GIX_GLOB_ABSOLUTE ? "/" : "");
+    add(text, pattern->text.bytes, pattern->text.len);
+    add_word(text, pattern->mode.bits & GIX_GLOB_MUST_BE_DIR ? "/" : "");
 }
 
 /* An answer: its fields as they are spelt, and the call that answered otherwise than another one, if any. */

@@ -11,7 +11,7 @@ use Rattle.gix_glob_c.specs.Parsed.{entry_of_parts}
 
 -- what the reading of an element takes where there is none
 abbrev pub blank : GlobPattern
-blank = record { text = record { ref_ptr = (0, 0); now = [] }; first_wildcard_pos = 0; mode = 0; reading = 0 }
+blank = record { text = record { ref_ptr = (0, 0); now = [] }; first_wildcard_pos = 0; mode = record { bits = 0 }; reading = 0 }
 
 -- the entry at a place is that of the pattern there
 pub entry_at : (patterns : List GlobPattern) (m : ℕ) → m < length patterns → slice_get (map entry_of_parts patterns) m ≡ Some (entry_of_parts (slice_index_or patterns m blank))

@@ -1,5 +1,5 @@
 -- The lines that match a path, as they are found from the first one on.
-use Rattle.std.proofs.Common.{◌≡◌, ℕ, ◌+◌, ◌<◌, ◌≤◌, List, [], ◌∷◌, ◌++◌, length, map, option_map, Option, None, Some, refl, sym, ap, subst, ◌∙◌, slice_index_or, arith}
+use Rattle.std.proofs.Common.{◌≡◌, ℕ, ◌+◌, ◌<◌, ◌≤◌, true, false, List, [], ◌∷◌, ◌++◌, length, map, option_map, Option, None, Some, refl, sym, ap, subst, ◌∙◌, slice_index_or, arith}
 use Rattle.std.specs.Prelude.{slice_get}
 use Rattle.std.specs.List.{flat_map}
 use Rattle.std.specs.Option.{option_and_then, option_map_or}
@@ -17,7 +17,8 @@ use Rattle.glob_lists.proofs.lemmas.Deciding.Answering.{AnswersAt-only, AnswersU
 use Rattle.glob_lists.proofs.lemmas.Deciding.MatchesUpTo.{matches_all, matches_more, matches_of_list, matches_skip}
 use Rattle.glob_attributes.specs.Borrowed.{assigned_by}
 use Rattle.glob_attributes.specs.States.{Assigned, assigned_at}
-use Rattle.gix_glob_c.specs.Attributes.{attribute_list, entry_of_line}
+use Rattle.gix_glob_c.specs.Attributes.{attribute_list, entry_of_line, lines_of}
+use Rattle.gix_glob_c.specs.Lists.{names_folder}
 use Rattle.gix_glob_c.specs.Private.Finding.{IsFoundUpTo, lines_at}
 use Rattle.gix_glob_c.specs.Parsed.{entry_of_parts}
 use Rattle.gix_glob_c.specs.declared.attribute_file.GlobAttributeLine.{GlobAttributeLine}
@@ -26,7 +27,7 @@ use Rattle.gix_glob_c.specs.declared.attributes.GlobAttributeList.{GlobAttribute
 -- what the reading of a line and of a list takes where there is none
 abbrev pub blank_line : GlobAttributeLine
 blank_line = record {
-  pattern = record { text = record { ref_ptr = (0, 0); now = [] }; first_wildcard_pos = 0; mode = 0; reading = 0 };
+  pattern = record { text = record { ref_ptr = (0, 0); now = [] }; first_wildcard_pos = 0; mode = record { bits = 0 }; reading = 0 };
   words = record { ref_ptr = (0, 0); now = [] };
 }
 
@@ -36,8 +37,18 @@ blank_attributes = record { lines = record { ref_ptr = (0, 0); now = [] }; base 
 pub list_there : (lists : List GlobAttributeList) (i : ℕ) → i < length lists → slice_get (map attribute_list lists) i ≡ Some (attribute_list (slice_index_or lists i blank_attributes))
 list_there lists i within = slice_get-map attribute_list lists i ∙ ap (option_map attribute_list) (slice_get-get_or lists i blank_attributes within)
 
-pub line_there : (lines : List GlobAttributeLine) (m : ℕ) → m < length lines → slice_get (map entry_of_line lines) m ≡ Some (entry_of_line (slice_index_or lines m blank_line))
-line_there lines m within = slice_get-map entry_of_line lines m ∙ ap (option_map entry_of_line) (slice_get-get_or lines m blank_line within)
+-- a list of a folder has all its lines, and another one has none
+lines_all : (list : GlobAttributeList) → names_folder list.base.now ≡ true → lines_of list ≡ list.lines.now
+lines_all list folder = rw folder refl
+
+lines_none : (list : GlobAttributeList) → names_folder list.base.now ≡ false → lines_of list ≡ []
+lines_none list other = rw other refl
+
+pub line_there : (list : GlobAttributeList) (m : ℕ) → names_folder list.base.now ≡ true → m < length list.lines.now
+    → slice_get (map entry_of_line (lines_of list)) m ≡ Some (entry_of_line (slice_index_or list.lines.now m blank_line))
+line_there list m folder within =
+    subst (λ (ls : List GlobAttributeLine). slice_get (map entry_of_line ls) m ≡ Some (entry_of_line (slice_index_or list.lines.now m blank_line))) (sym (lines_all list folder))
+    (slice_get-map entry_of_line list.lines.now m ∙ ap (option_map entry_of_line) (slice_get-get_or list.lines.now m blank_line within))
 
 pub lines_at-is : (lists : List GlobAttributeList) (i : ℕ) → i < length lists → lines_at lists i ≡ length (slice_index_or lists i blank_attributes).lines.now
 lines_at-is lists i within = ap (λ (o : Option GlobAttributeList). option_map_or (λ (list : GlobAttributeList). length list.lines.now) o 0) (slice_get-get_or lists i blank_attributes within)
@@ -60,13 +71,19 @@ module _ (lists : List GlobAttributeList) (path : Path) (rules : Rules) (i : ℕ
   pub found-list : (n : ℕ) (row : List Assigned) → ((m : ℕ) → answers m → m < n) → IsFoundUpTo lists path rules i n row → IsFoundUpTo lists path rules (i + 1) 0 row
   found-list n row most h = record { pairs = h.pairs; found = matches_of_list (map attribute_list lists) path.bytes path.is_dir rules i n h.pairs most h.found; same = h.same }
 
-  pub answers-within : (m : ℕ) → answers m → m < length list.lines.now
-  answers-within m h =
+  answers-shown : (m : ℕ) → answers m → m < length (lines_of list)
+  answers-shown m h =
       let at = PairAnswers-only (map attribute_list lists) path.bytes path.is_dir rules i m (attribute_list list) there h in
-      let inside = slice_get_within (map entry_of_line list.lines.now) m at.entry at.there in
-      omega (arith, inside, length-map list.lines.now entry_of_line)
+      let inside = slice_get_within (map entry_of_line (lines_of list)) m at.entry at.there in
+      omega (arith, inside, length-map (lines_of list) entry_of_line)
 
-  module _ (m : ℕ) (line : GlobAttributeLine) (here : slice_get (map entry_of_line list.lines.now) m ≡ Some (entry_of_line line)) where
+  pub answers-within : names_folder list.base.now ≡ true → (m : ℕ) → answers m → m < length list.lines.now
+  answers-within folder m h = subst (λ (ls : List GlobAttributeLine). m < length ls) (lines_all list folder) (answers-shown m h)
+
+  pub answers-none : names_folder list.base.now ≡ false → (m : ℕ) → ¬ answers m
+  answers-none other m h = let none = ap length (lines_none list other) in let inside = answers-shown m h in absurd (omega (arith, none, inside))
+
+  module _ (m : ℕ) (line : GlobAttributeLine) (here : slice_get (map entry_of_line (lines_of list)) m ≡ Some (entry_of_line line)) where
     pub found-skip : (row : List Assigned) → ¬ answers m → IsFoundUpTo lists path rules i m row → IsFoundUpTo lists path rules i (m + 1) row
     found-skip row not h = record { pairs = h.pairs; found = matches_skip (map attribute_list lists) path.bytes path.is_dir rules i m h.pairs not h.found; same = h.same }
 

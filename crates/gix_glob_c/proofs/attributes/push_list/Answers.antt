@@ -9,9 +9,19 @@ use Rattle.gix_glob_c.specs.Attributes.{IsLawfulAttributes, attribute_list}
 use Rattle.gix_glob_c.specs.Private.Finding.{IsFoundUpTo}
 use Rattle.gix_glob_c.specs.Parsed.{IsLawful}
 use Rattle.gix_glob_c.specs.declared.attribute_file.GlobAttributeLine.{GlobAttributeLine}
-use Rattle.gix_glob_c.proofs.lemmas.FindingLemmas.{answers-only, answers-within, answers-yes, blank_attributes, blank_line, found-list, found-more, found-skip, line_there, lines_at-is, list_there}
+use Rattle.gix_glob_c.proofs.lemmas.FindingLemmas.{answers-none, answers-only, answers-within, answers-yes, blank_attributes, blank_line, found-list, found-more, found-skip, line_there, lines_at-is, list_there}
 use Rattle.gix_glob_c.proofs.attributes.push_list.Goals.{then-is_matched+in_ok-count, else-is_matched}
 use Rattle.gix_glob_c.proofs.attributes.push_list.Goals as goal
+
+pub returns-then-not-is_folder-clause-row : goal.returns-then-not-is_folder-clause-row
+returns-then-not-is_folder-clause-row c = λ lawful found.
+    let lists = c.args.lists.now in
+    let path = c.args.path.now in
+    let list = slice_index_or lists c.args.i blank_attributes in
+    let there = list_there lists c.args.i c.requires.list in
+    found-list lists path c.args.rules c.args.i list there 0 (row_of c.args.texts.now c.args.before)
+    (λ m answered. absurd (answers-none lists path c.args.rules c.args.i list there (sym c.if-not-is_folder.ensures.value) m answered))
+    found
 
 pub returns-in_default-clause-row : goal.returns-in_default-clause-row
 returns-in_default-clause-row c = λ lawful found.
@@ -45,10 +55,11 @@ lines-preserved c =
     let row = row_of c.lines.texts c.lines.count in
     let there = list_there lists i c.requires.list in
     let within : m < length list.lines.now = omega (arith, c.lines-test.true) in
-    let here = line_there list.lines.now m within in
+    let folder = sym c.if-not-is_folder.ensures.value in
+    let here = line_there list m folder within in
     let left : Rest rules.case list.base.now path.bytes rest.bytes = c.in-Some.ensures.0 in
     let each : All IsLawfulAttributes lists → IsLawful line.pattern = λ lawful.
-    All-get_or (λ (l : GlobAttributeLine). IsLawful l.pattern) list.lines.now m blank_line within (All-get_or IsLawfulAttributes lists i blank_attributes c.requires.list lawful).lines in
+    All-get_or (λ (l : GlobAttributeLine). IsLawful l.pattern) list.lines.now m blank_line within (All-get_or IsLawfulAttributes lists i blank_attributes c.requires.list lawful) in
     elim c.if-is_matched.branch [
       | then-is_matched+in_ok-count w ↦ record {
         row = λ lawful found. rw (w.texts-is, w.count-is)
@@ -79,7 +90,7 @@ returns-clause-row c = λ lawful found.
     let there = list_there lists c.args.i c.requires.list in
     let all : length list.lines.now ≤ c.lines.m = omega (arith, c.lines-test.false) in
     found-list lists c.args.path.now c.args.rules c.args.i list there c.lines.m (row_of c.lines.texts c.lines.count)
-    (λ m answered. (let inside = answers-within lists c.args.path.now c.args.rules c.args.i list there m answered in omega (arith, inside, all)))
+    (λ m answered. (let inside = answers-within lists c.args.path.now c.args.rules c.args.i list there (sym c.if-not-is_folder.ensures.value) m answered in omega (arith, inside, all)))
     (c.lines.invariant.row lawful found)
 
 pub returns-clause-fewer : goal.returns-clause-fewer

@@ -1,7 +1,7 @@
 -- The first list that has patterns is that of the first pattern.
 use Rattle.std.proofs.Common.{◌∙◌, ap, slice_index_or, sym, arith}
 use Rattle.gix_glob_c.specs.Parsed.{reading_of_all}
-use Rattle.gix_glob_c.specs.declared.tree.GlobList.{GlobList}
+use Rattle.gix_glob_c.specs.declared.lists.GlobList.{GlobList}
 use Rattle.gix_glob_c.proofs.lemmas.DecidingLemmas.{blank}
 use Rattle.gix_glob_c.proofs.lemmas.FirstLemmas.{begins_so, first_given}
 use Rattle.gix_glob_c.proofs.lemmas.ListsLemmas.{blank_list}

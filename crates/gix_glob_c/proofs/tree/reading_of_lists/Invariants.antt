@@ -1,6 +1,6 @@
 use Rattle.std.proofs.Common.{◌≡◌, [], take}
 use Rattle.std.specs.List.{flat_map}
-use Rattle.gix_glob_c.specs.declared.tree.GlobList.{GlobList}
+use Rattle.gix_glob_c.specs.declared.lists.GlobList.{GlobList}
 use Rattle.gix_glob_c.proofs.tree.reading_of_lists.Given as goal
 
 -- the lists so far have no patterns

@@ -7,7 +7,7 @@ use Rattle.gix_glob_c.proofs.lemmas.ListsLemmas.{blank_list, entry_list_at, has_
 use Rattle.gix_glob_c.proofs.tree.HandedListsListStack.decide.Goals as goal
 
 pub returns-in-Some-clause-inside : goal.returns-in-Some-clause-inside
-returns-in-Some-clause-inside c = has_entry c.args.self.now.lists.now (c.loop-i.i - 1) c.in-Some.m (omega arith) c.in-Some.ensures.inside
+returns-in-Some-clause-inside c = has_entry c.args.self.now.lists.now (c.loop-i.i - 1) c.in-Some.m (omega arith) c.in-Some.ensures.folder c.in-Some.ensures.inside
 
 pub returns-in-Some-clause-exact : goal.returns-in-Some-clause-exact
 returns-in-Some-clause-exact c = λ lawful.
