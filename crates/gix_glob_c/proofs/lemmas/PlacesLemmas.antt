@@ -1,5 +1,5 @@
 -- Where texts stand in others.
-use Rattle.std.proofs.Common.{◌≡◌, ⊎_elim, ℕ, ◌+◌, ◌-◌, ◌≤◌, Bool, true, false, cond, List, [], ◌∷◌, ◌++◌, length, take, drop, ap, sym, refl, ◌∙◌, append_assoc, length-append, take-append-drop, arith, Option, None, Some, nat_eq}
+use Rattle.std.proofs.Common.{◌≡◌, ⊎_elim, ℕ, ◌+◌, ◌-◌, ◌≤◌, Bool, true, false, cond, List, [], ◌∷◌, ◌++◌, length, take, drop, ap, sym, refl, subst, ◌∙◌, append_assoc, length-append, take-append-drop, arith, Option, None, Some, nat_eq}
 use Rattle.std.specs.Borrow.{Bor}
 use Rattle.std.specs.List.{concat, position_or_len}
 use Rattle.std.proofs.lemmas.List.Folds.{concat-append}
@@ -16,6 +16,7 @@ use Rattle.std.specs.Option.{ForSome}
 use Rattle.std.specs.List.{starts_with}
 use Rattle.std.proofs.lemmas.Bool.{cases_Bool}
 use Rattle.std.proofs.lemmas.List.{length-drop}
+use Rattle.std.proofs.lemmas.Option.{none-some, same_Some}
 use Rattle.gix_glob.specs.Bytes.{backslash}
 use Rattle.gix_glob_c.specs.Places.{IsPartOf}
 use Rattle.gix_glob_c.specs.Private.Parts.{BeginsSo, HasBefore}
@@ -59,19 +60,21 @@ begins_longer : (bytes line text more : List ℕ) → bytes ≡ line ++ more →
 begins_longer bytes line text more joined h = (h.0 ++ more, joined ∙ ap (λ l. l ++ more) h.1 ∙ append_assoc text h.0 more)
 
 pub line_begins : (bytes : List ℕ) (text : Option (List ℕ)) (rest : List ℕ) → BeginsWithLine bytes text rest → ForSome text (BeginsSo bytes)
-line_begins bytes None rest h = tt
-line_begins bytes (Some text) rest h = begins_longer bytes h.line text (h.cut.ending ++ rest) h.cut.joined (trimmed_so h.line text h.gives.trims)
+line_begins bytes None rest h = λ text same. absurd (none-some text same)
+line_begins bytes (Some text) rest h = λ other same.
+    subst (BeginsSo bytes) (same_Some text other same) (begins_longer bytes h.line text (h.cut.ending ++ rest) h.cut.joined (trimmed_so h.line text h.gives.trims))
 
 -- what stands before the first byte 0 begins the bytes
 zero_rest : (bytes : List ℕ) → bytes ≡ before_zero bytes ++ drop (position_or_len (λ b. b == 0) bytes) bytes
 zero_rest bytes = sym (take-append-drop (position_or_len (λ b. b == 0) bytes) bytes)
 
 pub git_line_begins : (bytes : List ℕ) (text : Option (List ℕ)) (rest : List ℕ) → BeginsWithGitLine bytes text rest → ForSome text (BeginsSo bytes)
-git_line_begins bytes None rest h = tt
-git_line_begins bytes (Some text) rest h =
+git_line_begins bytes None rest h = λ text same. absurd (none-some text same)
+git_line_begins bytes (Some text) rest h = λ other same.
     let body = h.gives.body in
     let in_body = begins_longer body (before_zero body) text (drop (position_or_len (λ b. b == 0) body) body) (zero_rest body) (trimmed_so (before_zero body) text h.gives.trims) in
-    begins_longer bytes h.line text (h.cut.ending ++ rest) h.cut.joined (begins_longer h.line body text (return_of h.line) h.gives.returned in_body)
+    subst (BeginsSo bytes) (same_Some text other same)
+    (begins_longer bytes h.line text (h.cut.ending ++ rest) h.cut.joined (begins_longer h.line body text (return_of h.line) h.gives.returned in_body))
 
 -- ---- parts of parts
 
