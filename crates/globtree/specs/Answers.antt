@@ -1,4 +1,4 @@
--- What is answered for the words. Of real files nothing is known: a folder may have any file, and anything may stand at a path.
+-- What is answered for the words. Of real files nothing is known: those of a folder may have any bytes, and anything may stand at a path.
 use Rattle.std.specs.Prelude.{◌≡◌, ◌||◌, ℕ, Bool, true, false, if◌then◌else◌, List, [], ◌∷◌, AllPairs, MatchBool, MatchOption, Option, Ok, Some, drop, length, map, string_bytes, take}
 use Rattle.std.specs.Io.KnownBytes.{Appends}
 use Rattle.std.specs.List.{flat_map}
@@ -8,7 +8,6 @@ use Rattle.git_config.specs.Words.{canonical_of}
 use Rattle.git_index.specs.Entries.{Tracked}
 use Rattle.gix_glob.specs.declared.pattern.Case.{Case}
 use Rattle.gix_glob.specs.declared.pattern.Case.TheVariants.{Fold, Sensitive}
-use Rattle.gix_glob.specs.EntryLists.{EntryList}
 use Rattle.glob_lines.specs.Transfers.{ReadsWhole, Run}
 use Rattle.glob_lists.specs.declared.rules.Rules.{Rules}
 use Rattle.glob_lists.specs.Rules.{by_git}
@@ -27,6 +26,7 @@ use Rattle.tree_commands.specs.TrackedFiles.{AreIgnored, names_alone, paths_aske
 use Rattle.tree_commands.specs.declared.check_ignore.flags.IgnoreFlags.{IgnoreFlags}
 use Rattle.tree_commands.specs.declared.files.mark.Mark.{Mark}
 use Rattle.tree_commands.specs.declared.files.mark.Mark.TheVariants as marks
+use Rattle.tree_files.specs.FileLists.{IsOfFolder}
 use Rattle.tree_words.specs.CheckAttr.{names_first}
 use Rattle.tree_words.specs.declared.check_attr.CheckAttrFlags.{CheckAttrFlags}
 use Rattle.tree_words.specs.declared.check_ignore.CheckIgnoreFlags.{CheckIgnoreFlags}
@@ -44,9 +44,6 @@ use Rattle.tree_words.specs.Words.{Ask}
 use Rattle.globtree.specs.Running.{asked_by_flags, form_by, manner_by}
 use Rattle.globtree.specs.Tracked.{IsOfIndex}
 
-abbrev pub any_list : Folder → EntryList (Unit {0}) → Type 0
-any_list folder list = Unit {0}
-
 abbrev pub any_file : Folder → Option (List ℕ) → Type 0
 any_file folder file = Unit {0}
 
@@ -63,7 +60,7 @@ pub record ReadsIgnore (standpoint : Standpoint) (tracked : List Tracked) (rules
   pub by_rules : question.rules ≡ rules
   pub asks : question.flags ≡ flags
   pub run : Run (ReadsWhole left rest)
-      (AnswersAll (TextOfNamed (IsIgnoreAnswer question any_list) (IsStatus question any_list is_any) flags.form) (behind flags.form 10)) (Appends old new)
+      (AnswersAll (TextOfNamed (IsIgnoreAnswer question IsOfFolder) (IsStatus question IsOfFolder is_any) flags.form) (behind flags.form 10)) (Appends old new)
 
 -- the text about each of these paths was written
 pub record TellsIgnore (standpoint : Standpoint) (tracked : List Tracked) (rules : Rules) (flags : IgnoreFlags) (paths : List (List ℕ)) (is_any : Bool) (old new : Option (List ℕ)) : Type 0 where
@@ -72,7 +69,7 @@ pub record TellsIgnore (standpoint : Standpoint) (tracked : List Tracked) (rules
   pub beside : question.tracked ≡ tracked
   pub by_rules : question.rules ≡ rules
   pub asks : question.flags ≡ flags
-  pub writes : Writes (TextOfPaths (IsIgnoreAnswer question any_list) (IsStatus question any_list is_any) paths) (Appends old new)
+  pub writes : Writes (TextOfPaths (IsIgnoreAnswer question IsOfFolder) (IsStatus question IsOfFolder is_any) paths) (Appends old new)
 
 -- The words behind `check-ignore` were answered from some standpoint, whatever the configuration and the index say; with `--no-index`
 -- nothing is tracked. With `--stdin` the paths are those that are read, else those among the words. The status says whether a line
@@ -129,7 +126,7 @@ pub record ListsIgnored (standpoint : Standpoint) (rules : Rules) (form : Form) 
   pub beside : question.tracked ≡ []
   pub by_rules : question.rules ≡ rules
   pub asks : question.flags ≡ names_alone form
-  pub writes : Writes (AreIgnored question any_list standpoint paths) (Appends old new)
+  pub writes : Writes (AreIgnored question IsOfFolder standpoint paths) (Appends old new)
 
 -- What `files` lists: without options what is found below the folder; else with `-o` what is found, and then what is tracked, by `-c` or
 -- where there is no `-o`. With `-i` those of either are listed that are ignored.
