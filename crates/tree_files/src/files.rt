@@ -1,5 +1,5 @@
 //! What a real work tree tells `files`: the names in its folders, what stands there, and their ignore files. What can't be looked at is told.
-ghost use Rattle.std.specs.Prelude.{◌≡◌, ◌⊎◌, IfOk, MatchOption, if◌then◌else◌};
+ghost use Rattle.std.specs.Prelude.{◌≡◌, ◌⊎◌, IfOk, MatchBool, MatchOption};
 ghost use Rattle.std.specs.Fs.{IsDir, IsFile, IsSymlink};
 ghost use Rattle.tree_commands.specs.Files.{is_folder};
 
@@ -211,7 +211,7 @@ impl<'a, R: Files + Eprint> FileSource for TreeFiles<'a, R> {
 
 /// What it is that is listed, if anything.
 fn kind_of(kind: FileType) -> Option<EntryKind>
-    ensures { MatchOption result (¬ IsDir kind × ¬ IsFile kind × ¬ IsSymlink kind) (λ found. if is_folder found then IsDir kind else (IsFile kind ⊎ IsSymlink kind)) }
+    ensures { MatchOption result (¬ IsDir kind × ¬ IsFile kind × ¬ IsSymlink kind) (λ found. MatchBool (is_folder found) (IsDir kind) (IsFile kind ⊎ IsSymlink kind)) }
 {
     if kind.is_dir() {
         Some(EntryKind::Folder)

@@ -1,5 +1,5 @@
 //! Files of patterns that Git takes from the index where the work tree doesn't have them.
-ghost use Rattle.std.specs.Prelude.{◌≡◌, ◌⊎◌, ◌↔◌, IsTrue, List, OnOk, ℕ};
+ghost use Rattle.std.specs.Prelude.{◌≡◌, ◌⊎◌, ◌↔◌, false, IsTrue, List, OnOk, ℕ};
 ghost use Rattle.tree_files.specs.Indexed.{is_indexed};
 
 use crate::fault::CheckFault;

@@ -57,7 +57,7 @@ impl<'a, R: Files + Eprint> FolderFiles<'a, R> {
 
     /// The list of a folder that isn't known to be missing, without its base.
     fn own_list(&mut self, folder: &[u8]) -> Result<List<IgnoreLines>, CheckFault>
-        ensures { IfOk result (λ list. IsOfFolder folder.now (entry_list_of (λ _. tt) list)) }
+        ensures { IfOk result (λ list. IsOfFolder folder.now (entry_list_of {V = Unit {0}} (λ _. tt) list)) }
     {
         let name = path_text(self.alloc, folder)?;
         match what_stands(self.rt, self.alloc, name.as_str())? {
@@ -76,7 +76,7 @@ impl<'a, R: Files + Eprint> FolderFiles<'a, R> {
 
     /// The list of the file of a folder that is there.
     fn file_list(&mut self, folder: &[u8], name: &str) -> Result<List<IgnoreLines>, CheckFault>
-        ensures { IfOk result (λ list. IsSpelled (below name.now (codes ".gitignore")) (entry_list_of (λ _. tt) list)) }
+        ensures { IfOk result (λ list. IsSpelled (below name.now (codes ".gitignore")) (entry_list_of {V = Unit {0}} (λ _. tt) list)) }
     {
         let file = file_in(self.alloc, name, IGNORE_FILE)?;
         match own_file(self.rt, self.alloc, file.as_str())? {
