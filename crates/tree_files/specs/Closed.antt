@@ -1,5 +1,5 @@
 -- Folders in which nothing can be seen.
-use Rattle.std.specs.Prelude.{◌≢◌, ◌⊎◌, ℕ, Bool, IsTrue, nat_eq, List, []}
+use Rattle.std.specs.Prelude.{◌≢◌, ◌⊎◌, Bool, IsTrue, nat_eq, []}
 use Rattle.std.specs.List.{starts_with}
 use Rattle.std.specs.BTreeSet.{contains_by}
 use Rattle.std.specs.Cmp.Lexicographic.{slice_cmp}

@@ -1,4 +1,4 @@
-use Rattle.std.proofs.Common.{◌≡◌, ◌<◌, length, false, true, [], refl, sym, ap, subst, ◌∙◌, arith}
+use Rattle.std.proofs.Common.{◌≡◌, ◌<◌, length, false, refl, sym, subst, arith}
 use Rattle.std.proofs.lemmas.Bool.{false≢true}
 use Rattle.tree_files.specs.Closed.{HasShut, here, is_shut}
 use Rattle.tree_files.proofs.lemmas.ClosedLemmas.{empty_by, none_at_top, shut_above, shut_below, some_by, some_shorter}
