@@ -14,6 +14,7 @@ use Rattle.glob_lists.specs.Rules.{by_git}
 use Rattle.glob_trees.specs.Ways.{Folder}
 use Rattle.pathspecs.specs.Leading.{word_front, word_leads}
 use Rattle.record_streams.specs.Records.{AnswersAll}
+use Rattle.told_paths.specs.Standpoints.{led, literal_front}
 use Rattle.told_paths.specs.declared.quoting.Quoting.{Quoting}
 use Rattle.told_paths.specs.declared.standpoint.Standpoint.{Standpoint}
 use Rattle.tree_answers.specs.Lines.{behind}
