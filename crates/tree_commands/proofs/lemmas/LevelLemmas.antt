@@ -76,21 +76,21 @@ module _ (basis : Basis) (tree : FileTree) (folder : Folder) (name : List ℕ) (
 -- ---- folders that aren't gone into
 
 named_as : (terms : Terms) (A B : Type 0) → (terms.chosen ≡ Ignored → A → B) → (folders : Folders) → IsNamed folders terms.chosen A → IsNamed folders terms.chosen B
-named_as terms A B as Entered named = named
-named_as terms A B as Named named = tt
-named_as terms A B as NamedIfIgnored named = (named.0, as named.0 named.1)
+named_as terms A B gives Entered named = named
+named_as terms A B gives Named named = tt
+named_as terms A B gives NamedIfIgnored named = (named.0, gives named.0 named.1)
 
 module _ (terms : Terms) (tree : FileTree) where
   -- what says that a folder is ignored counts only where ignored paths are chosen
   pub shut_as : (folder : Folder) (A B : Type 0) → (terms.chosen ≡ Ignored → A → B) → IsShut terms tree folder A → IsShut terms tree folder B
-  shut_as folder A B as it = record {
+  shut_as folder A B gives it = record {
     below = it.below;
     free = it.free;
-    why = ⊎_elim (λ (git : tree.has_git folder ≡ true). inl git) (λ (named : IsNamed terms.folders terms.chosen A). inr (named_as terms A B as terms.folders named)) it.why;
+    why = ⊎_elim (λ (git : tree.has_git folder ≡ true). inl git) (λ (named : IsNamed terms.folders terms.chosen A). inr (named_as terms A B gives terms.folders named)) it.why;
   }
 
   module _ (A B : List ℕ → Bool → Type 0) (path : List ℕ) (unended : (folder : Folder) → path ≡ start_of folder → folder ≢ [] → ¬ EndsInSlash folder)
-      (as : terms.chosen ≡ Ignored → (one : List ℕ) (is_dir : Bool) → IsMarked one is_dir path → A one is_dir → B one is_dir) where
+      (gives : terms.chosen ≡ Ignored → (one : List ℕ) (is_dir : Bool) → IsMarked one is_dir path → A one is_dir → B one is_dir) where
     marked : (folder : Folder) → path ≡ start_of folder → folder ≢ [] → IsMarked folder true path
     marked folder is some = (some, unended folder is some, is ∙ start_marked folder some)
 
@@ -98,19 +98,19 @@ module _ (terms : Terms) (tree : FileTree) where
     listed_as (inl file) = inl (record {
       some = file.some;
       whole = file.whole;
-      chosen = λ told. as told path false (file.some, file.whole, sym (append-nil path)) (file.chosen told);
+      chosen = λ told. gives told path false (file.some, file.whole, sym (append-nil path)) (file.chosen told);
     })
     listed_as (inr at) = inr (record {
       folder = at.folder;
       start = at.start;
-      shut = shut_as at.folder (A at.folder true) (B at.folder true) (λ told. as told at.folder true (marked at.folder at.start (let shut = at.shut in shut.below))) at.shut;
+      shut = shut_as at.folder (A at.folder true) (B at.folder true) (λ told. gives told at.folder true (marked at.folder at.start (let shut = at.shut in shut.below))) at.shut;
       free = at.free;
-      chosen = λ told. as told at.folder true (marked at.folder at.start (let shut = at.shut in shut.below)) (at.chosen told);
+      chosen = λ told. gives told at.folder true (marked at.folder at.start (let shut = at.shut in shut.below)) (at.chosen told);
     })
 
     pub end_as : IsEnd terms tree A path → IsEnd terms tree B path
     end_as (inl file) = inl file
-    end_as (inr at) = inr (at.0, at.1, shut_as at.0 (A at.0 true) (B at.0 true) (λ told. as told at.0 true (marked at.0 at.1 (let shut = at.2 in shut.below))) at.2)
+    end_as (inr at) = inr (at.0, at.1, shut_as at.0 (A at.0 true) (B at.0 true) (λ told. gives told at.0 true (marked at.0 at.1 (let shut = at.2 in shut.below))) at.2)
 
 -- ---- what is known of what is pending
 
@@ -155,14 +155,14 @@ module _ (basis : Basis) (tree : FileTree) (lists : List (EntryList (Unit {0})))
         below_none true told same none some = absurd (false≢true (sym none ∙ (let known = flags.below some in let one = known.asked told in one.1 (inl same))))
 
         unflagged : (b : Bool) → reads_list Ignored b ≡ true → b ≡ false
-        unflagged false yes = refl
-        unflagged true yes = absurd (false≢true yes)
+        unflagged false is_so = refl
+        unflagged true is_so = absurd (false≢true is_so)
 
         by_level : (c : Chosen) → basis.terms.chosen ≡ c → reads_list c flag ≡ true → folder ≢ [] → IsLevel c basis tree (take next.list_count lists) next.is_below folder → take next.list_count lists ≡ lists_to basis tree folder
-        by_level All told yes some level = absurd (false≢true yes)
-        by_level Unignored told yes some level = level
-        by_level Ignored told yes some level =
-            let none = below_none next.is_below told refl (unflagged flag yes) some in
+        by_level All told counts some level = absurd (false≢true counts)
+        by_level Unignored told counts some level = level
+        by_level Ignored told counts some level =
+            let none = below_none next.is_below told refl (unflagged flag counts) some in
             let known = subst (λ b. MatchBool b (IsBelowIgnored basis tree folder) ((take next.list_count lists ≡ lists_to basis tree folder) × (¬ IsBelowIgnored basis tree folder))) none level in
             known.0
 
@@ -181,7 +181,7 @@ module _ (basis : Basis) (tree : FileTree) (lists : List (EntryList (Unit {0})))
     level_of_entry new_lists are name none Ignored told = by_flag flag refl
       where
         some_folder : flag ≡ true → folder ≢ []
-        some_folder yes top = false≢true (sym (flags.top top) ∙ yes)
+        some_folder is_so top = false≢true (sym (flags.top top) ∙ is_so)
 
         by_flag : (b : Bool) → flag ≡ b → MatchBool b (IsBelowIgnored basis tree (start_of folder ++ name)) ((new_lists ≡ lists_to basis tree (start_of folder ++ name)) × (¬ IsBelowIgnored basis tree (start_of folder ++ name)))
         by_flag true is = below_entry basis tree folder name none (some_folder is) (let same = flag_ignored told (some_folder is) in same.0 is)
