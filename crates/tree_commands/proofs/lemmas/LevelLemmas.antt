@@ -42,7 +42,7 @@ module _ (folder : Folder) (some : folder ≢ []) (name : List ℕ) where
       | inl more ↦ (
           let over = shorter_is_above folder other (start_of folder ++ name) above_entry above more in
           let same : folder ++ slash ∷ name ≡ folder ++ slash ∷ (over.0 ++ slash ∷ above.0) =
-              sym entry_cut ∙ above.1 ∙ ap (λ o. o ++ slash ∷ above.0) over.1 ∙ append_assoc folder (slash ∷ over.0) (slash ∷ above.0) in
+          sym entry_cut ∙ above.1 ∙ ap (λ o. o ++ slash ∷ above.0) over.1 ∙ append_assoc folder (slash ∷ over.0) (slash ∷ above.0) in
           let tails = behind_front folder (slash ∷ name) (slash ∷ (over.0 ++ slash ∷ above.0)) same in
           let rest : name ≡ over.0 ++ slash ∷ above.0 = cc in
           absurd (holds_none over.0 slash above.0 (subst (HasNo slash) rest none)))
@@ -68,29 +68,29 @@ module _ (basis : Basis) (tree : FileTree) (folder : Folder) (name : List ℕ) (
       at (b ∷ f) it = (
         λ is. absurd (cc),
         ⊎_elim
-        (λ (above : IsAbove it.0 (b ∷ f)). inl (it.0, above, it.2))
-        (λ (is : it.0 ≡ b ∷ f). inr (subst (λ o. IsIgnored (lists_to basis tree o) basis.terms.case o true) is it.2))
-        (above_same (b ∷ f) (λ is. absurd (cc)) name none it.0 it.1),
+            (λ (above : IsAbove it.0 (b ∷ f)). inl (it.0, above, it.2))
+            (λ (is : it.0 ≡ b ∷ f). inr (subst (λ o. IsIgnored (lists_to basis tree o) basis.terms.case o true) is it.2))
+            (above_same (b ∷ f) (λ is. absurd (cc)) name none it.0 it.1),
       )
 
 -- ---- folders that aren't gone into
 
 named_as : (terms : Terms) (A B : Type 0) → (terms.chosen ≡ Ignored → A → B) → (folders : Folders) → IsNamed folders terms.chosen A → IsNamed folders terms.chosen B
-named_as terms A B as Entered named = named
-named_as terms A B as Named named = tt
-named_as terms A B as NamedIfIgnored named = (named.0, as named.0 named.1)
+named_as terms A B turned Entered named = named
+named_as terms A B turned Named named = tt
+named_as terms A B turned NamedIfIgnored named = (named.0, turned named.0 named.1)
 
 module _ (terms : Terms) (tree : FileTree) where
   -- what says that a folder is ignored counts only where ignored paths are chosen
   pub shut_as : (folder : Folder) (A B : Type 0) → (terms.chosen ≡ Ignored → A → B) → IsShut terms tree folder A → IsShut terms tree folder B
-  shut_as folder A B as it = record {
+  shut_as folder A B turned it = record {
     below = it.below;
     free = it.free;
-    why = ⊎_elim (λ (git : tree.has_git folder ≡ true). inl git) (λ (named : IsNamed terms.folders terms.chosen A). inr (named_as terms A B as terms.folders named)) it.why;
+    why = ⊎_elim (λ (git : tree.has_git folder ≡ true). inl git) (λ (named : IsNamed terms.folders terms.chosen A). inr (named_as terms A B turned terms.folders named)) it.why;
   }
 
   module _ (A B : List ℕ → Bool → Type 0) (path : List ℕ) (unended : (folder : Folder) → path ≡ start_of folder → folder ≢ [] → ¬ EndsInSlash folder)
-      (as : terms.chosen ≡ Ignored → (one : List ℕ) (is_dir : Bool) → IsMarked one is_dir path → A one is_dir → B one is_dir) where
+      (turned : terms.chosen ≡ Ignored → (one : List ℕ) (is_dir : Bool) → IsMarked one is_dir path → A one is_dir → B one is_dir) where
     marked : (folder : Folder) → path ≡ start_of folder → folder ≢ [] → IsMarked folder true path
     marked folder is some = (some, unended folder is some, is ∙ start_marked folder some)
 
@@ -98,19 +98,19 @@ module _ (terms : Terms) (tree : FileTree) where
     listed_as (inl file) = inl (record {
       some = file.some;
       whole = file.whole;
-      chosen = λ told. as told path false (file.some, file.whole, sym (append-nil path)) (file.chosen told);
+      chosen = λ told. turned told path false (file.some, file.whole, sym (append-nil path)) (file.chosen told);
     })
     listed_as (inr at) = inr (record {
       folder = at.folder;
       start = at.start;
-      shut = shut_as at.folder (A at.folder true) (B at.folder true) (λ told. as told at.folder true (marked at.folder at.start (let shut = at.shut in shut.below))) at.shut;
+      shut = shut_as at.folder (A at.folder true) (B at.folder true) (λ told. turned told at.folder true (marked at.folder at.start (let shut = at.shut in shut.below))) at.shut;
       free = at.free;
-      chosen = λ told. as told at.folder true (marked at.folder at.start (let shut = at.shut in shut.below)) (at.chosen told);
+      chosen = λ told. turned told at.folder true (marked at.folder at.start (let shut = at.shut in shut.below)) (at.chosen told);
     })
 
     pub end_as : IsEnd terms tree A path → IsEnd terms tree B path
     end_as (inl file) = inl file
-    end_as (inr at) = inr (at.0, at.1, shut_as at.0 (A at.0 true) (B at.0 true) (λ told. as told at.0 true (marked at.0 at.1 (let shut = at.2 in shut.below))) at.2)
+    end_as (inr at) = inr (at.0, at.1, shut_as at.0 (A at.0 true) (B at.0 true) (λ told. turned told at.0 true (marked at.0 at.1 (let shut = at.2 in shut.below))) at.2)
 
 -- ---- what is known of what is pending
 
@@ -140,7 +140,7 @@ module _ (basis : Basis) (tree : FileTree) (lists : List (EntryList (Unit {0})))
         let known = flags.below some in
         let one = known.asked told in
         let two = next_ignored told folder true (is_marked some) in
-        ((λ yes. two.0 (one.0 yes)), (λ ignored. one.1 (two.1 ignored)))
+        ((λ so. two.0 (one.0 so)), (λ ignored. one.1 (two.1 ignored)))
 
     -- a folder that is gone into by its flag is gone into
     pub open_by_flag : ¬ IsShut basis.terms tree folder (IsTrue flag) → ¬ IsShut basis.terms tree folder (IsIgnoredAt basis tree folder true)
@@ -155,14 +155,14 @@ module _ (basis : Basis) (tree : FileTree) (lists : List (EntryList (Unit {0})))
         below_none true told same none some = absurd (false≢true (sym none ∙ (let known = flags.below some in let one = known.asked told in one.1 (inl same))))
 
         unflagged : (b : Bool) → reads_list Ignored b ≡ true → b ≡ false
-        unflagged false yes = refl
-        unflagged true yes = absurd (false≢true yes)
+        unflagged false so = refl
+        unflagged true so = absurd (false≢true so)
 
         by_level : (c : Chosen) → basis.terms.chosen ≡ c → reads_list c flag ≡ true → folder ≢ [] → IsLevel c basis tree (take next.list_count lists) next.is_below folder → take next.list_count lists ≡ lists_to basis tree folder
-        by_level All told yes some level = absurd (false≢true yes)
-        by_level Unignored told yes some level = level
-        by_level Ignored told yes some level =
-            let none = below_none next.is_below told refl (unflagged flag yes) some in
+        by_level All told so some level = absurd (false≢true so)
+        by_level Unignored told so some level = level
+        by_level Ignored told so some level =
+            let none = below_none next.is_below told refl (unflagged flag so) some in
             let known = subst (λ b. MatchBool b (IsBelowIgnored basis tree folder) ((take next.list_count lists ≡ lists_to basis tree folder) × (¬ IsBelowIgnored basis tree folder))) none level in
             known.0
 
@@ -181,7 +181,7 @@ module _ (basis : Basis) (tree : FileTree) (lists : List (EntryList (Unit {0})))
     level_of_entry new_lists are name none Ignored told = by_flag flag refl
       where
         some_folder : flag ≡ true → folder ≢ []
-        some_folder yes top = false≢true (sym (flags.top top) ∙ yes)
+        some_folder so top = false≢true (sym (flags.top top) ∙ so)
 
         by_flag : (b : Bool) → flag ≡ b → MatchBool b (IsBelowIgnored basis tree (start_of folder ++ name)) ((new_lists ≡ lists_to basis tree (start_of folder ++ name)) × (¬ IsBelowIgnored basis tree (start_of folder ++ name)))
         by_flag true is = below_entry basis tree folder name none (some_folder is) (let same = flag_ignored told (some_folder is) in same.0 is)

@@ -8,15 +8,6 @@ use Rattle.tree_commands.specs.Private.Listing.{Visits, seen_lists, terms_of}
 use Rattle.tree_commands.proofs.lemmas.VisitLemmas.{enters_weaker, file_ends, file_listed, folder_ends, folder_listed, not_shut, shut_by_name, shut_by_repository, visit_ends}
 use Rattle.tree_commands.proofs.files.lister.Lister.visit.Goals as goal
 
-pub lists_file-requires-clause-plain : goal.lists_file-requires-clause-plain
-lists_file-requires-clause-plain g c =
-    let file = rw c.deref.ensures.value at c.in_default.ensures in
-    c.requires.may.file file.0 file.1
-
-pub is_ignored_folder-requires-clause-plain : goal.is_ignored_folder-requires-clause-plain
-is_ignored_folder-requires-clause-plain g c =
-    λ some. (let both = c.requires.may.folder c.in-Some.folder.now (sym c.deref.ensures.value ∙ c.in-Some.ensures) some in both.0)
-
 pub returns-in_default-clause-visits : goal.returns-in_default-clause-visits
 returns-in_default-clause-visits g c =
     let known = g.S.FileSource.shows c.args.source.now in
