@@ -27,6 +27,7 @@ mod value;
 mod words;
 
 pub use booleans::boolean;
+pub use bytes::is_blank;
 pub use config::{Config, ReadFault, Source};
 pub use fault::{ConfigFault, Wrong, WrongValue};
 pub use file::ConfigFile;

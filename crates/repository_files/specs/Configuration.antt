@@ -22,6 +22,7 @@ places_of words = record {
   repository = None;
   work_tree = None;
   count = option_map vec_items words.count;
+  parameters = option_map vec_items words.parameters;
 }
 
 abbrev pub pair_of : ConfigurationPair → Pair (List ℕ)
@@ -47,4 +48,4 @@ pub record IsAround (known : Type 0) (tree : FileTree) (words : ConfigurationVar
   pub users : around.users.items ≡ []
   pub git_folders : around.git_folders.items ≡ []
   pub branch : around.branch ≡ None
-  pub urls : around.urls.items ≡ []
+  pub urls : around.urls ≡ None

@@ -39,6 +39,8 @@ pub struct ConfigurationVariables {
     pub global: Option<Vec<u8>>,
     /// `GIT_CONFIG_COUNT`.
     pub count: Option<Vec<u8>>,
+    /// `GIT_CONFIG_PARAMETERS`.
+    pub parameters: Option<Vec<u8>>,
     /// The pairs from number 0 on, up to the first that has no key, and no more than `count` tells.
     pub pairs: Vec<ConfigurationPair>,
 }
@@ -60,6 +62,7 @@ impl ConfigurationVariables {
             system: variable(rt, alloc, "GIT_CONFIG_SYSTEM")?,
             global: variable(rt, alloc, "GIT_CONFIG_GLOBAL")?,
             count,
+            parameters: variable(rt, alloc, "GIT_CONFIG_PARAMETERS")?,
             pairs,
         })
     }
@@ -78,6 +81,7 @@ impl ConfigurationVariables {
             repository: None,
             work_tree: None,
             count: self.count.as_deref(),
+            parameters: self.parameters.as_deref(),
         }
     }
 
@@ -114,7 +118,7 @@ impl ConfigurationVariables {
             users: Vec::new(alloc),
             git_folders: Vec::new(alloc),
             branch: None,
-            urls: Vec::new(alloc),
+            urls: None,
         })
     }
 }

@@ -1,7 +1,7 @@
 -- This URL matches.
 use Rattle.std.proofs.Common.{◌≡◌, ◌<◌, refl, sym, ap, subst, ◌∙◌, arith, length, slice_index_or}
 use Rattle.glob_matcher.specs.Matching.{Splits}
-use Rattle.git_config.proofs.conditions.has_url.Goals as goal
+use Rattle.git_config.proofs.conditions.is_among.Goals as goal
 
 pub returns-then-wildmatch : goal.returns-then-wildmatch
 returns-then-wildmatch c =
