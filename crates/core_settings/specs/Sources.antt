@@ -1,13 +1,15 @@
 -- Which files and words Git's configuration is read from, in order.
-use Rattle.std.specs.Prelude.{ℕ, ◌-◌, ◌^◌, ◌%◌, Bool, false, not, ◌||◌, ◌==◌, nat_lt, if◌then◌else◌, List, [], ◌∷◌, ◌++◌, length, map, take, codes, Option, Some, None, is_some, option_map, Result, Ok, Err}
+use Rattle.std.specs.Prelude.{ℕ, ◌-◌, ◌^◌, ◌%◌, Bool, false, not, ◌||◌, ◌==◌, nat_lt, if◌then◌else◌, List, [], ◌∷◌, ◌++◌, length, map, take, codes, Option, Some, None, is_some, option_map, unwrap_or, Result, Ok, Err}
 use Rattle.std.specs.Char.{is_digit}
-use Rattle.std.specs.List.{before_first, list_all, take_while}
+use Rattle.std.specs.List.{before_first, list_all, list_any, slice_split, take_while}
 use Rattle.std.specs.Option.{option_or, option_to_list}
+use Rattle.std.specs.Str.{bytes_eq}
 use Rattle.std.specs.Str.Parse.{digits_value}
 use Rattle.git_config.specs.Numbers.{boolean_of, is_negative, unsigned_of}
+use Rattle.git_config.specs.Paths.{is_slash}
 use Rattle.git_config.specs.Words.{is_equals, value_of_word}
 use Rattle.core_settings.specs.declared.fault.SourcesFault.{SourcesFault}
-use Rattle.core_settings.specs.declared.fault.SourcesFault.TheVariants.{NoSystem, Pairs}
+use Rattle.core_settings.specs.declared.fault.SourcesFault.TheVariants.{NoSystem, Pairs, SystemPath}
 use Rattle.core_settings.specs.declared.fault.WrongPairs.{WrongPairs}
 use Rattle.core_settings.specs.declared.fault.WrongPairs.TheVariants.{Count, NoKey, NoValue, TooMany}
 use Rattle.core_settings.specs.declared.sources.ConfigPlaces.{ConfigPlaces}
@@ -23,12 +25,30 @@ Places = ConfigPlaces (List ℕ)
 abbrev Sources : Type 0
 Sources = List (ConfigSource (List ℕ))
 
+abbrev Fault : Type 0
+Fault = SourcesFault (List ℕ)
+
 -- ---- files
 
 -- whether the system's file is left out, where GIT_CONFIG_NOSYSTEM says a boolean
 abbrev pub lacks_system : Option (List ℕ) → Option Bool
 lacks_system None = Some false
 lacks_system (Some value) = boolean_of (Some value)
+
+-- Git takes each `..` out of the path of GIT_CONFIG_SYSTEM by its text alone, which isn't done here
+abbrev pub has_up : List ℕ → Bool
+has_up path = list_any (λ part. bytes_eq part (codes "..")) (slice_split is_slash path)
+
+abbrev pub path_fault : Option (List ℕ) → Option Fault
+path_fault None = None
+path_fault (Some path) = if has_up path then Some (SystemPath path) else None
+
+-- what is wrong with the variables of the system's file
+abbrev pub system_fault : Places → Option Fault
+system_fault places = elim (lacks_system places.no_system) [
+  | None ↦ option_map (λ value. NoSystem value) places.no_system
+  | Some lacks ↦ if lacks then None else path_fault places.system
+]
 
 abbrev pub system_file : Bool → Places → Option (List ℕ)
 system_file lacks places = if lacks then None else option_or places.system places.installed
@@ -102,16 +122,10 @@ words_behind None words = map word_of words
 -- the sources, up to a fault
 abbrev pub sources_of : Places → List (Pair (List ℕ)) → List (List ℕ) → Sources
 sources_of places pairs words =
+    let lacks = unwrap_or (lacks_system places.no_system) false in
     let told = words_told places pairs in
-    elim (lacks_system places.no_system) [
-      | None ↦ []
-      | Some lacks ↦ map (λ path. File path) (files_of lacks places) ++ (told.0 ++ words_behind told.1 words)
-    ]
+    if is_some (system_fault places) then [] else map (λ path. File path) (files_of lacks places) ++ (told.0 ++ words_behind told.1 words)
 
 -- and the fault behind them
-abbrev pub sources_fault : Places → List (Pair (List ℕ)) → Option (SourcesFault (List ℕ))
-sources_fault places pairs =
-    elim (lacks_system places.no_system) [
-      | None ↦ option_map (λ value. NoSystem value) places.no_system
-      | Some lacks ↦ option_map (λ wrong. Pairs wrong) (words_told places pairs).1
-    ]
+abbrev pub sources_fault : Places → List (Pair (List ℕ)) → Option Fault
+sources_fault places pairs = option_or (system_fault places) (option_map (λ wrong. Pairs wrong) (words_told places pairs).1)

@@ -2,7 +2,7 @@
 ghost use Rattle.std.specs.Prelude.{◌≡◌, ◌++◌, ◌∷◌, ◌≤◌, ◌==◌, [], if◌then◌else◌, is_some, length, map, nat_lt, not, option_map, position, IfOk, OnOk};
 ghost use Rattle.std.specs.Option.{option_copied, option_to_list};
 ghost use Rattle.std.specs.Vec.{vec_items};
-ghost use Rattle.core_settings.specs.Sources.{files_of, lacks_system, pair_count, pair_word, pair_words, pairs_fault, read_pairs, sources_fault, sources_of, system_file, user_files, words_behind, words_told};
+ghost use Rattle.core_settings.specs.Sources.{files_of, has_up, lacks_system, pair_count, pair_word, pair_words, pairs_fault, path_fault, read_pairs, sources_fault, sources_of, system_fault, system_file, user_files, words_behind, words_told};
 ghost use Rattle.core_settings.specs.Views.{pair_with, places_with, seen_source, seen_sources, source_with, sources_fault_with};
 ghost use Rattle.core_settings.specs.declared.fault.SourcesFault.TheVariants.{NoSystem};
 ghost use Rattle.core_settings.specs.declared.fault.WrongPairs.TheVariants.{NoKey, NoValue};
@@ -122,10 +122,13 @@ pub fn config_sources(
     ensures fault { IfOk result (λ sources. option_map (sources_fault_with vec_items) sources.fault ≡ sources_fault (places_with (λ b. b.now) places.now) (map (pair_with (λ b. b.now)) pairs.now)) }
 {
     let mut list = Vec::new(alloc);
-    let Some(lacks) = lacks_system(places.no_system) else {
-        let fault = no_system_fault(alloc, places.no_system)?;
-        return Ok(ConfigSources { list, fault });
-    };
+    if let Some(fault) = system_fault(alloc, places)? {
+        return Ok(ConfigSources {
+            list,
+            fault: Some(fault),
+        });
+    }
+    let lacks = lacks_system(places.no_system).unwrap_or(false);
     add_files(alloc, lacks, places, &mut list)?;
     let fault = add_told(alloc, places, pairs, &mut list)?;
     add_words(alloc, fault, words, &mut list)?;
@@ -143,6 +146,43 @@ fn lacks_system(value: Option<&[u8]>) -> Option<bool>
         Some(text) => boolean(Some(text)),
         None => Some(false),
     }
+}
+
+/// What is wrong with the variables of the system's file.
+fn system_fault(
+    alloc: Global,
+    places: &ConfigPlaces<&[u8]>,
+) -> Result<Option<SourcesFault<Vec<u8>>>, AllocError>
+    ensures { IfOk result (λ fault. option_map (sources_fault_with vec_items) fault ≡ system_fault (places_with (λ b. b.now) places.now)) }
+{
+    match lacks_system(places.no_system) {
+        None => no_system_fault(alloc, places.no_system),
+        Some(true) => Ok(None),
+        Some(false) => path_fault(alloc, places.system),
+    }
+}
+
+/// What is wrong with the path of the system's file.
+fn path_fault(
+    alloc: Global,
+    path: Option<&[u8]>,
+) -> Result<Option<SourcesFault<Vec<u8>>>, AllocError>
+    ensures { IfOk result (λ fault. option_map (sources_fault_with vec_items) fault ≡ path_fault (option_copied path.entry)) }
+{
+    match path {
+        Some(path) if has_up(path) => {
+            let path = Vec::from_slice(alloc, path)?;
+            Ok(Some(SourcesFault::SystemPath(path)))
+        }
+        _ => Ok(None),
+    }
+}
+
+/// Whether `..` is a part of a path.
+fn has_up(path: &[u8]) -> bool
+    ensures { result ≡ has_up path.now }
+{
+    path.split(|b| *b == b'/').any(|part| part == b"..")
 }
 
 /// The fault of a value of `GIT_CONFIG_NOSYSTEM`.

@@ -1,14 +1,16 @@
 //! The lists of patterns that count before those of all folders, and the tree that they begin.
-ghost use Rattle.std.specs.Prelude.{◌≡◌, ◌≢◌, [], IfOk};
+ghost use Rattle.std.specs.Prelude.{◌≡◌, ◌≢◌, ◌&&◌, [], IfOk, not, option_map};
+ghost use Rattle.std.specs.Vec.{vec_items};
 ghost use Rattle.glob_lists.specs.Rules.{by_git};
 ghost use Rattle.globtree.specs.Answers.{case_by};
+ghost use Rattle.globtree.specs.Places.{is_relative_file};
 ghost use Rattle.globtree.specs.Tracked.{IsOfIndex};
 
 use crate::excludes::{excludes, named_excludes};
 use crate::moving::go_to_folders;
 use crate::signs::{IndexUse, tracked_after_signs};
 use crate::work_tree::{WorkTree, work_tree};
-use anyhow::{Context, Result};
+use anyhow::{Context, Result, bail};
 use gix_glob::pattern::Case;
 use gix_glob::search::pattern::List;
 use glob_lines::IgnoreLines;
@@ -66,6 +68,9 @@ pub(crate) fn fronts_of<R: Files + Env + Eprint + AllocGlobal>(
     } = tree;
     let outer = match named {
         Some(list) => list,
+        None if index == IndexUse::Listing && is_elsewhere(&standpoint, &file) => {
+            bail!("a relative core.excludesFile isn't read from outside of the work tree")
+        }
         None => usual_excludes(rt, alloc, file)?,
     };
     let mut lists = Vec::new(alloc);
@@ -79,6 +84,16 @@ pub(crate) fn fronts_of<R: Files + Env + Eprint + AllocGlobal>(
         quoting,
         tracked,
     })
+}
+
+/// Whether Git, to list files, tells the file of excludes from another folder: a relative path, outside of the work tree.
+fn is_elsewhere(standpoint: &Standpoint, file: &Option<Vec<u8>>) -> bool
+    ensures { result ≡ (not standpoint.now.is_inside && is_relative_file (option_map vec_items file.now)) }
+{
+    match file {
+        Some(path) => !standpoint.is_inside && !path.is_empty() && !path.starts_with(b"/"),
+        None => false,
+    }
 }
 
 /// The list of the file of excludes for all repositories, where there is one.

@@ -8,18 +8,14 @@ use crate::work_tree::WorkTree;
 use anyhow::Result;
 use git_index::Entry;
 use std::alloc::{AllocError, Global};
-use std::env::VarError;
 use std::io::{ErrorKind, Read};
-use std::rt::{Env, Files};
-use std::{env, fs, io};
+use std::rt::Files;
+use std::{fs, io};
 use tracked_paths::TrackedPaths;
 use tree_files::tell_line;
 
 /// How many bytes of the index are looked at: the name of its first extension stands behind the number of its entries.
 const INDEX_FRONT: usize = 16;
-
-/// The variable by which Git hands the words of `-c` on.
-const PARAMETERS: &str = "GIT_CONFIG_PARAMETERS";
 
 /// What a command takes from the index.
 #[derive(Clone, Copy, PartialEq, Eq, Drop)]
@@ -34,9 +30,9 @@ pub(crate) enum IndexUse {
     Listing,
 }
 
-/// Looks for signs in the environment, in the index and in what is known of the work tree. It tells in one line those that it found, and
+/// Looks for signs in the index and in what is known of the work tree. It tells in one line those that it found, and
 /// answers the paths that are tracked, where these are asked for. What else can't be read is no sign.
-pub(crate) fn tracked_after_signs<R: Files + Env + Eprint + AllocGlobal>(
+pub(crate) fn tracked_after_signs<R: Files + Eprint + AllocGlobal>(
     rt: &R,
     alloc: Global,
     tree: &WorkTree,
@@ -46,9 +42,6 @@ pub(crate) fn tracked_after_signs<R: Files + Env + Eprint + AllocGlobal>(
     ensures unread { IfOk result (λ tracked. index ≢ IndexUse.Paths → tracked ≡ []) }
 {
     let mut text = String::new(alloc);
-    if is_set(rt, PARAMETERS)? {
-        add(&mut text, &["the variable ", PARAMETERS, " isn't read"])?;
-    }
     let tracked = tracked_or_sign(rt, alloc, &tree.index, index, &mut text)?;
     if !text.is_empty() {
         tell_line(
@@ -151,16 +144,6 @@ fn has_entries<R: Files>(rt: &R, index: &str) -> Result<bool, AllocError> {
     match file.read_exact(&mut front) {
         Ok(()) => Ok(entry_count(&front) != Some(0) || front.ends_with(b"link")),
         Err(error) => Ok(error.kind() == ErrorKind::UnexpectedEof),
-    }
-}
-
-/// Whether a variable is set, to whatever it is.
-fn is_set<R: Env + AllocGlobal>(rt: &R, name: &str) -> Result<bool, AllocError> {
-    match env::var(rt, name) {
-        Ok(_text) => Ok(true),
-        Err(VarError::NotPresent) => Ok(false),
-        Err(VarError::NotUnicode) => Ok(true),
-        Err(VarError::OutOfMemory) => Err(AllocError),
     }
 }
 
