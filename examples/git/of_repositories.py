@@ -19,20 +19,23 @@ SHOWN = [["--list", "--show-origin", "-z"], ["--list"], ["--show-origin", "--get
 ATTRIBUTES = [["-a", "--"], ["one", "two", "--"], ["-z", "two", "--"], ["-a", "-z", "--"]]
 OUTSIDE = [b"../../../../../../x", b"/", b"", b"../../x", b"l/x"]
 # kinds of differences that the documents name: the first in "From Git" of docs/GLOBTREE.md
-NESTED, MESSAGES, BARE, UNKNOWN, REMOTES = "`.git`", "messages", "no work tree", "another's folder", "files read for remotes alone"
+NESTED, MESSAGES, BARE, UNKNOWN = "`.git`", "messages", "no work tree", "another's folder"
 NAMED = kinds_in("GLOBTREE.md")
 OF_CONFIG = "`config`"
-# and those that "From Git" of docs/REPOSITORIES.md has: what tells a path otherwise, by the variables, options, links and texts of a repository
+# and those that "From Git" of docs/REPOSITORIES.md has: what tells a path otherwise, by the variables and links of a repository
 TOLD = {
-    "a listing from outside": lambda made, question: question.words[0] == "files" and made.says(rb'(?im)excludesfile *= *"?[^/~@%\s"]'),
-    "a slash behind GIT_DIR": lambda made, question: made.git_dir().endswith(b"/"),
-    "relative files of the environment": lambda made, question: any(made.is_relative(name) for name in FILES_OF_VARIABLES),
-    "`.git` as a link": lambda made, question: any(os.path.basename(link) == b".git" for link in made.links),
-    "an empty core.worktree": lambda made, question: made.says(rb'(?im)worktree[ \t]*=[ \t"]*([#;].*)?\r?$'),
+    "a slash behind GIT_DIR": lambda made: made.git_dir().endswith(b"/"),
+    "`.git` as a link": lambda made: any(os.path.basename(link) == b".git" for link in made.links),
 }
-FILES_OF_VARIABLES = (b"GIT_CONFIG_GLOBAL", b"GIT_CONFIG_SYSTEM", b"XDG_CONFIG_HOME", b"HOME")
-UNKNOWN_FOLDER = re.compile(rb"fatal: failed to expand user dir in: '(~root|%\(prefix\))/[^\n]*\n")
-OF_INCLUDED = re.compile(rb"remote URLs cannot|unable to parse command-line config|bad config line|exceeded maximum include depth")
+# and what isn't read, by the fault that names it
+UNREAD = {
+    "a listing from outside": b"a relative core.excludesFile isn't read",
+    "relative files of the environment": b"is a relative path of a file of configuration",
+    "a relative GIT_COMMON_DIR": b"GIT_COMMON_DIR is a relative path",
+    "a reference that may lead on": b"no condition 'onbranch' can be answered",
+    "`..` in GIT_CONFIG_SYSTEM": b"in which '..' isn't read",
+}
+UNKNOWN_FOLDER = re.compile(rb"fatal: failed to expand user dir in: '%\(prefix\)/[^\n]*\n")
 OF_FORMAT = re.compile(rb"repo version|unknown repository extension")
 WARNINGS = re.compile(rb"(warning: [^\n]*\n)+")
 RELATIVE_CONDITION = b"error: relative config include conditionals must come from files\n"
@@ -173,9 +176,6 @@ class Comparison:
             return BARE
         if UNKNOWN_FOLDER.fullmatch(found.errors) and expected.errors != found.errors:
             return UNKNOWN
-        # (Git reads a file under such a condition, where it doesn't hold, too)
-        if "condition: hasconfig" in self.pair.made.constructs and is_answer(found) and OF_INCLUDED.match(fault(expected)):
-            return REMOTES
         if command == "files" and NESTED in NAMED and not found.is_as(expected) and is_nested(expected, found):
             return NESTED
         if found.is_as(expected):
@@ -184,14 +184,15 @@ class Comparison:
             return OF_CONFIG
         if RELATIVE_CONDITION in expected.errors and found.is_as(expected._replace(errors=found.errors)):
             return MESSAGES
-        return next((kind for kind, holds in TOLD.items() if holds(self.pair.made, question)), None)
+        unread = next((kind for kind, words in UNREAD.items() if words in fault(found)), None)
+        return unread or next((kind for kind, holds in TOLD.items() if holds(self.pair.made)), None)
 
     def is_shown_otherwise(self, expected, found):
         """Whether `config` answers otherwise as "From Git" says."""
         if WARNINGS.fullmatch(expected.errors) and found.is_as(expected._replace(errors=found.errors)):
             return True
         is_fault = not is_answer(expected) and not is_answer(found) and not found.output
-        return is_fault or OF_FORMAT.search(found.errors) or b"fatal: cannot chdir to" in expected.errors or b"/." in self.pair.made.variables.get(b"GIT_CONFIG_SYSTEM", b"")
+        return is_fault or OF_FORMAT.search(found.errors)
 
     # ---- texts of faults
 

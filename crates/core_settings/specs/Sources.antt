@@ -1,12 +1,10 @@
 -- Which files and words Git's configuration is read from, in order.
-use Rattle.std.specs.Prelude.{ℕ, ◌-◌, ◌^◌, ◌%◌, Bool, false, not, ◌||◌, ◌==◌, nat_lt, if◌then◌else◌, List, [], ◌∷◌, ◌++◌, length, map, take, codes, Option, Some, None, is_some, option_map, unwrap_or, Result, Ok, Err}
+use Rattle.std.specs.Prelude.{ℕ, ◌-◌, ◌^◌, ◌%◌, Bool, false, not, ◌||◌, ◌==◌, nat_lt, if◌then◌else◌, List, [], ◌∷◌, ◌++◌, length, map, take, codes, Option, Some, None, is_some, option_map, option_and_then, unwrap_or, Result, Ok, Err}
 use Rattle.std.specs.Char.{is_digit}
-use Rattle.std.specs.List.{before_first, list_all, list_any, slice_split, take_while}
+use Rattle.std.specs.List.{before_first, list_all, take_while}
 use Rattle.std.specs.Option.{option_or, option_to_list}
-use Rattle.std.specs.Str.{bytes_eq}
 use Rattle.std.specs.Str.Parse.{digits_value}
 use Rattle.git_config.specs.Numbers.{boolean_of, is_negative, unsigned_of}
-use Rattle.git_config.specs.Paths.{is_slash}
 use Rattle.git_config.specs.Words.{is_equals, value_of_word}
 use Rattle.core_settings.specs.declared.fault.SourcesFault.{SourcesFault}
 use Rattle.core_settings.specs.declared.fault.SourcesFault.TheVariants.{NoSystem, Pairs, SystemPath}
@@ -17,6 +15,7 @@ use Rattle.core_settings.specs.declared.sources.ConfigSource.{ConfigSource}
 use Rattle.core_settings.specs.declared.sources.ConfigSource.TheVariants.{File, Word}
 use Rattle.core_settings.specs.declared.sources.Pair.{Pair}
 use Rattle.core_settings.specs.Parameters.{Handed, words_handed}
+use Rattle.core_settings.specs.SystemPath.{system_path}
 use Rattle.core_settings.specs.UserFiles.{below_home, settings_file}
 
 abbrev Places : Type 0
@@ -35,13 +34,10 @@ abbrev pub lacks_system : Option (List ℕ) → Option Bool
 lacks_system None = Some false
 lacks_system (Some value) = boolean_of (Some value)
 
--- Git takes each `..` out of the path of GIT_CONFIG_SYSTEM by its text alone, which isn't done here
-abbrev pub has_up : List ℕ → Bool
-has_up path = list_any (λ part. bytes_eq part (codes "..")) (slice_split is_slash path)
-
+-- GIT_CONFIG_SYSTEM says no path that is read
 abbrev pub path_fault : Option (List ℕ) → Option Fault
 path_fault None = None
-path_fault (Some path) = if has_up path then Some (SystemPath path) else None
+path_fault (Some told) = if is_some (system_path told) then None else Some (SystemPath told)
 
 -- what is wrong with the variables of the system's file
 abbrev pub system_fault : Places → Option Fault
@@ -51,7 +47,7 @@ system_fault places = elim (lacks_system places.no_system) [
 ]
 
 abbrev pub system_file : Bool → Places → Option (List ℕ)
-system_file lacks places = if lacks then None else option_or places.system places.installed
+system_file lacks places = if lacks then None else option_or (option_and_then system_path places.system) places.installed
 
 -- the user's two, or the one that stands for both
 abbrev pub user_files : Places → Option (List ℕ) → List (List ℕ)

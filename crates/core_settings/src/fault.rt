@@ -33,7 +33,7 @@ pub enum WrongPairs {
 pub enum SourcesFault<B> {
     /// This value of `GIT_CONFIG_NOSYSTEM` is no boolean.
     NoSystem(B),
-    /// `GIT_CONFIG_SYSTEM` is this path, in which `..` stands: Git takes it out by the path's text, which isn't done here.
+    /// `GIT_CONFIG_SYSTEM` is this path, which isn't read: `..` leads above the root, or stands in a relative path.
     SystemPath(B),
     /// The keys and values of the environment are wrong. Git tells what is wrong in a line before.
     Pairs(WrongPairs),

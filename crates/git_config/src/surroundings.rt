@@ -126,7 +126,7 @@ pub(crate) fn is_absolute(path: &[u8]) -> bool
 }
 
 /// The folder of a path, with the slash behind it.
-pub(crate) fn folder_of(path: &[u8]) -> &[u8]
+pub fn folder_of(path: &[u8]) -> &[u8]
     ensures { result.now ≡ folder_of path.now }
 {
     &path[..folder_end(path)]

@@ -91,6 +91,10 @@ abbrev pub path_if : Bool → List ℕ → Option (List ℕ)
 path_if false path = None
 path_if true path = Some path
 
+-- what is known by the paths of the git folder and by `HEAD`
+abbrev pub known_by : List ℕ → List ℕ → Head (List ℕ) → Known
+known_by real path head = record { folders = real ∷ path ∷ []; branch = head.branch; uncertain = head.uncertain }
+
 -- the files outside of the repository
 abbrev pub outer : Said → ConfigPlaces (List ℕ)
 outer said = record said.places { repository = None; work_tree = None; count = None; parameters = None }
@@ -157,9 +161,6 @@ module _ (tree : FileTree) (Shows : Files) (said : Said) where
   abbrev pub GitThere : Found (List ℕ) → Settings (List ℕ) → Option (List ℕ) → Answer (List ℕ)
   GitThere found own (Some top) = In (is' (git_name tree said.environment own found said.current top))
   GitThere found own None = In (is' (git_name tree (record said.environment { work_tree = Some said.current }) own found said.current said.current))
-
-  abbrev pub known_by : List ℕ → List ℕ → Head (List ℕ) → Known
-  known_by real path head = record { folders = real ∷ path ∷ []; branch = head.branch; uncertain = head.uncertain }
 
   abbrev pub KnownIn : Found (List ℕ) → Settings (List ℕ) → Option (List ℕ) → Folders (List ℕ) → Answer Known
   KnownIn found own top folders = do

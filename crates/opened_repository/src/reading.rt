@@ -38,7 +38,7 @@ fn read_listed<F: ConfigFiles>(
 ) -> Result<Config, OpenFault<F::Fault>>
     ensures { Tells (Unit {0}) seen_settings result (Reads (F.shows files.now) start.now (known_of known.now) (listed_of listed)) }
 {
-    let first = read_with(alloc, files, start, known, &listed, Some(Vec::new(alloc)))?;
+    let first = read_without(alloc, files, start, known, &listed)?;
     let ConfigSources { list, fault } = listed;
     if let Some(fault) = fault {
         return Err(OpenFault::Told(RepositoryFault::Sources(fault)));
@@ -79,8 +79,20 @@ fn read_free<F: ConfigFiles>(
 ) -> Result<Config, OpenFault<F::Fault>>
     ensures { Tells (Unit {0}) seen_settings result (ReadsWith (F.shows files.now) start.now nothing_known (seen_sources listed.now.list) (Some [])) }
 {
-    let known = nothing_known(alloc);
-    read_with(alloc, files, start, &known, listed, Some(Vec::new(alloc)))
+    read_without(alloc, files, start, &nothing_known(alloc), listed)
+}
+
+/// The entries of sources, where no remote has a URL.
+fn read_without<F: ConfigFiles>(
+    alloc: Global,
+    files: &F,
+    start: &Surroundings,
+    known: &KnownRepository,
+    listed: &ConfigSources,
+) -> Result<Config, OpenFault<F::Fault>>
+    ensures { Tells (Unit {0}) seen_settings result (ReadsWith (F.shows files.now) start.now (known_of known.now) (seen_sources listed.now.list) (Some [])) }
+{
+    read_with(alloc, files, start, known, listed, Some(Vec::new(alloc)))
 }
 
 /// The entries of sources, where remotes have these URLs.
