@@ -145,7 +145,15 @@ fn git_there<S: FileSystem + ConfigFiles>(
                 work_tree: Some(current),
                 ..told.environment
             };
-            Ok(git_name(alloc, source, &environment, &lent(own), found, current, current)?)
+            Ok(git_name(
+                alloc,
+                source,
+                &environment,
+                &lent(own),
+                found,
+                current,
+                current,
+            )?)
         }
     }
 }

@@ -31,7 +31,11 @@ fn is_refused_byte(b: u8) -> bool
 fn has_refused_part(name: &[u8]) -> bool
     ensures { result ≡ has_refused_part name.now }
 {
-    has(b"..", name) || has(b"@{", name) || has(b"//", name) || has(b"/.", name) || has(b".lock", name)
+    has(b"..", name)
+        || has(b"@{", name)
+        || has(b"//", name)
+        || has(b"/.", name)
+        || has(b".lock", name)
 }
 
 /// Whether a part stands in a text.

@@ -29,11 +29,17 @@ impl fmt::Display for RepositoryFault<Rc<Vec<u8>>, Vec<u8>> {
             RepositoryFault::Branch(reference) => write_branch(f, reference),
             RepositoryFault::RelativeFile(path) => {
                 let path = BStr::new(path);
-                write!(f, "'{path}' is a relative path of a file of configuration, which isn't followed to the top of the work tree")
+                write!(
+                    f,
+                    "'{path}' is a relative path of a file of configuration, which isn't followed to the top of the work tree"
+                )
             }
             RepositoryFault::RelativeFolder(path) => {
                 let path = BStr::new(path);
-                write!(f, "GIT_COMMON_DIR is a relative path, '{path}', which isn't followed to the top of the work tree")
+                write!(
+                    f,
+                    "GIT_COMMON_DIR is a relative path, '{path}', which isn't followed to the top of the work tree"
+                )
             }
         }
     }
