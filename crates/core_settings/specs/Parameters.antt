@@ -18,6 +18,9 @@ use Rattle.core_settings.specs.Blanks.{without_blanks}
 abbrev pub is_quote : ℕ → Bool
 is_quote b = b == byte "'"
 
+abbrev pub is_escaped : ℕ → Bool
+is_escaped b = is_quote b || b == byte "!"
+
 -- the word that a text in quotes tells: the value of a key that stands before it, or both
 abbrev pub word_told : Option (List ℕ) → List ℕ → ConfigSource (List ℕ)
 word_told (Some key) text = source.Word key (Some text)
@@ -32,7 +35,7 @@ turn (Closed key text) b =
     if b == byte "\\" then Goes (Backslash key text)
     else (if is_equals b && not (is_some key) then Goes (Value text)
     else (if is_blank b then Gives (word_told key text) else Fails))
-turn (Backslash key text) b = if is_quote b || b == byte "!" then Goes (Escaped key (text ++ b ∷ [])) else Fails
+turn (Backslash key text) b = if is_escaped b then Goes (Escaped key (text ++ b ∷ [])) else Fails
 turn (Escaped key text) b = if is_quote b then Goes (Quotes key text) else Fails
 
 -- words, and what is wrong behind them

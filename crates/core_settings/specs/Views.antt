@@ -11,10 +11,6 @@ use Rattle.core_settings.specs.declared.fault.CoreFault.{CoreFault}
 use Rattle.core_settings.specs.declared.fault.CoreFault.TheVariants.{Boolean, Memory, NoFolder, NoPath}
 use Rattle.core_settings.specs.declared.fault.SourcesFault.{SourcesFault}
 use Rattle.core_settings.specs.declared.fault.SourcesFault.TheVariants.{NoSystem, Pairs, SystemPath}
-use Rattle.core_settings.specs.declared.parameters.Spot.{Spot}
-use Rattle.core_settings.specs.declared.parameters.Spot.TheVariants as spot
-use Rattle.core_settings.specs.declared.parameters.Turn.{Turn}
-use Rattle.core_settings.specs.declared.parameters.Turn.TheVariants as turn
 use Rattle.core_settings.specs.declared.sources.ConfigPlaces.{ConfigPlaces}
 use Rattle.core_settings.specs.declared.sources.ConfigSource.{ConfigSource}
 use Rattle.core_settings.specs.declared.sources.ConfigSource.TheVariants.{File, Word}
@@ -42,19 +38,6 @@ pair_with see pair = record { key = see pair.key; value = option_map see pair.va
 abbrev pub source_with : {A B : Type 0} → (A → B) → ConfigSource A → ConfigSource B
 source_with see (File path) = File (see path)
 source_with see (Word key value) = Word (see key) (option_map see value)
-
-abbrev pub spot_with : {A B : Type 0} → (A → B) → Spot A → Spot B
-spot_with see (spot.Word blanks) = spot.Word blanks
-spot_with see (spot.Value key) = spot.Value (see key)
-spot_with see (spot.Quotes key text) = spot.Quotes (option_map see key) (see text)
-spot_with see (spot.Closed key text) = spot.Closed (option_map see key) (see text)
-spot_with see (spot.Backslash key text) = spot.Backslash (option_map see key) (see text)
-spot_with see (spot.Escaped key text) = spot.Escaped (option_map see key) (see text)
-
-abbrev pub turn_with : {A B : Type 0} → (A → B) → Turn A → Turn B
-turn_with see (turn.Goes next) = turn.Goes (spot_with see next)
-turn_with see (turn.Gives word) = turn.Gives (source_with see word)
-turn_with see turn.Fails = turn.Fails
 
 abbrev pub seen_sources : Vec (ConfigSource (Vec ℕ Global)) Global → List (ConfigSource (List ℕ))
 seen_sources sources = map (source_with vec_items) sources.items

@@ -1,9 +1,12 @@
 //! The words of `GIT_CONFIG_PARAMETERS`, by which Git hands those of `-c` on.
-ghost use Rattle.std.specs.Prelude.{◌≡◌, ◌++◌, IfOk, OnOk, false, option_map};
+ghost use Rattle.std.specs.Prelude.{◌≡◌, ◌++◌, ◌&&◌, IfOk, OnOk, false, is_some, not, option_map};
 ghost use Rattle.std.specs.Option.{option_copied};
 ghost use Rattle.std.specs.Vec.{vec_items};
-ghost use Rattle.core_settings.specs.Parameters.{ended, turn, word_told, words_at, words_handed};
-ghost use Rattle.core_settings.specs.Views.{seen_sources, source_with, spot_with, turn_with};
+ghost use Rattle.git_config.specs.Grammar.{is_blank};
+ghost use Rattle.git_config.specs.Words.{is_equals};
+ghost use Rattle.core_settings.specs.Parameters.{ended, is_escaped, turn, word_told, words_at, words_handed};
+ghost use Rattle.core_settings.specs.Private.{spot_with, turn_with};
+ghost use Rattle.core_settings.specs.Views.{seen_sources, source_with};
 ghost use Rattle.core_settings.specs.declared.parameters.Spot.TheVariants.{Backslash, Closed, Escaped, Quotes, Value, Word};
 
 use crate::blanks::without_blanks;
@@ -14,7 +17,7 @@ use git_config::{is_blank, split_word};
 use std::alloc::{AllocError, Global};
 
 /// Where a byte of the text stands. `B` holds bytes.
-#[derive(Debug, PartialEq, Eq, Drop)]
+#[derive(Drop)]
 pub(crate) enum Spot<B> {
     /// Where a word may begin, and whether blanks may stand before it.
     Word(bool),
@@ -31,7 +34,7 @@ pub(crate) enum Spot<B> {
 }
 
 /// What a byte does. `B` holds bytes.
-#[derive(Debug, PartialEq, Eq, Drop)]
+#[derive(Drop)]
 pub(crate) enum Turn<B> {
     /// The next byte stands at this spot.
     Goes(Spot<B>),
@@ -124,11 +127,18 @@ fn turn_before(alloc: Global, blanks: bool, byte: u8) -> Turn<Vec<u8>>
 {
     if byte == b'\'' {
         Turn::Goes(Spot::Quotes(None, Vec::new(alloc)))
-    } else if blanks && is_blank(byte) {
+    } else if is_between(blanks, byte) {
         Turn::Goes(Spot::Word(true))
     } else {
         Turn::Fails
     }
+}
+
+/// Whether a byte is a blank, and blanks may stand.
+fn is_between(blanks: bool, byte: u8) -> bool
+    ensures { result ≡ (blanks && is_blank byte) }
+{
+    blanks && is_blank(byte)
 }
 
 /// What a byte does where a value may begin.
@@ -170,13 +180,20 @@ fn turn_closed(
 {
     if byte == b'\\' {
         Ok(Turn::Goes(Spot::Backslash(key, text)))
-    } else if byte == b'=' && key.is_none() {
+    } else if ends_key(&key, byte) {
         Ok(Turn::Goes(Spot::Value(text)))
     } else if is_blank(byte) {
         Ok(Turn::Gives(word_told(alloc, key, text)?))
     } else {
         Ok(Turn::Fails)
     }
+}
+
+/// Whether a byte is the equals sign behind a key.
+fn ends_key(key: &Option<Vec<u8>>, byte: u8) -> bool
+    ensures { result ≡ (is_equals byte && not (is_some (option_map vec_items key.now))) }
+{
+    byte == b'=' && key.is_none()
 }
 
 /// What a byte does behind a backslash.
@@ -187,11 +204,18 @@ fn turn_backslash(
 ) -> Result<Turn<Vec<u8>>, AllocError>
     ensures { IfOk result (λ does. turn_with vec_items does ≡ turn (Backslash (option_map vec_items key) text.items) byte) }
 {
-    if byte != b'\'' && byte != b'!' {
+    if !is_escaped(byte) {
         return Ok(Turn::Fails);
     }
     text.push(byte)?;
     Ok(Turn::Goes(Spot::Escaped(key, text)))
+}
+
+/// Whether a backslash may stand before a byte.
+fn is_escaped(byte: u8) -> bool
+    ensures { result ≡ is_escaped byte }
+{
+    matches!(byte, b'\'' | b'!')
 }
 
 /// What a byte does behind one that a backslash stands before.

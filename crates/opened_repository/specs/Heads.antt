@@ -1,5 +1,5 @@
 -- The branch that `HEAD` names, and whether this is certain.
-use Rattle.std.specs.Prelude.{ℕ, ◌^◌, Bool, true, false, not, ◌&&◌, ◌||◌, ◌==◌, nat_eq, nat_le, if◌then◌else◌, List, [], ◌∷◌, ◌++◌, take, drop, codes, Option, Some, None, is_some, option_and_then, option_map}
+use Rattle.std.specs.Prelude.{ℕ, ◌^◌, Bool, true, false, not, ◌&&◌, ◌||◌, ◌==◌, nat_eq, nat_le, if◌then◌else◌, List, [], ◌∷◌, ◌++◌, take, drop, codes, Option, Some, None, is_some, option_and_then}
 use Rattle.std.specs.Char.{is_ascii_hexdigit}
 use Rattle.std.specs.List.{ends_with, list_all, list_any, prefix_len, starts_with}
 use Rattle.git_config.specs.Grammar.{is_blank}
@@ -66,7 +66,3 @@ naming tree folders (Some reference) = record {
 
 abbrev pub head_of : FileTree → Folders (List ℕ) → Head (List ℕ)
 head_of tree folders = naming tree folders (reference_of_head tree folders.git_folder)
-
--- the same with other bytes
-abbrev pub head_with : {A B : Type 0} → (A → B) → Head A → Head B
-head_with see head = record { branch = option_map see head.branch; uncertain = option_map see head.uncertain }

@@ -109,13 +109,16 @@ module _ (Shows : Files) (start : Surroundings) where
     pub gives : out ≡ read_of read
 
   -- where a condition asks for URLs, which may stand in any file
-  abbrev pub ReadsUrls : Known → List (ConfigSource (List ℕ)) → Bool → List Seen → Answer (List Seen)
-  ReadsUrls known sources false first = is (Ok first)
-  ReadsUrls known sources true first = do
+  abbrev pub ReadsAsked : Known → List (ConfigSource (List ℕ)) → Answer (List Seen)
+  ReadsAsked known sources = do
     looked ← ReadsWith known sources None
     free ← ReadsWith nothing_known sources (Some [])
     _ ← is (urls_checked looked free)
     ReadsWith known sources (Some (urls_of free))
+
+  abbrev pub ReadsUrls : Known → List (ConfigSource (List ℕ)) → Bool → List Seen → Answer (List Seen)
+  ReadsUrls known sources false first = is (Ok first)
+  ReadsUrls known sources true first = ReadsAsked known sources
 
   abbrev pub Reads : Known → Listed → Answer (List Seen)
   Reads known listed = do

@@ -2,7 +2,8 @@
 ghost use Rattle.std.specs.Prelude.{◌≡◌, ◌^◌, ◌++◌, Some, option_and_then, option_map, take, codes, IfOk};
 ghost use Rattle.std.specs.Vec.{vec_items};
 ghost use Rattle.git_repository.specs.Folders.{folders_with};
-ghost use Rattle.opened_repository.specs.Heads.{branch_named, head_of, head_with, is_uncertain, leads_on, naming, reference_at, reference_of};
+ghost use Rattle.opened_repository.specs.Heads.{branch_named, head_of, is_uncertain, leads_on, naming, reference_at, reference_of};
+ghost use Rattle.opened_repository.specs.Private.{head_with};
 
 use crate::reference::{is_commit, may_be_refused};
 use core_settings::without_blanks;
@@ -16,7 +17,7 @@ const HEAD_LIMIT: usize = 1 << 20;
 const COMMIT_LIMIT: usize = 65;
 
 /// What `HEAD` tells. `B` holds bytes.
-#[derive(Debug, Drop)]
+#[derive(Drop)]
 pub(crate) struct Head<B> {
     /// The branch that it names: what follows `refs/heads/`.
     pub(crate) branch: Option<B>,

@@ -7,7 +7,7 @@ ghost use Rattle.git_repository.specs.Answers.{Gives, found_with};
 ghost use Rattle.git_repository.specs.Folders.{folders_with, settings_with};
 ghost use Rattle.git_repository.specs.GitFolders.{real_path_of, told_from};
 ghost use Rattle.opened_repository.specs.Answers.{Tells};
-ghost use Rattle.opened_repository.specs.Heads.{head_with};
+ghost use Rattle.opened_repository.specs.Private.{head_with};
 ghost use Rattle.opened_repository.specs.Opening.{AllRead, GitThere, KnownIn, ReadThere, known_by, path_if};
 ghost use Rattle.opened_repository.specs.Readings.{known_of};
 ghost use Rattle.opened_repository.specs.Results.{said_of};

@@ -2,7 +2,7 @@
 ghost use Rattle.std.specs.Prelude.{[], Some, codes, map, option_map};
 ghost use Rattle.core_settings.specs.Views.{pair_with, places_with, seen_settings, seen_sources};
 ghost use Rattle.opened_repository.specs.Answers.{Tells};
-ghost use Rattle.opened_repository.specs.Readings.{Reads, ReadsUrls, ReadsWith, all_items, asks, known_of, listed_by, listed_of, nothing_known};
+ghost use Rattle.opened_repository.specs.Readings.{Reads, ReadsAsked, ReadsUrls, ReadsWith, all_items, asks, known_of, listed_by, listed_of, nothing_known};
 
 use crate::around::{KnownRepository, around_of, nothing_known};
 use crate::asked::{asks, check_branch};
@@ -48,8 +48,7 @@ fn read_listed<F: ConfigFiles>(
     read_urls(alloc, files, start, known, &listed, first)
 }
 
-/// The entries of sources, of which the first reading told these. Where a condition asks for URLs, which may stand in any file, they are
-/// looked for before.
+/// The entries of sources, of which the first reading told these. Where a condition asks for URLs, they are looked for before.
 fn read_urls<F: ConfigFiles>(
     alloc: Global,
     files: &F,
@@ -63,6 +62,19 @@ fn read_urls<F: ConfigFiles>(
     if !asks(alloc, &first, b"includeif.hasconfig:remote.*.url:")? {
         return Ok(first);
     }
+    read_asked(alloc, files, start, known, listed)
+}
+
+/// The entries of sources, where a condition asks for URLs, which may stand in any file.
+fn read_asked<F: ConfigFiles>(
+    alloc: Global,
+    files: &F,
+    start: &Surroundings,
+    known: &KnownRepository,
+    listed: &ConfigSources,
+) -> Result<Config, OpenFault<F::Fault>>
+    ensures { Tells (Unit {0}) seen_settings result (ReadsAsked (F.shows files.now) start.now (known_of known.now) (seen_sources listed.now.list)) }
+{
     let looked = read_with(alloc, files, start, known, listed, None)?;
     let free = read_free(alloc, files, start, listed)?;
     check_urls(alloc, &looked, &free)?;

@@ -1,6 +1,7 @@
 //! The name of a reference, and what its file holds.
-ghost use Rattle.std.specs.Prelude.{◌≡◌};
-ghost use Rattle.std.specs.List.{list_any};
+ghost use Rattle.std.specs.Prelude.{◌≡◌, ◌==◌, ◌||◌, take};
+ghost use Rattle.std.specs.List.{list_all, list_any};
+ghost use Rattle.git_config.specs.Grammar.{is_blank};
 ghost use Rattle.opened_repository.specs.Heads.{has, has_refused_part, is_commit, is_refused_byte, may_be_refused};
 
 use git_config::is_blank;
@@ -57,5 +58,22 @@ pub(crate) fn is_commit(text: &[u8]) -> bool
     ensures { result ≡ is_commit text.now }
 {
     let digits = digit_count(text);
-    (digits == 40 || digits == 64) && text[digits..].iter().take(1).all(|b| is_blank(*b))
+    is_count(digits) && ends_there(&text[digits..])
+}
+
+/// Whether a commit has so many digits.
+fn is_count(digits: usize) -> bool
+    ensures { result ≡ (digits == 40 || digits == 64) }
+{
+    digits == 40 || digits == 64
+}
+
+/// Whether nothing or a blank stands in front.
+fn ends_there(text: &[u8]) -> bool
+    ensures { result ≡ list_all is_blank (take 1 text.now) }
+{
+    match text.first() {
+        Some(b) => is_blank(*b),
+        None => true,
+    }
 }

@@ -139,10 +139,10 @@ fn first_relative(sources: &[ConfigSource<Vec<u8>>]) -> Option<&[u8]>
     let mut rest = sources;
     'sources: while let Some((source, more)) = rest.split_first() {
         rest = more;
-        if let ConfigSource::File(path) = source
-            && is_relative(path)
-        {
-            return Some(path);
+        if let ConfigSource::File(path) = source {
+            if is_relative(path) {
+                return Some(path);
+            }
         }
     }
     None

@@ -1,7 +1,8 @@
 use Rattle.std.proofs.Common.{◌≡◌, ◌++◌, drop, false}
 use Rattle.std.specs.Vec.{vec_items}
 use Rattle.core_settings.specs.Parameters.{words_at}
-use Rattle.core_settings.specs.Views.{seen_sources, spot_with}
+use Rattle.core_settings.specs.Private.{spot_with}
+use Rattle.core_settings.specs.Views.{seen_sources}
 use Rattle.core_settings.specs.declared.parameters.Spot.TheVariants.{Word}
 use Rattle.core_settings.proofs.parameters.add_text.Given as goal
 

@@ -7,7 +7,8 @@ use Rattle.git_repository.specs.GitFolders.{real_path_of, told_from}
 use Rattle.git_repository.specs.Search.{folder_of}
 use Rattle.opened_repository.specs.Answers.{Tells, is'}
 use Rattle.opened_repository.specs.Faults.{of_find}
-use Rattle.opened_repository.specs.Heads.{head_of, head_with}
+use Rattle.opened_repository.specs.Heads.{head_of}
+use Rattle.opened_repository.specs.Private.{head_with}
 use Rattle.opened_repository.specs.Opening.{GitThere, KnownIn, shown, top_above, work_place}
 use Rattle.opened_repository.specs.Readings.{known_of}
 use Rattle.opened_repository.specs.Results.{said_of}
