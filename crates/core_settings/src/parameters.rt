@@ -70,7 +70,7 @@ fn add_text(
 {
     let mut spot = Spot::Word(false);
     for byte in text {
-        match turn(alloc, spot, *byte)? {
+        match turn_of(alloc, spot, *byte)? {
             Turn::Goes(next) => spot = next,
             Turn::Gives(word) => {
                 out.push(word)?;
@@ -108,7 +108,7 @@ fn add_last(
 }
 
 /// What a byte does at a spot.
-fn turn(alloc: Global, spot: Spot<Vec<u8>>, byte: u8) -> Result<Turn<Vec<u8>>, AllocError>
+fn turn_of(alloc: Global, spot: Spot<Vec<u8>>, byte: u8) -> Result<Turn<Vec<u8>>, AllocError>
     ensures { IfOk result (λ does. turn_with vec_items does ≡ turn (spot_with vec_items spot) byte) }
 {
     match spot {

@@ -36,7 +36,7 @@ fn has_up(parts: &[&[u8]]) -> bool
     ensures { result ≡ list_any (bytes_eq (codes "..")) (map (λ b. b.now) parts.now) }
 {
     for part in parts {
-        if **part == *b".." {
+        if *part == b"..".as_slice() {
             return true;
         }
     }
@@ -51,7 +51,7 @@ fn walked(alloc: Global, parts: &[&[u8]]) -> Result<Option<Vec<u8>>, AllocError>
     let mut rest = parts;
     'parts: while let Some((part, more)) = rest.split_first() {
         rest = more;
-        if *part == b".." {
+        if *part == b"..".as_slice() {
             let Some(folder) = above(&path) else {
                 return Ok(None);
             };
@@ -67,7 +67,7 @@ fn walked(alloc: Global, parts: &[&[u8]]) -> Result<Option<Vec<u8>>, AllocError>
 fn is_here(part: &[u8]) -> bool
     ensures { result ≡ is_here part.now }
 {
-    part.is_empty() || part == b"."
+    part.is_empty() || part == b".".as_slice()
 }
 
 /// Adds a part, and a slash where more follow.
