@@ -33,7 +33,6 @@ UNREAD = {
     "relative files of the environment": b"is a relative path of a file of configuration",
     "a relative GIT_COMMON_DIR": b"GIT_COMMON_DIR is a relative path",
     "a reference that may lead on": b"no condition 'onbranch' can be answered",
-    "`..` in GIT_CONFIG_SYSTEM": b"in which '..' isn't read",
 }
 UNKNOWN_FOLDER = re.compile(rb"fatal: failed to expand user dir in: '%\(prefix\)/[^\n]*\n")
 OF_FORMAT = re.compile(rb"repo version|unknown repository extension")
@@ -192,7 +191,7 @@ class Comparison:
         if WARNINGS.fullmatch(expected.errors) and found.is_as(expected._replace(errors=found.errors)):
             return True
         is_fault = not is_answer(expected) and not is_answer(found) and not found.output
-        return is_fault or OF_FORMAT.search(found.errors)
+        return is_fault or OF_FORMAT.search(found.errors) or b"/." in self.pair.made.variables.get(b"GIT_CONFIG_SYSTEM", b"")
 
     # ---- texts of faults
 

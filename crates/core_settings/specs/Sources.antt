@@ -1,5 +1,5 @@
 -- Which files and words Git's configuration is read from, in order.
-use Rattle.std.specs.Prelude.{ℕ, ◌-◌, ◌^◌, ◌%◌, Bool, false, not, ◌||◌, ◌==◌, nat_lt, if◌then◌else◌, List, [], ◌∷◌, ◌++◌, length, map, take, codes, Option, Some, None, is_some, option_map, option_and_then, unwrap_or, Result, Ok, Err}
+use Rattle.std.specs.Prelude.{ℕ, ◌-◌, ◌^◌, ◌%◌, Bool, false, not, ◌||◌, ◌==◌, nat_lt, if◌then◌else◌, List, [], ◌∷◌, ◌++◌, length, map, take, codes, Option, Some, None, is_some, option_map, Result, Ok, Err}
 use Rattle.std.specs.Char.{is_digit}
 use Rattle.std.specs.List.{before_first, list_all, take_while}
 use Rattle.std.specs.Option.{option_or, option_to_list}
@@ -7,7 +7,7 @@ use Rattle.std.specs.Str.Parse.{digits_value}
 use Rattle.git_config.specs.Numbers.{boolean_of, is_negative, unsigned_of}
 use Rattle.git_config.specs.Words.{is_equals, value_of_word}
 use Rattle.core_settings.specs.declared.fault.SourcesFault.{SourcesFault}
-use Rattle.core_settings.specs.declared.fault.SourcesFault.TheVariants.{NoSystem, Pairs, SystemPath}
+use Rattle.core_settings.specs.declared.fault.SourcesFault.TheVariants.{NoSystem, Pairs}
 use Rattle.core_settings.specs.declared.fault.WrongPairs.{WrongPairs}
 use Rattle.core_settings.specs.declared.fault.WrongPairs.TheVariants.{Count, NoKey, NoValue, TooMany}
 use Rattle.core_settings.specs.declared.sources.ConfigPlaces.{ConfigPlaces}
@@ -15,7 +15,6 @@ use Rattle.core_settings.specs.declared.sources.ConfigSource.{ConfigSource}
 use Rattle.core_settings.specs.declared.sources.ConfigSource.TheVariants.{File, Word}
 use Rattle.core_settings.specs.declared.sources.Pair.{Pair}
 use Rattle.core_settings.specs.Parameters.{Handed, words_handed}
-use Rattle.core_settings.specs.SystemPath.{system_path}
 use Rattle.core_settings.specs.UserFiles.{below_home, settings_file}
 
 abbrev Places : Type 0
@@ -24,9 +23,6 @@ Places = ConfigPlaces (List ℕ)
 abbrev Sources : Type 0
 Sources = List (ConfigSource (List ℕ))
 
-abbrev Fault : Type 0
-Fault = SourcesFault (List ℕ)
-
 -- ---- files
 
 -- whether the system's file is left out, where GIT_CONFIG_NOSYSTEM says a boolean
@@ -34,20 +30,8 @@ abbrev pub lacks_system : Option (List ℕ) → Option Bool
 lacks_system None = Some false
 lacks_system (Some value) = boolean_of (Some value)
 
--- GIT_CONFIG_SYSTEM says no path that is read
-abbrev pub path_fault : Option (List ℕ) → Option Fault
-path_fault None = None
-path_fault (Some told) = if is_some (system_path told) then None else Some (SystemPath told)
-
--- what is wrong with the variables of the system's file
-abbrev pub system_fault : Places → Option Fault
-system_fault places = elim (lacks_system places.no_system) [
-  | None ↦ option_map (λ value. NoSystem value) places.no_system
-  | Some lacks ↦ if lacks then None else path_fault places.system
-]
-
 abbrev pub system_file : Bool → Places → Option (List ℕ)
-system_file lacks places = if lacks then None else option_or (option_and_then system_path places.system) places.installed
+system_file lacks places = if lacks then None else option_or places.system places.installed
 
 -- the user's two, or the one that stands for both
 abbrev pub user_files : Places → Option (List ℕ) → List (List ℕ)
@@ -118,10 +102,16 @@ words_behind None words = map word_of words
 -- the sources, up to a fault
 abbrev pub sources_of : Places → List (Pair (List ℕ)) → List (List ℕ) → Sources
 sources_of places pairs words =
-    let lacks = unwrap_or (lacks_system places.no_system) false in
     let told = words_told places pairs in
-    if is_some (system_fault places) then [] else map (λ path. File path) (files_of lacks places) ++ (told.0 ++ words_behind told.1 words)
+    elim (lacks_system places.no_system) [
+      | None ↦ []
+      | Some lacks ↦ map (λ path. File path) (files_of lacks places) ++ (told.0 ++ words_behind told.1 words)
+    ]
 
 -- and the fault behind them
-abbrev pub sources_fault : Places → List (Pair (List ℕ)) → Option Fault
-sources_fault places pairs = option_or (system_fault places) (option_map (λ wrong. Pairs wrong) (words_told places pairs).1)
+abbrev pub sources_fault : Places → List (Pair (List ℕ)) → Option (SourcesFault (List ℕ))
+sources_fault places pairs =
+    elim (lacks_system places.no_system) [
+      | None ↦ option_map (λ value. NoSystem value) places.no_system
+      | Some lacks ↦ option_map (λ wrong. Pairs wrong) (words_told places pairs).1
+    ]

@@ -10,7 +10,7 @@ use Rattle.git_config.specs.Configuration.{Seen, seen_setting}
 use Rattle.core_settings.specs.declared.fault.CoreFault.{CoreFault}
 use Rattle.core_settings.specs.declared.fault.CoreFault.TheVariants.{Boolean, Memory, NoFolder, NoPath}
 use Rattle.core_settings.specs.declared.fault.SourcesFault.{SourcesFault}
-use Rattle.core_settings.specs.declared.fault.SourcesFault.TheVariants.{NoSystem, Pairs, SystemPath}
+use Rattle.core_settings.specs.declared.fault.SourcesFault.TheVariants.{NoSystem, Pairs}
 use Rattle.core_settings.specs.declared.sources.ConfigPlaces.{ConfigPlaces}
 use Rattle.core_settings.specs.declared.sources.ConfigSource.{ConfigSource}
 use Rattle.core_settings.specs.declared.sources.ConfigSource.TheVariants.{File, Word}
@@ -49,7 +49,6 @@ seen_source (git.Word key value) = Word key.now (option_copied value)
 
 abbrev pub sources_fault_with : {A B : Type 0} → (A → B) → SourcesFault A → SourcesFault B
 sources_fault_with see (NoSystem value) = NoSystem (see value)
-sources_fault_with see (SystemPath path) = SystemPath (see path)
 sources_fault_with see (Pairs wrong) = Pairs wrong
 
 abbrev pub settings_with : {A B : Type 0} → (A → B) → CoreSettings A → CoreSettings B

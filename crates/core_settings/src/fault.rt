@@ -33,13 +33,11 @@ pub enum WrongPairs {
 pub enum SourcesFault<B> {
     /// This value of `GIT_CONFIG_NOSYSTEM` is no boolean.
     NoSystem(B),
-    /// `GIT_CONFIG_SYSTEM` is this path, which isn't read: `..` leads above the root, or stands in a relative path.
-    SystemPath(B),
     /// The keys and values of the environment are wrong. Git tells what is wrong in a line before.
     Pairs(WrongPairs),
 }
 
-/// The words of Git, where it has any.
+/// The words of Git.
 impl fmt::Display for SourcesFault<Vec<u8>> {
     fn fmt<W: fmt::Write>(&self, f: &mut fmt::Formatter<W>) -> fmt::Result {
         match self {
@@ -49,10 +47,6 @@ impl fmt::Display for SourcesFault<Vec<u8>> {
                     f,
                     "bad boolean config value '{value}' for 'GIT_CONFIG_NOSYSTEM'"
                 )
-            }
-            SourcesFault::SystemPath(path) => {
-                let path = BStr::new(path);
-                write!(f, "GIT_CONFIG_SYSTEM is '{path}', in which '..' isn't read")
             }
             SourcesFault::Pairs(_) => write!(f, "unable to parse command-line config"),
         }

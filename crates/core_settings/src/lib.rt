@@ -8,7 +8,6 @@ mod fault;
 mod parameters;
 mod paths;
 mod sources;
-mod system_path;
 mod user_files;
 mod values;
 

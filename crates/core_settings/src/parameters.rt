@@ -5,7 +5,7 @@ ghost use Rattle.std.specs.Vec.{vec_items};
 ghost use Rattle.git_config.specs.Grammar.{is_blank};
 ghost use Rattle.git_config.specs.Words.{is_equals};
 ghost use Rattle.core_settings.specs.Parameters.{ended, is_escaped, turn, word_told, words_at, words_handed};
-ghost use Rattle.core_settings.specs.Private.{spot_with, turn_with};
+ghost use Rattle.core_settings.specs.Private.{Takes, spot_with, turn_with};
 ghost use Rattle.core_settings.specs.Views.{seen_sources, source_with};
 ghost use Rattle.core_settings.specs.declared.parameters.Spot.TheVariants.{Backslash, Closed, Escaped, Quotes, Value, Word};
 
@@ -70,16 +70,31 @@ fn add_text(
 {
     let mut spot = Spot::Word(false);
     for byte in text {
-        match turn_of(alloc, spot, *byte)? {
-            Turn::Goes(next) => spot = next,
-            Turn::Gives(word) => {
-                out.push(word)?;
-                spot = Spot::Word(true);
-            }
-            Turn::Fails => return Ok(Some(WrongPairs::Parameters)),
-        }
+        let Some(next) = take(alloc, spot, *byte, out)? else {
+            return Ok(Some(WrongPairs::Parameters));
+        };
+        spot = next;
     }
     add_last(alloc, spot, out)
+}
+
+/// Takes a byte at a spot, and adds the word that it ends, if there is one. `None` where the byte is wrong.
+fn take(
+    alloc: Global,
+    spot: Spot<Vec<u8>>,
+    byte: u8,
+    out: &mut Vec<ConfigSource<Vec<u8>>>,
+) -> Result<Option<Spot<Vec<u8>>>, AllocError>
+    ensures { IfOk result (λ next. Takes (seen_sources out.old) (seen_sources out.new) (option_map (spot_with vec_items) next) (turn (spot_with vec_items spot) byte)) }
+{
+    match turn_of(alloc, spot, byte)? {
+        Turn::Goes(next) => Ok(Some(next)),
+        Turn::Gives(word) => {
+            out.push(word)?;
+            Ok(Some(Spot::Word(true)))
+        }
+        Turn::Fails => Ok(None),
+    }
 }
 
 /// Adds the word that the end of the text ends, if there is one, or tells that the end is wrong.

@@ -1,9 +1,8 @@
 //! Which files and words Git's configuration is read from, in order.
-ghost use Rattle.std.specs.Prelude.{◌≡◌, ◌++◌, ◌∷◌, ◌≤◌, ◌==◌, [], if◌then◌else◌, is_some, length, map, nat_lt, not, option_and_then, option_map, position, IfOk, OnOk};
+ghost use Rattle.std.specs.Prelude.{◌≡◌, ◌++◌, ◌∷◌, ◌≤◌, ◌==◌, [], if◌then◌else◌, is_some, length, map, nat_lt, not, option_map, position, IfOk, OnOk};
 ghost use Rattle.std.specs.Option.{option_copied, option_to_list};
 ghost use Rattle.std.specs.Vec.{vec_items};
-ghost use Rattle.core_settings.specs.Sources.{files_of, lacks_system, pair_count, pair_word, pair_words, pairs_fault, path_fault, read_pairs, sources_fault, sources_of, system_fault, system_file, user_files, words_behind, words_told};
-ghost use Rattle.core_settings.specs.SystemPath.{system_path};
+ghost use Rattle.core_settings.specs.Sources.{files_of, lacks_system, pair_count, pair_word, pair_words, pairs_fault, read_pairs, sources_fault, sources_of, system_file, user_files, words_behind, words_told};
 ghost use Rattle.core_settings.specs.Views.{pair_with, places_with, seen_source, seen_sources, source_with, sources_fault_with};
 ghost use Rattle.core_settings.specs.declared.fault.SourcesFault.TheVariants.{NoSystem};
 ghost use Rattle.core_settings.specs.declared.fault.WrongPairs.TheVariants.{NoKey, NoValue};
@@ -13,7 +12,6 @@ use crate::bytes::{owned, slice_of};
 use crate::count::pair_count;
 use crate::fault::{SourcesFault, WrongPairs};
 use crate::parameters::add_handed;
-use crate::system_path::system_path;
 use crate::user_files::{below_home, settings_file};
 use git_config::{Source, boolean, split_word};
 use std::alloc::{AllocError, Global};
@@ -124,13 +122,10 @@ pub fn config_sources(
     ensures fault { IfOk result (λ sources. option_map (sources_fault_with vec_items) sources.fault ≡ sources_fault (places_with (λ b. b.now) places.now) (map (pair_with (λ b. b.now)) pairs.now)) }
 {
     let mut list = Vec::new(alloc);
-    if let Some(fault) = system_fault(alloc, places)? {
-        return Ok(ConfigSources {
-            list,
-            fault: Some(fault),
-        });
-    }
-    let lacks = lacks_system(places.no_system).unwrap_or(false);
+    let Some(lacks) = lacks_system(places.no_system) else {
+        let fault = no_system_fault(alloc, places.no_system)?;
+        return Ok(ConfigSources { list, fault });
+    };
     add_files(alloc, lacks, places, &mut list)?;
     let fault = add_told(alloc, places, pairs, &mut list)?;
     add_words(alloc, fault, words, &mut list)?;
@@ -148,36 +143,6 @@ fn lacks_system(value: Option<&[u8]>) -> Option<bool>
         Some(text) => boolean(Some(text)),
         None => Some(false),
     }
-}
-
-/// What is wrong with the variables of the system's file.
-fn system_fault(
-    alloc: Global,
-    places: &ConfigPlaces<&[u8]>,
-) -> Result<Option<SourcesFault<Vec<u8>>>, AllocError>
-    ensures { IfOk result (λ fault. option_map (sources_fault_with vec_items) fault ≡ system_fault (places_with (λ b. b.now) places.now)) }
-{
-    match lacks_system(places.no_system) {
-        None => no_system_fault(alloc, places.no_system),
-        Some(true) => Ok(None),
-        Some(false) => path_fault(alloc, places.system),
-    }
-}
-
-/// What is wrong with the path of the system's file.
-fn path_fault(
-    alloc: Global,
-    told: Option<&[u8]>,
-) -> Result<Option<SourcesFault<Vec<u8>>>, AllocError>
-    ensures { IfOk result (λ fault. option_map (sources_fault_with vec_items) fault ≡ path_fault (option_copied told.entry)) }
-{
-    let Some(told) = told else {
-        return Ok(None);
-    };
-    if system_path(alloc, told)?.is_some() {
-        return Ok(None);
-    }
-    Ok(Some(SourcesFault::SystemPath(Vec::from_slice(alloc, told)?)))
 }
 
 /// The fault of a value of `GIT_CONFIG_NOSYSTEM`.
@@ -202,36 +167,22 @@ fn add_files(
 ) -> Result<(), AllocError>
     ensures { OnOk result (seen_sources out.new ≡ seen_sources out.old ++ map (λ path. File path) (files_of lacks (places_with (λ b. b.now) places.now))) }
 {
-    add_path(system_file(alloc, lacks, places)?, out)?;
+    add_file(alloc, system_file(lacks, places), out)?;
     add_user_files(alloc, places, out)?;
     add_file(alloc, places.repository, out)?;
     add_file(alloc, places.work_tree, out)
 }
 
 /// The system's file.
-fn system_file(
-    alloc: Global,
-    lacks: bool,
-    places: &ConfigPlaces<&[u8]>,
-) -> Result<Option<Vec<u8>>, AllocError>
-    ensures { IfOk result (λ file. option_map vec_items file ≡ system_file lacks (places_with (λ b. b.now) places.now)) }
+fn system_file<'a>(lacks: bool, places: &ConfigPlaces<&'a [u8]>) -> Option<&'a [u8]>
+    ensures { option_copied result ≡ system_file lacks (places_with (λ b. b.now) places.now) }
 {
     if lacks {
-        return Ok(None);
+        return None;
     }
-    match told_system(alloc, places.system)? {
-        Some(path) => Ok(Some(path)),
-        None => owned(alloc, places.installed),
-    }
-}
-
-/// The system's file that the environment tells.
-fn told_system(alloc: Global, told: Option<&[u8]>) -> Result<Option<Vec<u8>>, AllocError>
-    ensures { IfOk result (λ path. option_map vec_items path ≡ option_and_then system_path (option_copied told.entry)) }
-{
-    match told {
-        Some(told) => system_path(alloc, told),
-        None => Ok(None),
+    match places.system {
+        Some(path) => Some(path),
+        None => places.installed,
     }
 }
 
