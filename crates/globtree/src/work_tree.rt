@@ -108,6 +108,7 @@ fn tree_at(
     let own_excludes = opened.exclude_name.context("there is no work tree")?;
     let own_attributes = told_from(alloc, current, &opened.attributes_file)?;
     let index = told_from(alloc, current, &opened.index_file)?;
+    let git_folder = told_from(alloc, current, &opened.git_folder)?;
     let format = format_of(&opened.config);
     Ok(WorkTree {
         standpoint,
@@ -119,6 +120,7 @@ fn tree_at(
         own_attributes: path_text(alloc, &own_attributes)?,
         index: Some(IndexFile {
             name: path_text(alloc, &index)?,
+            git_folder: path_text(alloc, &git_folder)?,
             format,
         }),
     })

@@ -1,0 +1,92 @@
+-- A link: what is read of it is spelled so, and the other way; and where it stands among extensions.
+use Rattle.std.proofs.Common.{◌≡◌, ◌⊎◌, ℕ, ◌^◌, ◌<◌, ◌≤◌, Bool, true, false, cond, ltb, List, [], ◌∷◌, ◌++◌, length, take, drop, Option, None, Some, Result, Ok, Err, refl, sym, ap, subst, ◌∙◌, append_assoc, arith, inl, inr}
+use Rattle.std.specs.Prelude.{codes, nat_eq}
+use Rattle.std.specs.Int.{w32, to_be_bytes}
+use Rattle.std.specs.List.{starts_with}
+use Rattle.std.proofs.lemmas.Bool.{ltb-false, le-ltb}
+use Rattle.std.proofs.lemmas.Bool.Decides.{Decides-eqb}
+use Rattle.std.proofs.lemmas.List.{drop_at, length-append, length-take, take_at, take-append-drop}
+use Rattle.std.proofs.lemmas.Slice.Eq.{starts_is}
+use Rattle.git_index.specs.declared.checksum.ObjectFormat.{ObjectFormat}
+use Rattle.git_index.specs.declared.fault.IndexFault.{IndexFault}
+use Rattle.git_index.specs.declared.fault.IndexFault.TheVariants.{Cut, Link}
+use Rattle.git_index.specs.Format.{ArePassedOver, HasLink, HasNoLink, extension_text, hash_len, zero_hash}
+use Rattle.git_index.specs.Private.Reading.{◌>>=◌, Ends, StopsWith, front_at, link_at, number_at, skipped}
+use Rattle.git_index.proofs.lemmas.Fields.{IsBytes, IsBytes-behind, bind_ok, front_again, front_takes, guard_ok, number_again, number_takes, ok_is, skipped_again, wide32}
+
+abbrev Content : Type 0
+Content = List ℕ × List ℕ
+
+abbrev parted : ℕ → Content → Result (Content × List ℕ) IndexFault
+parted hash content = cond (ltb (length content.0) hash) (Err Link) (Ok ((take hash content.0, drop hash content.0), content.1))
+
+pub link_takes : (hash : ℕ) (bytes : List ℕ) (x : Content × List ℕ) → IsBytes bytes → starts_with nat_eq bytes (codes "link") ≡ true → link_at hash bytes ≡ Ok x
+    → (bytes ≡ extension_text (codes "link", x.0.0 ++ x.0.1) ++ x.1) × (length x.0.0 ≡ hash) × (length (x.0.0 ++ x.0.1) < 2 ^ 32)
+unfolding link_at
+link_takes hash bytes x fits starts e =
+    let a = bind_ok (skipped 4 bytes) (λ a. number_at w32 a >>= λ len. front_at len.0 len.1 >>= λ content. parted hash content) x e in
+    let b = bind_ok (number_at w32 a.0) (λ len. front_at len.0 len.1 >>= λ content. parted hash content) x a.2 in
+    let d = bind_ok (front_at b.0.0 b.0.1) (λ content. parted hash content) x b.2 in
+    let g = guard_ok (ltb (length d.0.0) hash) Link ((take hash d.0.0, drop hash d.0.0), d.0.1) x d.2 in
+    let begins : bytes ≡ codes "link" ++ drop 4 bytes = (starts_is Decides-eqb bytes (codes "link") (starts_with nat_eq bytes (codes "link")) refl).0 starts in
+    let behind : drop 4 bytes ≡ a.0 = (guard_ok (ltb (length bytes) 4) Cut (drop 4 bytes) a.0 a.1).1 in
+    let first : bytes ≡ codes "link" ++ a.0 = begins ∙ ap (λ (w : List ℕ). codes "link" ++ w) behind in
+    let fits1 = IsBytes-behind (codes "link") a.0 bytes first fits in
+    let t1 = number_takes w32 (2 ^ 32) wide32 a.0 b.0.0 b.0.1 fits1 b.1 in
+    let t2 = front_takes b.0.0 b.0.1 d.0 d.1 in
+    let long : hash ≤ length d.0.0 = ltb-false _ _ g.0 in
+    let whole : take hash d.0.0 ++ drop hash d.0.0 ≡ d.0.0 = take-append-drop hash d.0.0 in
+    let len : length (take hash d.0.0 ++ drop hash d.0.0) ≡ b.0.0 = ap length whole ∙ t2.1 in
+    let text : bytes ≡ extension_text (codes "link", take hash d.0.0 ++ drop hash d.0.0) ++ d.0.1 =
+    first ∙ ap (λ (w : List ℕ). codes "link" ++ w) (t1.0 ∙ ap (λ (w : List ℕ). to_be_bytes w32 b.0.0 ++ w) (t2.0 ∙ ap (λ (w : List ℕ). w ++ d.0.1) (sym whole)) ∙ ap (λ (n : ℕ). to_be_bytes w32 n ++ ((take hash d.0.0 ++ drop hash d.0.0) ++ d.0.1)) (sym len))
+    ∙ ap (λ (w : List ℕ). codes "link" ++ w) (sym (append_assoc (to_be_bytes w32 (length (take hash d.0.0 ++ drop hash d.0.0))) (take hash d.0.0 ++ drop hash d.0.0) d.0.1)) in
+    subst (λ (y : Content × List ℕ). (bytes ≡ extension_text (codes "link", y.0.0 ++ y.0.1) ++ y.1) × (length y.0.0 ≡ hash) × (length (y.0.0 ++ y.0.1) < 2 ^ 32)) g.1
+    (text, omega (arith, long, length-take hash d.0.0), omega (arith, len, t1.1))
+
+pub link_again : (h b rest : List ℕ) (hash : ℕ) → length h ≡ hash → length (h ++ b) < 2 ^ 32 → link_at hash (extension_text (codes "link", h ++ b) ++ rest) ≡ Ok ((h, b), rest)
+unfolding link_at
+link_again h b rest hash len few =
+    let tail = to_be_bytes w32 (length (h ++ b)) ++ ((h ++ b) ++ rest) in
+    let regrouped : extension_text (codes "link", h ++ b) ++ rest ≡ codes "link" ++ tail = ap (λ (w : List ℕ). codes "link" ++ w) (append_assoc (to_be_bytes w32 (length (h ++ b))) (h ++ b) rest) in
+    let long : ltb (length (h ++ b)) hash ≡ false = le-ltb _ _ (omega (arith, len, length-append h b)) in
+    let last : parted hash (h ++ b, rest) ≡ Ok ((h, b), rest) = rw (long, take_at h b hash len, drop_at h b hash len) refl in
+    let two : (front_at (length (h ++ b)) ((h ++ b) ++ rest) >>= λ content. parted hash content) ≡ Ok ((h, b), rest) = ap (λ (r : Result Content IndexFault). r >>= λ content. parted hash content) (front_again (h ++ b) rest (length (h ++ b)) refl) ∙ last in
+    let one : (number_at w32 tail >>= λ l. front_at l.0 l.1 >>= λ content. parted hash content) ≡ Ok ((h, b), rest) =
+    ap (λ (r : Result (ℕ × List ℕ) IndexFault). r >>= λ l. front_at l.0 l.1 >>= λ content. parted hash content) (number_again w32 (2 ^ 32) wide32 (length (h ++ b)) ((h ++ b) ++ rest) few) ∙ two in
+    ap (link_at hash) regrouped ∙ ap (λ (r : Result (List ℕ) IndexFault). r >>= λ a. number_at w32 a >>= λ l. front_at l.0 l.1 >>= λ content. parted hash content) (skipped_again (codes "link") tail 4 refl) ∙ one
+
+-- ---- among extensions
+
+pub link_ends : (h b behind : List ℕ) → Ends (extension_text (codes "link", h ++ b) ++ behind)
+link_ends h b behind = inr refl
+
+-- where passing over extensions stops, and what stands there
+pub record Stops (format : ObjectFormat) (link : Option (List ℕ × List ℕ)) (bytes : List ℕ) : Type 0 where
+  pub stop : List ℕ
+  pub passed : ArePassedOver bytes stop
+  pub ends : Ends stop
+  pub holds : StopsWith (hash_len format) link stop
+
+pub link_stops : (format : ObjectFormat) (h b bytes : List ℕ) → HasLink format h b bytes → Stops format (Some (h, b)) bytes
+link_stops format h b bytes l = record {
+  stop = extension_text (codes "link", h ++ b) ++ l.behind;
+  passed = l.first;
+  ends = link_ends h b l.behind;
+  holds = (l.few, l.behind, l.last.0, l.last.1, l.lengths.0, l.lengths.1, refl);
+}
+
+pub stop_is_link : (format : ObjectFormat) (h b bytes stop : List ℕ) → ArePassedOver bytes stop → StopsWith (hash_len format) (Some (h, b)) stop → HasLink format h b bytes
+stop_is_link format h b bytes stop passed holds =
+    record {
+      few = holds.0;
+      behind = holds.1;
+      last = (holds.2, holds.3);
+      lengths = (holds.4, holds.5);
+      first = subst (λ (w : List ℕ). ArePassedOver bytes w) holds.6 passed;
+    }
+
+-- no link stops where a link does, and the other way
+pub stop_is_long : (hash : ℕ) (x : List ℕ × List ℕ) (stop : List ℕ) → StopsWith hash (Some x) stop → 8 ≤ length stop
+stop_is_long hash x stop holds =
+    let text = codes "link" ++ (to_be_bytes w32 (length (x.0 ++ x.1)) ++ (x.0 ++ x.1)) in
+    omega (arith, ap length holds.6, length-append text holds.1, length-append (codes "link") (to_be_bytes w32 (length (x.0 ++ x.1)) ++ (x.0 ++ x.1)), length-append (to_be_bytes w32 (length (x.0 ++ x.1))) (x.0 ++ x.1), wide32.len (length (x.0 ++ x.1)))
