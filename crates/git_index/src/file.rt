@@ -2,7 +2,8 @@
 ghost use Rattle.std.specs.Prelude.{◌≡◌, ◌+◌, ◌++◌, ◌<◌, Err, IfOk, List, MatchResult, ℕ, length, map};
 ghost use Rattle.git_index.specs.declared.fault.IndexFault.TheVariants.{Memory};
 ghost use Rattle.git_index.specs.Entries.{Tracked, tracked};
-ghost use Rattle.git_index.specs.Format.{HasRoom, IsFile, IsIndexFile, hash_len};
+ghost use Rattle.git_index.specs.Format.{HasRoom, IsIndexFile, hash_len};
+ghost use Rattle.git_index.specs.Private.Reading.{Finds};
 
 use crate::checksum::ObjectFormat;
 use crate::entries::entries_of;
@@ -24,8 +25,8 @@ pub fn read(
     format: ObjectFormat,
 ) -> Result<(Vec<Entry>, &[u8]), IndexFault>
     ensures short { length bytes.now < 12 + hash_len format → result ≡ Err IndexFault.TooShort }
-    ensures found { IfOk result (λ x. IsFile format bytes.now (map tracked x.0.items) x.1.now) }
-    ensures only { (es : List Tracked) → (extensions : List ℕ) → IsFile format bytes.now es extensions → HasRoom bytes.now es
+    ensures found { IfOk result (λ x. Finds format bytes.now (map tracked x.0.items) x.1.now) }
+    ensures only { (es : List Tracked) → (extensions : List ℕ) → Finds format bytes.now es extensions
         → MatchResult result (λ x. (map tracked x.0.items ≡ es) × (x.1.now ≡ extensions)) (λ fault. fault ≡ Memory) }
 {
     let hash_len = format.hash_len();
@@ -38,7 +39,8 @@ pub fn read(
         return Err(IndexFault::Checksum);
     }
     let room = bytes.len().saturating_mul(PATH_BYTES_PER_BYTE);
-    entries_of(alloc, version, hash_len, count, room, rest)
+    let (entries, extensions) = entries_of(alloc, version, hash_len, count, room, rest)?;
+    Ok((entries, extensions))
 }
 
 /// The entries of a file that needs no other.

@@ -16,12 +16,12 @@ both : (a b : Bool) → (a && b) ≡ true → (a ≡ true) × (b ≡ true)
 both true b e = (refl, e)
 both false b e = absurd cc
 
-no_path : (e : Tracked) → eqb (length e.path) 0 ≡ true → e.path ≡ []
-no_path e h = empty e.path (eqb-true _ _ h)
-
 empty : (path : List ℕ) → length path ≡ 0 → path ≡ []
 empty [] h = refl
 empty (b ∷ path) h = absurd (omega arith)
+
+no_path : (e : Tracked) → eqb (length e.path) 0 ≡ true → e.path ≡ []
+no_path e h = empty e.path (eqb-true _ _ h)
 
 abbrev IsUnnamed : Tracked → Type 0
 IsUnnamed e = e.path ≡ []
@@ -71,7 +71,7 @@ ways true false x es e = absurd cc
 ways false q x es e = absurd cc
 
 pub joined_takes : (shared own : List Tracked) (bitmaps : List ℕ) (es : List Tracked) → IsBytes bitmaps → joined_at shared own bitmaps ≡ Ok es → AreJoined shared own bitmaps es
-unfolding joined_at, are_replacements
+unfolding joined_at are_replacements
 joined_takes shared own bitmaps es fits e =
     let a = bind_ok (marks_at (length shared) bitmaps) (λ deleted. marks_at (length shared) deleted.1 >>= λ replaced. rest_joined shared own deleted replaced) es e in
     let b = bind_ok (marks_at (length shared) a.0.1) (λ replaced. rest_joined shared own a.0 replaced) es a.2 in
@@ -84,7 +84,7 @@ joined_takes shared own bitmaps es fits e =
     let le : n ≤ length own = leb-true _ _ few.0 in
     let none = all_unnamed (take n own) names.0 in
     let named = all_named (drop n own) names.1 in
-    let end : b.0.1 ≡ [] = no_bytes b.0.1 (eqb-true _ _ w.0) in
+    let end : b.0.1 ≡ [] = empty b.0.1 (eqb-true _ _ w.0) in
     let whole : take n own ++ drop n own ≡ own = take-append-drop n own in
     let added : named_in own ≡ drop n own = ap named_in (sym whole) ∙ named_in-is (take n own) (drop n own) none named in
     record {
@@ -102,12 +102,8 @@ joined_takes shared own bitmaps es fits e =
       joined = sym w.2 ∙ ap (λ (v : List Tracked). put_in (unmarked (replaced_by shared b.0.0 (take n own)) a.0.0) v) added;
     }
 
-no_bytes : (bytes : List ℕ) → length bytes ≡ 0 → bytes ≡ []
-no_bytes [] h = refl
-no_bytes (b ∷ bytes) h = absurd (omega arith)
-
 pub joined_again : (shared own : List Tracked) (bitmaps : List ℕ) (es : List Tracked) → AreJoined shared own bitmaps es → joined_at shared own bitmaps ≡ Ok es
-unfolding joined_at, are_replacements
+unfolding joined_at are_replacements
 joined_again shared own bitmaps es j =
     let one : marks_at (length shared) bitmaps ≡ Ok (j.deleted, j.replacements) = ap (marks_at (length shared)) j.both ∙ marks_again (length shared) j.deleted j.deletions j.replacements j.marks.0 in
     let two : marks_at (length shared) j.replacements ≡ Ok (j.replaced, []) = ap (marks_at (length shared)) (sym (append-nil j.replacements)) ∙ marks_again (length shared) j.replaced j.replacements [] j.marks.1 in

@@ -9,7 +9,7 @@ use Rattle.std.proofs.lemmas.List.{drop_at, length-append, length-take, take_at,
 use Rattle.std.proofs.lemmas.Slice.Eq.{starts_is}
 use Rattle.git_index.specs.declared.checksum.ObjectFormat.{ObjectFormat}
 use Rattle.git_index.specs.declared.fault.IndexFault.{IndexFault}
-use Rattle.git_index.specs.declared.fault.IndexFault.TheVariants.{Cut, Link}
+use Rattle.git_index.specs.declared.fault.IndexFault.TheVariants.{Cut, Link, Memory}
 use Rattle.git_index.specs.Format.{ArePassedOver, HasLink, HasNoLink, extension_text, hash_len, zero_hash}
 use Rattle.git_index.specs.Private.Reading.{◌>>=◌, Ends, StopsWith, front_at, link_at, number_at, skipped}
 use Rattle.git_index.proofs.lemmas.Fields.{IsBytes, IsBytes-behind, bind_ok, front_again, front_takes, guard_ok, number_again, number_takes, ok_is, skipped_again, wide32}
@@ -90,3 +90,47 @@ pub stop_is_long : (hash : ℕ) (x : List ℕ × List ℕ) (stop : List ℕ) →
 stop_is_long hash x stop holds =
     let text = codes "link" ++ (to_be_bytes w32 (length (x.0 ++ x.1)) ++ (x.0 ++ x.1)) in
     omega (arith, ap length holds.6, length-append text holds.1, length-append (codes "link") (to_be_bytes w32 (length (x.0 ++ x.1)) ++ (x.0 ++ x.1)), length-append (to_be_bytes w32 (length (x.0 ++ x.1))) (x.0 ++ x.1), wide32.len (length (x.0 ++ x.1)))
+
+-- too few bytes hold no link
+pub short_stop : (hash : ℕ) (link : Option (List ℕ × List ℕ)) (stop : List ℕ) → length stop < 8 → StopsWith hash link stop → None ≡ link
+short_stop hash None stop short holds = refl
+short_stop hash (Some x) stop short holds = absurd (omega (arith, short, stop_is_long hash x stop holds))
+
+pub link_read : (hash : ℕ) (x : List ℕ × List ℕ) (stop : List ℕ) (holds : StopsWith hash (Some x) stop) → link_at hash stop ≡ Ok (x, holds.1)
+link_read hash x stop holds = ap (link_at hash) holds.6 ∙ link_again x.0 x.1 holds.1 hash holds.4 holds.5
+
+pub link_refused : (hash : ℕ) (link : Option (List ℕ × List ℕ)) (stop : List ℕ) (fault : IndexFault) → 8 ≤ length stop → (fault ≡ Memory) ⊎ (link_at hash stop ≡ Err fault) → StopsWith hash link stop → fault ≡ Memory
+link_refused hash link stop fault long (inl memory) holds = memory
+link_refused hash None stop fault long (inr e) holds = absurd (omega (arith, long, holds))
+link_refused hash (Some x) stop fault long (inr e) holds = let two : Ok (x, holds.1) ≡ Err fault = sym (link_read hash x stop holds) ∙ e in absurd cc
+
+-- what was read is the link, and what it is followed by stands behind it
+pub record IsRead (hash : ℕ) (link : Option (List ℕ × List ℕ)) (y : Content × List ℕ) : Type 0 where
+  pub few : List ℕ
+  pub passed : ArePassedOver y.1 few
+  pub short : length few < 8
+  pub is : Some y.0 ≡ link
+
+pub is_read : (hash : ℕ) (link : Option (List ℕ × List ℕ)) (stop : List ℕ) (y : Content × List ℕ) → 8 ≤ length stop → link_at hash stop ≡ Ok y → StopsWith hash link stop → IsRead hash link y
+is_read hash None stop y long e holds = absurd (omega (arith, long, holds))
+is_read hash (Some x) stop y long e holds =
+    let one : IsRead hash (Some x) (x, holds.1) = record { few = holds.0; passed = holds.2; short = holds.3; is = refl } in
+    subst (λ (z : Content × List ℕ). IsRead hash (Some x) z) (ok_is (x, holds.1) y (sym (link_read hash x stop holds) ∙ e)) one
+
+begins_link : (stop : List ℕ) → 8 ≤ length stop → Ends stop → starts_with nat_eq stop (codes "link") ≡ true
+begins_link stop long (inl short) = absurd (omega (arith, long, short))
+begins_link stop long (inr starts) = starts
+
+pub link_stands : (hash : ℕ) (stop few : List ℕ) (y : Content × List ℕ) → IsBytes stop → 8 ≤ length stop → Ends stop → link_at hash stop ≡ Ok y → ArePassedOver y.1 few → length few < 8 → StopsWith hash (Some y.0) stop
+link_stands hash stop few y fits long ends e passed short =
+    let t = link_takes hash stop y fits (begins_link stop long ends) e in
+    (few, y.1, passed, short, t.1, t.2, t.0)
+
+-- ---- by whether there is a link whose hash isn't zero
+
+pub no_link_stops : (format : ObjectFormat) (bytes : List ℕ) → HasNoLink format bytes → (b : List ℕ) × (Stops format None bytes ⊎ Stops format (Some (zero_hash format, b)) bytes)
+no_link_stops format bytes (inl none) = ([], inl (record { stop = none.0; passed = none.1; ends = inl none.2; holds = none.2 }))
+no_link_stops format bytes (inr zero) = (zero.0, inr (link_stops format (zero_hash format) zero.0 bytes zero.1))
+
+pub at_stop : (format : ObjectFormat) (link : Option (List ℕ × List ℕ)) (bytes rest : List ℕ) (n : ℕ) (x : Stops format link bytes) → rest ≡ x.stop → n ≡ hash_len format → StopsWith n link rest
+at_stop format link bytes rest n x same len = rw (same, len) x.holds

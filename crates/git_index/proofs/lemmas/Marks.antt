@@ -1,16 +1,16 @@
 -- Bitmaps: the marks that are read are those that the words spell, and the other way.
-use Rattle.std.proofs.Common.{◌≡◌, ◌⊎◌, ℕ, zero, suc, ◌+◌, ◌-◌, ◌*◌, ◌^◌, ◌<◌, ◌≤◌, Bool, true, false, cond, ltb, List, [], ◌∷◌, ◌++◌, length, take, drop, Result, Ok, Err, refl, sym, ap, subst, ◌∙◌, append_assoc, arith, inl, inr}
+use Rattle.std.proofs.Common.{◌≡◌, ◌⊎◌, ℕ, zero, suc, ◌+◌, ◌-◌, ◌*◌, ◌^◌, ◌<◌, ◌≤◌, ◌/◌, ◌%◌, min, Bool, true, false, cond, eqb, ltb, List, [], ◌∷◌, ◌++◌, length, take, drop, Result, Ok, Err, refl, sym, ap, subst, ◌∙◌, append_assoc, arith, inl, inr}
 use Rattle.std.specs.Prelude.{flat_map, replicate}
 use Rattle.std.specs.List.{AllByRecursion}
 use Rattle.std.specs.Int.{w32, w64, to_be_bytes}
 use Rattle.std.proofs.lemmas.Bool.{cases_lt, lt-ltb, le-ltb}
 use Rattle.std.proofs.Math.Nat.{sub-zero}
-use Rattle.std.proofs.Math.Seq.{drop-nil, take-nil}
+use Rattle.std.proofs.Math.Seq.{drop-nil, take-nil, take_all}
 use Rattle.std.proofs.lemmas.List.{append-nil, length-append}
 use Rattle.git_index.specs.declared.fault.IndexFault.{IndexFault}
 use Rattle.git_index.specs.declared.fault.IndexFault.TheVariants.{Memory, Link, Position}
 use Rattle.git_index.specs.Private.Reading.{◌>>=◌, marks_at, number_at, pushed, skipped, words_at}
-use Rattle.git_index.specs.Split.{IsBitmap, Spell, bits_of, due_after}
+use Rattle.git_index.specs.Split.{IsBitmap, Spell, bits_of, due_after, low_bits}
 use Rattle.git_index.proofs.lemmas.Fields.{IsBytes, IsBytes-behind, bind_ok, number_again, number_takes, ok_is, skipped_again, skipped_takes, wide32, wide64}
 
 -- ---- bits that are pushed
@@ -73,6 +73,61 @@ run_ends count marks (suc n) past =
           rw (none, left) (run_none count marks n le ∙ ap (λ (w : List Bool). Ok w) (sym (append-nil marks)))
     ]
 
+ends_by : (count : ℕ) (marks : List Bool) (len : ℕ) (bit : Bool) (all : ℕ) (m : List Bool) → (bit ≡ true → len ≤ count - length marks) → all ≡ length marks + min len (count - length marks)
+    → m ≡ marks ++ replicate (all - length marks) bit → count - length marks < len → pushed count marks (replicate len bit) ≡ Ok m
+ends_by count marks len true all m fits all_is m_is lt = let le : len ≤ count - length marks = fits refl in absurd (omega arith)
+ends_by count marks len false all m fits all_is m_is lt =
+    let n : all - length marks ≡ count - length marks = omega arith in
+    run_ends count marks len lt ∙ ap (λ (w : List Bool). Ok w) (sym (m_is ∙ rw n refl))
+
+-- what a run leaves, as it is written: cut to a length, and filled up
+pub run_is : (count : ℕ) (marks : List Bool) (len : ℕ) (bit : Bool) (all : ℕ) (m : List Bool) → (bit ≡ true → len ≤ count - length marks) → all ≡ length marks + min len (count - length marks)
+    → m ≡ take all marks ++ replicate (all - length marks) bit → pushed count marks (replicate len bit) ≡ Ok m
+run_is count marks len bit all m fits all_is m_is =
+    let whole : take all marks ≡ marks = take_all all marks (omega arith) in
+    elim (cases_lt (count - length marks) len) [
+      | inl lt ↦ ends_by count marks len bit all m fits all_is (m_is ∙ ap (λ (w : List Bool). w ++ replicate (all - length marks) bit) whole) lt
+      | inr le ↦
+          let n : all - length marks ≡ len = omega arith in
+          run_fits count marks len bit le ∙ ap (λ (w : List Bool). Ok w) (sym (m_is ∙ rw (whole, n) refl))
+    ]
+
+-- ---- the bits of a plain word
+
+one_more : (count : ℕ) (marks : List Bool) (bit : Bool) (bits : List Bool) → pushed count marks (bit ∷ bits) ≡ (pushed count marks (replicate 1 bit) >>= λ more. pushed count more bits)
+one_more count marks bit bits = pushed-append count marks (bit ∷ []) bits
+
+pub plain_goes : (count : ℕ) (marks m : List Bool) (i left : ℕ) (total : Pushed) → i < 64 → pushed count marks (replicate 1 (eqb (left % 2) 1)) ≡ Ok m
+    → pushed count marks (low_bits (64 - i) left) ≡ total → pushed count m (low_bits (64 - (i + 1)) (left / 2)) ≡ total
+unfolding low_bits
+plain_goes count marks m i left total lt one so_far =
+    let k : 64 - i ≡ suc (64 - (i + 1)) = omega arith in
+    let step : pushed count marks (low_bits (64 - i) left) ≡ pushed count m (low_bits (64 - (i + 1)) (left / 2)) =
+    rw k (one_more count marks (eqb (left % 2) 1) (low_bits (64 - (i + 1)) (left / 2)) ∙ ap (λ (r : Pushed). r >>= λ more. pushed count more (low_bits (64 - (i + 1)) (left / 2))) one) in
+    sym step ∙ so_far
+
+pub plain_fault : (count : ℕ) (marks : List Bool) (i left : ℕ) (fault : IndexFault) (total : Pushed) → i < 64 → (fault ≡ Memory) ⊎ (pushed count marks (replicate 1 (eqb (left % 2) 1)) ≡ Err fault)
+    → pushed count marks (low_bits (64 - i) left) ≡ total → (fault ≡ Memory) ⊎ (total ≡ Err fault)
+unfolding low_bits
+plain_fault count marks i left fault total lt (inl memory) so_far = inl memory
+plain_fault count marks i left fault total lt (inr one) so_far =
+    let k : 64 - i ≡ suc (64 - (i + 1)) = omega arith in
+    let step : pushed count marks (low_bits (64 - i) left) ≡ Err fault =
+    rw k (one_more count marks (eqb (left % 2) 1) (low_bits (64 - (i + 1)) (left / 2)) ∙ ap (λ (r : Pushed). r >>= λ more. pushed count more (low_bits (64 - (i + 1)) (left / 2))) one) in
+    inr (sym so_far ∙ step)
+
+pub plain_done : (count : ℕ) (marks : List Bool) (i left : ℕ) (total : Pushed) → 64 ≤ i → pushed count marks (low_bits (64 - i) left) ≡ total → total ≡ Ok marks
+unfolding low_bits pushed
+plain_done count marks i left total le so_far =
+    let k : 64 - i ≡ 0 = omega arith in
+    let none : pushed count marks (low_bits (64 - i) left) ≡ Ok marks = rw k refl in
+    sym so_far ∙ none
+
+-- a word where plain ones are due
+pub due_is : (due word : ℕ) → 0 < due → (bits_of due word ≡ low_bits 64 word) × (due_after due word ≡ due - 1)
+due_is zero word some = absurd (omega arith)
+due_is (suc due) word some = (refl, omega arith)
+
 abbrev pub AllFalse : List Bool → Type 0
 AllFalse bits = AllByRecursion (λ bit. bit ≡ false) bits
 
@@ -120,9 +175,14 @@ pushed_as count marks (x ∷ bits) none =
           let all : AllFalse (drop 0 (x ∷ bits)) = rw left at none in
           let again : AllFalse (drop (count - length marks) bits) = rw left all.1 in
           let is : x ≡ false = all.0 in
-          let more : pushed count marks bits ≡ Ok (marks ++ take 0 bits) = rw left at pushed_as count marks bits again in
+          let base = pushed_as count marks bits again in
+          let more : pushed count marks bits ≡ Ok (marks ++ take 0 bits) = rw left at base in
           rw (no, is, left) more
     ]
+
+pushed-nil : (count : ℕ) (marks : List Bool) → pushed count marks [] ≡ Ok marks
+unfolding pushed
+pushed-nil count marks = refl
 
 -- ---- words
 
@@ -137,7 +197,7 @@ pub record TakesWords (count n due : ℕ) (marks : List Bool) (bytes : List ℕ)
 pub words_take : (count n due : ℕ) (marks : List Bool) (bytes : List ℕ) (x : List Bool × List ℕ) → IsBytes bytes → words_at count n due marks bytes ≡ Ok x → TakesWords count n due marks bytes x
 unfolding words_at
 words_take count zero zero marks bytes x fits e =
-    let one : TakesWords count 0 0 marks bytes (marks, bytes) = record { words = []; bits = []; len = refl; joined = refl; spelled = (refl, refl); pushes = unfold pushed in refl } in
+    let one : TakesWords count 0 0 marks bytes (marks, bytes) = record { words = []; bits = []; len = refl; joined = refl; spelled = (refl, refl); pushes = pushed-nil count marks } in
     subst (λ (y : List Bool × List ℕ). TakesWords count 0 0 marks bytes y) (ok_is (marks, bytes) x e) one
 words_take count zero (suc due) marks bytes x fits e = absurd cc
 words_take count (suc n) due marks bytes x fits e =
@@ -158,7 +218,7 @@ pub words_again : (count due : ℕ) (words : List ℕ) (bits marks m : List Bool
 unfolding words_at
 words_again count due [] bits marks m rest spelled pushes =
     let none : pushed count marks [] ≡ Ok m = subst (λ (w : List Bool). pushed count marks w ≡ Ok m) spelled.1 pushes in
-    let same : marks ≡ m = ok_is marks m (unfold pushed in none) in
+    let same : marks ≡ m = ok_is marks m (sym (pushed-nil count marks) ∙ none) in
     rw (spelled.0, same) refl
 words_again count due (word ∷ words) bits marks m rest spelled pushes =
     let more = spelled.0 in
@@ -166,6 +226,53 @@ words_again count due (word ∷ words) bits marks m rest spelled pushes =
     let a = bind_ok (pushed count marks (bits_of due word)) (λ w. pushed count w more) m both in
     let regrouped : flat_map (to_be_bytes w64) (word ∷ words) ++ rest ≡ to_be_bytes w64 word ++ (flat_map (to_be_bytes w64) words ++ rest) = append_assoc (to_be_bytes w64 word) (flat_map (to_be_bytes w64) words) rest in
     rw (regrouped, number_again w64 (2 ^ 64) wide64 word (flat_map (to_be_bytes w64) words ++ rest) spelled.1, a.1) (words_again count (due_after due word) words more a.0 m rest spelled.3 a.2)
+
+-- reading one word after the other, as a loop does
+
+abbrev Words : Type 0
+Words = Result (List Bool × List ℕ) IndexFault
+
+pub words_go_on : (count words i due : ℕ) (marks m : List Bool) (bytes after : List ℕ) (word next : ℕ) (total : Words) → i < words → number_at w64 bytes ≡ Ok (word, after) → pushed count marks (bits_of due word) ≡ Ok m → next ≡ due_after due word
+    → words_at count (words - i) due marks bytes ≡ total → words_at count (words - (i + 1)) next m after ≡ total
+unfolding words_at
+words_go_on count words i due marks m bytes after word next total lt read pushes next_is so_far =
+    let k : words - i ≡ suc (words - (i + 1)) = omega arith in
+    let step : words_at count (words - i) due marks bytes ≡ words_at count (words - (i + 1)) (due_after due word) m after = rw (k, read, pushes) refl in
+    rw next_is (sym step ∙ so_far)
+
+pub words_are_cut : (count words i due : ℕ) (marks : List Bool) (bytes : List ℕ) (fault : IndexFault) (total : Words) → i < words → (fault ≡ Memory) ⊎ (number_at w64 bytes ≡ Err fault)
+    → words_at count (words - i) due marks bytes ≡ total → (fault ≡ Memory) ⊎ (total ≡ Err fault)
+unfolding words_at
+words_are_cut count words i due marks bytes fault total lt (inl memory) so_far = inl memory
+words_are_cut count words i due marks bytes fault total lt (inr read) so_far =
+    let k : words - i ≡ suc (words - (i + 1)) = omega arith in
+    let step : words_at count (words - i) due marks bytes ≡ Err fault = rw (k, read) refl in
+    inr (sym so_far ∙ step)
+
+pub words_go_past : (count words i due : ℕ) (marks : List Bool) (bytes after : List ℕ) (word : ℕ) (fault : IndexFault) (total : Words) → i < words → number_at w64 bytes ≡ Ok (word, after) → (fault ≡ Memory) ⊎ (pushed count marks (bits_of due word) ≡ Err fault)
+    → words_at count (words - i) due marks bytes ≡ total → (fault ≡ Memory) ⊎ (total ≡ Err fault)
+unfolding words_at
+words_go_past count words i due marks bytes after word fault total lt read (inl memory) so_far = inl memory
+words_go_past count words i due marks bytes after word fault total lt read (inr pushes) so_far =
+    let k : words - i ≡ suc (words - (i + 1)) = omega arith in
+    let step : words_at count (words - i) due marks bytes ≡ Err fault = rw (k, read, pushes) refl in
+    inr (sym so_far ∙ step)
+
+pub words_done : (count words i due : ℕ) (marks : List Bool) (bytes : List ℕ) (total : Words) → words ≤ i → due ≤ 0 → words_at count (words - i) due marks bytes ≡ total → total ≡ Ok (marks, bytes)
+unfolding words_at
+words_done count words i due marks bytes total le none so_far =
+    let k : words - i ≡ 0 = omega arith in
+    let d : due ≡ 0 = omega arith in
+    let step : words_at count (words - i) due marks bytes ≡ Ok (marks, bytes) = rw (k, d) refl in
+    sym so_far ∙ step
+
+pub words_are_due : (count words i due : ℕ) (marks : List Bool) (bytes : List ℕ) (total : Words) → words ≤ i → 0 < due → words_at count (words - i) due marks bytes ≡ total → total ≡ Err Link
+unfolding words_at
+words_are_due count words i zero marks bytes total le some so_far = absurd (omega arith)
+words_are_due count words i (suc due) marks bytes total le some so_far =
+    let k : words - i ≡ 0 = omega arith in
+    let step : words_at count (words - i) (suc due) marks bytes ≡ Err Link = rw k refl in
+    sym so_far ∙ step
 
 -- ---- a whole bitmap
 
