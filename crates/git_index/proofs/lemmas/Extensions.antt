@@ -1,9 +1,11 @@
 -- Extensions that may be passed over, one after the other.
-use Rattle.std.proofs.Common.{◌≡◌, ◌⊎◌, ℕ, ◌^◌, ◌<◌, ◌≤◌, Bool, true, false, cond, eqb, ltb, ◌||◌, ◌&&◌, List, [], ◌∷◌, ◌++◌, length, get_or, take, Result, Ok, Err, refl, sym, ap, subst, ◌∙◌, append_assoc, arith, inl, inr}
+use Rattle.std.proofs.Common.{◌≡◌, ◌⊎◌, ℕ, ◌^◌, ◌<◌, ◌≤◌, Bool, true, false, cond, eqb, ltb, ◌||◌, List, [], ◌∷◌, ◌++◌, length, get_or, take, drop, Result, Ok, Err, refl, sym, ap, subst, ◌∙◌, append_assoc, arith, inl, inr}
 use Rattle.std.specs.Int.{w32, from_be_bytes, to_be_bytes}
 use Rattle.std.specs.Prelude.{codes, nat_eq}
 use Rattle.std.specs.List.{AllByRecursion, flat_map, starts_with}
-use Rattle.std.proofs.lemmas.Bool.{eqb-true, ltb-false, le-ltb}
+use Rattle.std.proofs.lemmas.Bool.{ltb-false, le-ltb}
+use Rattle.std.proofs.lemmas.Bool.Decides.{Decides-eqb}
+use Rattle.std.proofs.lemmas.Slice.Eq.{starts_is}
 use Rattle.std.proofs.lemmas.List.{length-append}
 use Rattle.git_index.specs.declared.fault.IndexFault.{IndexFault}
 use Rattle.git_index.specs.declared.fault.IndexFault.TheVariants.{Memory, Extension, Sparse}
@@ -85,14 +87,14 @@ pub record BeginsWithOne (bytes end : List ℕ) : Type 0 where
   pub read : extension_at bytes ≡ Ok rest
   pub passed : ArePassedOver rest end
 
-first_of : (a b : Bool) → (a && b) ≡ true → a ≡ true
-first_of true b e = refl
-first_of false b e = absurd cc
-
 -- an extension's name begins with another byte than a link's
 not_link : (x : List ℕ × List ℕ) (rest : List ℕ) → IsExtension x → starts_with nat_eq (extension_text x ++ rest) (codes "link") ≡ true → ⊥
 not_link ([], content) rest is starts = absurd (omega (arith, is.0))
-not_link (b ∷ name, content) rest is starts = let first : b ≡ 108 = eqb-true b 108 (first_of _ _ starts) in absurd (omega (arith, is.2, first))
+not_link (b ∷ name, content) rest is starts =
+    let bytes = extension_text (b ∷ name, content) ++ rest in
+    let begins : bytes ≡ codes "link" ++ drop 4 bytes = (starts_is Decides-eqb bytes (codes "link") (starts_with nat_eq bytes (codes "link")) refl).0 starts in
+    let first : b ≡ 108 = ap (λ (w : List ℕ). get_or w 0 0) begins in
+    absurd (omega (arith, is.2, first))
 
 no_end : (x : List ℕ × List ℕ) (rest : List ℕ) → IsExtension x → Ends (extension_text x ++ rest) → ⊥
 no_end x rest is (inl short) = absurd (omega (arith, short, length-append (extension_text x) rest, length-append x.0 (to_be_bytes w32 (length x.1) ++ x.1), length-append (to_be_bytes w32 (length x.1)) x.1, wide32.len (length x.1), is.0))

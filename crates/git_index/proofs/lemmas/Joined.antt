@@ -1,12 +1,13 @@
 -- The entries of two files, joined: what is read is told so, and the other way.
-use Rattle.std.proofs.Common.{◌≡◌, ◌≢◌, ℕ, ◌+◌, ◌<◌, ◌≤◌, Bool, true, false, cond, eqb, leb, ◌&&◌, not, List, [], ◌∷◌, ◌++◌, length, take, drop, Result, Ok, Err, refl, sym, ap, subst, ◌∙◌, arith}
+use Rattle.std.proofs.Common.{◌≡◌, ◌≢◌, ◌⊎◌, ℕ, zero, suc, inl, inr, map, vec_len, ◌+◌, ◌<◌, ◌≤◌, Bool, true, false, cond, eqb, leb, ◌&&◌, not, List, [], ◌∷◌, ◌++◌, length, take, drop, Result, Ok, Err, refl, sym, ap, subst, ◌∙◌, arith}
 use Rattle.std.specs.Prelude.{count_by}
 use Rattle.std.specs.List.{AllByRecursion, list_all}
 use Rattle.std.proofs.lemmas.Bool.{eqb-true, eq-eqb, leb-true, le-leb, false≢true}
-use Rattle.std.proofs.lemmas.List.{append-nil, drop_at, length-append, length-take, take_at, take-append-drop}
+use Rattle.std.proofs.lemmas.List.{append-nil, drop-map, drop_at, length-append, length-map, length-take, take-map, take_at, take-append-drop}
 use Rattle.git_index.specs.declared.fault.IndexFault.{IndexFault}
-use Rattle.git_index.specs.declared.fault.IndexFault.TheVariants.{Link, Replacements}
-use Rattle.git_index.specs.Entries.{Tracked}
+use Rattle.git_index.specs.declared.fault.IndexFault.TheVariants.{Link, Memory, Replacements}
+use Rattle.git_index.specs.declared.entry.Entry.{Entry}
+use Rattle.git_index.specs.Entries.{Tracked, tracked}
 use Rattle.git_index.specs.Private.Reading.{◌>>=◌, are_replacements, joined_at, marks_at, named_in}
 use Rattle.git_index.specs.Split.{AreJoined, put_in, replaced_by, unmarked}
 use Rattle.git_index.proofs.lemmas.Fields.{IsBytes, IsBytes-behind, bind_ok, ok_is}
@@ -118,3 +119,86 @@ joined_again shared own bitmaps es j =
     ap (λ (r : Result (List Bool × List ℕ) IndexFault). r >>= λ deleted. marks_at (length shared) deleted.1 >>= λ replaced. rest_joined shared own deleted replaced) one
     ∙ ap (λ (r : Result (List Bool × List ℕ) IndexFault). r >>= λ replaced. rest_joined shared own (j.deleted, j.replacements) replaced) two
     ∙ last
+
+-- ---- read step by step
+
+abbrev Marks : Type 0
+Marks = List Bool × List ℕ
+
+pub deletions_fail : (shared own : List Tracked) (bitmaps : List ℕ) (n : ℕ) (fault : IndexFault) → n ≡ length shared → (fault ≡ Memory) ⊎ (marks_at n bitmaps ≡ Err fault) → (fault ≡ Memory) ⊎ (joined_at shared own bitmaps ≡ Err fault)
+unfolding joined_at
+deletions_fail shared own bitmaps n fault n_is (inl memory) = inl memory
+deletions_fail shared own bitmaps n fault n_is (inr e) =
+    let one : marks_at (length shared) bitmaps ≡ Err fault = subst (λ (m : ℕ). marks_at m bitmaps ≡ Err fault) n_is e in
+    inr (ap (λ (r : Result Marks IndexFault). r >>= λ deleted. marks_at (length shared) deleted.1 >>= λ replaced. rest_joined shared own deleted replaced) one)
+
+-- the last step, where both bitmaps are read
+last_step : (shared own : List Tracked) (bitmaps : List ℕ) (n : ℕ) (d r : Marks) → n ≡ length shared → marks_at n bitmaps ≡ Ok d → marks_at n d.1 ≡ Ok r → joined_at shared own bitmaps ≡ rest_joined shared own d r
+unfolding joined_at
+last_step shared own bitmaps n d r n_is d-is r-is =
+    let one : marks_at (length shared) bitmaps ≡ Ok d = subst (λ (m : ℕ). marks_at m bitmaps ≡ Ok d) n_is d-is in
+    let two : marks_at (length shared) d.1 ≡ Ok r = subst (λ (m : ℕ). marks_at m d.1 ≡ Ok r) n_is r-is in
+    ap (λ (x : Result Marks IndexFault). x >>= λ deleted. marks_at (length shared) deleted.1 >>= λ replaced. rest_joined shared own deleted replaced) one
+    ∙ ap (λ (x : Result Marks IndexFault). x >>= λ replaced. rest_joined shared own d replaced) two
+
+pub replacements_fail : (shared own : List Tracked) (bitmaps : List ℕ) (n : ℕ) (d : Marks) (fault : IndexFault) → n ≡ length shared → marks_at n bitmaps ≡ Ok d → (fault ≡ Memory) ⊎ (marks_at n d.1 ≡ Err fault) → (fault ≡ Memory) ⊎ (joined_at shared own bitmaps ≡ Err fault)
+unfolding joined_at
+replacements_fail shared own bitmaps n d fault n_is d-is (inl memory) = inl memory
+replacements_fail shared own bitmaps n d fault n_is d-is (inr e) =
+    let one : marks_at (length shared) bitmaps ≡ Ok d = subst (λ (m : ℕ). marks_at m bitmaps ≡ Ok d) n_is d-is in
+    let two : marks_at (length shared) d.1 ≡ Err fault = subst (λ (m : ℕ). marks_at m d.1 ≡ Err fault) n_is e in
+    inr (ap (λ (x : Result Marks IndexFault). x >>= λ deleted. marks_at (length shared) deleted.1 >>= λ replaced. rest_joined shared own deleted replaced) one
+    ∙ ap (λ (x : Result Marks IndexFault). x >>= λ replaced. rest_joined shared own d replaced) two)
+
+pub bytes_stand_behind : (shared own : List Tracked) (bitmaps : List ℕ) (n : ℕ) (d r : Marks) → n ≡ length shared → marks_at n bitmaps ≡ Ok d → marks_at n d.1 ≡ Ok r → eqb (length r.1) 0 ≡ false → joined_at shared own bitmaps ≡ Err Link
+bytes_stand_behind shared own bitmaps n d r n_is d-is r-is more = last_step shared own bitmaps n d r n_is d-is r-is ∙ rw more refl
+
+pub names_differ : (shared own : List Tracked) (bitmaps : List ℕ) (n k : ℕ) (d r : Marks) → n ≡ length shared → marks_at n bitmaps ≡ Ok d → marks_at n d.1 ≡ Ok r → eqb (length r.1) 0 ≡ true → k ≡ mark_count r.0 → are_replacements own k ≡ false
+    → joined_at shared own bitmaps ≡ Err Replacements
+names_differ shared own bitmaps n k d r n_is d-is r-is end k_is no =
+    let told : are_replacements own (mark_count r.0) ≡ false = subst (λ (m : ℕ). are_replacements own m ≡ false) k_is no in
+    last_step shared own bitmaps n d r n_is d-is r-is ∙ rw (end, told) refl
+
+pub joined_is : (shared own : List Tracked) (bitmaps : List ℕ) (n k : ℕ) (d r : Marks) (kept joined : List Tracked) → n ≡ length shared → marks_at n bitmaps ≡ Ok d → marks_at n d.1 ≡ Ok r → eqb (length r.1) 0 ≡ true → k ≡ mark_count r.0
+    → are_replacements own k ≡ true → kept ≡ unmarked (replaced_by shared r.0 (take k own)) d.0 → joined ≡ put_in kept (named_in own) → joined_at shared own bitmaps ≡ Ok joined
+joined_is shared own bitmaps n k d r kept joined n_is d-is r-is end k_is are kept_is joined_as =
+    let told : are_replacements own (mark_count r.0) ≡ true = subst (λ (m : ℕ). are_replacements own m ≡ true) k_is are in
+    let made : put_in (unmarked (replaced_by shared r.0 (take (mark_count r.0) own)) d.0) (named_in own) ≡ joined = sym (joined_as ∙ ap (λ (v : List Tracked). put_in v (named_in own)) (kept_is ∙ ap (λ (m : ℕ). unmarked (replaced_by shared r.0 (take m own)) d.0) k_is)) in
+    last_step shared own bitmaps n d r n_is d-is r-is ∙ rw (end, told) (ap (λ (v : List Tracked). Ok v) made)
+
+pub are_joined_at : {shared shared' own own' : List Tracked} {bitmaps bitmaps' : List ℕ} {es : List Tracked} → shared ≡ shared' → own ≡ own' → bitmaps ≡ bitmaps' → AreJoined shared own bitmaps es → AreJoined shared' own' bitmaps' es
+are_joined_at {shared} {shared'} {own} {own'} {bitmaps} {bitmaps'} {es} s o b j =
+    subst (λ (w : List Tracked). AreJoined w own' bitmaps' es) s (subst (λ (w : List Tracked). AreJoined shared w bitmaps' es) o (subst (λ (w : List ℕ). AreJoined shared own w es) b j))
+
+-- what is read is what is spelled
+pub joined_alone : (shared own : List Tracked) (bitmaps : List ℕ) (es found : List Tracked) → joined_at shared own bitmaps ≡ Ok found → AreJoined shared own bitmaps es → found ≡ es
+joined_alone shared own bitmaps es found read j = ok_is found es (sym read ∙ joined_again shared own bitmaps es j)
+
+ok_or_err : (r : Result (List Tracked) IndexFault) (es : List Tracked) (fault : IndexFault) → r ≡ Ok es → r ≡ Err fault → ⊥
+ok_or_err (Ok x) es fault a b = absurd cc
+ok_or_err (Err x) es fault a b = absurd cc
+
+pub joined_refused : (shared own : List Tracked) (bitmaps : List ℕ) (es : List Tracked) (fault : IndexFault) → (fault ≡ Memory) ⊎ (joined_at shared own bitmaps ≡ Err fault) → AreJoined shared own bitmaps es → fault ≡ Memory
+joined_refused shared own bitmaps es fault (inl memory) j = memory
+joined_refused shared own bitmaps es fault (inr e) j = absurd (ok_or_err (joined_at shared own bitmaps) es fault (joined_again shared own bitmaps es j) e)
+
+-- ---- entries by their paths
+
+pub all_map : (p : Entry → Bool) (q : Tracked → Bool) → ((e : Entry) → p e ≡ q (tracked e)) → (es : List Entry) → list_all p es ≡ list_all q (map tracked es)
+all_map p q same [] = refl
+all_map p q same (e ∷ es) = rw (same e, all_map p q same es) refl
+
+pub unnamed_map : (es : List Entry) → list_all (λ e. eqb (vec_len e.path) 0) es ≡ list_all (λ e. eqb (length e.path) 0) (map tracked es)
+unnamed_map es = all_map (λ (e : Entry). eqb (vec_len e.path) 0) (λ (t : Tracked). eqb (length t.path) 0) (λ e. ap (λ (n : ℕ). eqb n 0) e.path.ok.0) es
+
+pub named_map : (es : List Entry) → list_all (λ e. not (eqb (vec_len e.path) 0)) es ≡ list_all (λ e. not (eqb (length e.path) 0)) (map tracked es)
+named_map es = all_map (λ (e : Entry). not (eqb (vec_len e.path) 0)) (λ (t : Tracked). not (eqb (length t.path) 0)) (λ e. ap (λ (n : ℕ). not (eqb n 0)) e.path.ok.0) es
+
+pub are_replacements_by : (own new added : List Entry) (count : ℕ) (a b : Bool) → count ≤ length own → new ≡ take count own → added ≡ drop count own → a ≡ list_all (λ e. eqb (vec_len e.path) 0) new → b ≡ list_all (λ e. not (eqb (vec_len e.path) 0)) added
+    → are_replacements (map tracked own) count ≡ (a && b)
+unfolding are_replacements
+are_replacements_by own new added count a b few new_is added_is a_is b_is =
+    let long : leb count (length (map tracked own)) ≡ true = le-leb _ _ (omega (arith, few, length-map own tracked)) in
+    let one : a ≡ list_all (λ e. eqb (length e.path) 0) (take count (map tracked own)) = a_is ∙ unnamed_map new ∙ ap (λ (v : List Entry). list_all (λ e. eqb (length e.path) 0) (map tracked v)) new_is ∙ ap (list_all (λ e. eqb (length e.path) 0)) (sym (take-map tracked count own)) in
+    let two : b ≡ list_all (λ e. not (eqb (length e.path) 0)) (drop count (map tracked own)) = b_is ∙ named_map added ∙ ap (λ (v : List Entry). list_all (λ e. not (eqb (length e.path) 0)) (map tracked v)) added_is ∙ ap (list_all (λ e. not (eqb (length e.path) 0))) (sym (drop-map tracked count own)) in
+    rw (long, ← one, ← two) refl

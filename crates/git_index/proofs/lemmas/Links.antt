@@ -1,18 +1,21 @@
 -- A link: what is read of it is spelled so, and the other way; and where it stands among extensions.
-use Rattle.std.proofs.Common.{◌≡◌, ◌⊎◌, ℕ, ◌^◌, ◌<◌, ◌≤◌, Bool, true, false, cond, ltb, List, [], ◌∷◌, ◌++◌, length, take, drop, Option, None, Some, Result, Ok, Err, refl, sym, ap, subst, ◌∙◌, append_assoc, arith, inl, inr}
-use Rattle.std.specs.Prelude.{codes, nat_eq}
+use Rattle.std.proofs.Common.{◌≡◌, ◌⊎◌, ℕ, ◌^◌, ◌<◌, ◌≤◌, Bool, true, false, cond, eqb, ltb, ◌≢◌, List, [], ◌∷◌, ◌++◌, length, take, drop, Option, None, Some, Result, Ok, Err, refl, sym, ap, subst, ◌∙◌, append_assoc, arith, inl, inr}
+use Rattle.std.specs.Prelude.{MatchOption, codes, flat_map, is_some, nat_eq, replicate}
 use Rattle.std.specs.Int.{w32, to_be_bytes}
-use Rattle.std.specs.List.{starts_with}
-use Rattle.std.proofs.lemmas.Bool.{ltb-false, le-ltb}
+use Rattle.std.specs.List.{list_all, starts_with}
+use Rattle.std.proofs.lemmas.Bool.{false≢true, ltb-false, le-ltb}
 use Rattle.std.proofs.lemmas.Bool.Decides.{Decides-eqb}
 use Rattle.std.proofs.lemmas.List.{drop_at, length-append, length-take, take_at, take-append-drop}
 use Rattle.std.proofs.lemmas.Slice.Eq.{starts_is}
 use Rattle.git_index.specs.declared.checksum.ObjectFormat.{ObjectFormat}
 use Rattle.git_index.specs.declared.fault.IndexFault.{IndexFault}
 use Rattle.git_index.specs.declared.fault.IndexFault.TheVariants.{Cut, Link, Memory}
-use Rattle.git_index.specs.Format.{ArePassedOver, HasLink, HasNoLink, extension_text, hash_len, zero_hash}
+use Rattle.git_index.specs.declared.link.Link.{Link as LinkParts}
+use Rattle.git_index.specs.Entries.{Tracked}
+use Rattle.git_index.specs.Format.{ArePassedOver, HasLink, HasNoLink, IsFile, extension_text, hash_len, zero_hash}
 use Rattle.git_index.specs.Private.Reading.{◌>>=◌, Ends, StopsWith, front_at, link_at, number_at, skipped}
-use Rattle.git_index.proofs.lemmas.Fields.{IsBytes, IsBytes-behind, bind_ok, front_again, front_takes, guard_ok, number_again, number_takes, ok_is, skipped_again, wide32}
+use Rattle.git_index.proofs.lemmas.Fields.{IsBytes, IsBytes-behind, IsBytes-front, bind_ok, front_again, front_takes, guard_ok, number_again, number_takes, ok_is, skipped_again, wide32}
+use Rattle.git_index.proofs.lemmas.Zeros.{replicate-zeros, zeros_are}
 
 abbrev Content : Type 0
 Content = List ℕ × List ℕ
@@ -99,10 +102,14 @@ short_stop hash (Some x) stop short holds = absurd (omega (arith, short, stop_is
 pub link_read : (hash : ℕ) (x : List ℕ × List ℕ) (stop : List ℕ) (holds : StopsWith hash (Some x) stop) → link_at hash stop ≡ Ok (x, holds.1)
 link_read hash x stop holds = ap (link_at hash) holds.6 ∙ link_again x.0 x.1 holds.1 hash holds.4 holds.5
 
+ok_is_no_err : (r : Result (Content × List ℕ) IndexFault) (y : Content × List ℕ) (fault : IndexFault) → r ≡ Ok y → r ≡ Err fault → ⊥
+ok_is_no_err (Ok x) y fault a b = absurd cc
+ok_is_no_err (Err x) y fault a b = absurd cc
+
 pub link_refused : (hash : ℕ) (link : Option (List ℕ × List ℕ)) (stop : List ℕ) (fault : IndexFault) → 8 ≤ length stop → (fault ≡ Memory) ⊎ (link_at hash stop ≡ Err fault) → StopsWith hash link stop → fault ≡ Memory
 link_refused hash link stop fault long (inl memory) holds = memory
 link_refused hash None stop fault long (inr e) holds = absurd (omega (arith, long, holds))
-link_refused hash (Some x) stop fault long (inr e) holds = let two : Ok (x, holds.1) ≡ Err fault = sym (link_read hash x stop holds) ∙ e in absurd cc
+link_refused hash (Some x) stop fault long (inr e) holds = absurd (ok_is_no_err (link_at hash stop) (x, holds.1) fault (link_read hash x stop holds) e)
 
 -- what was read is the link, and what it is followed by stands behind it
 pub record IsRead (hash : ℕ) (link : Option (List ℕ × List ℕ)) (y : Content × List ℕ) : Type 0 where
@@ -134,3 +141,53 @@ no_link_stops format bytes (inr zero) = (zero.0, inr (link_stops format (zero_ha
 
 pub at_stop : (format : ObjectFormat) (link : Option (List ℕ × List ℕ)) (bytes rest : List ℕ) (n : ℕ) (x : Stops format link bytes) → rest ≡ x.stop → n ≡ hash_len format → StopsWith n link rest
 at_stop format link bytes rest n x same len = rw (same, len) x.holds
+
+abbrev pub seen_link : LinkParts → List ℕ × List ℕ
+seen_link x = (x.hash.now, x.bitmaps.now)
+
+-- a link whose hash is zero
+pub zero_is_no_link : (format : ObjectFormat) (bytes rest : List ℕ) (n : ℕ) (h b : List ℕ) → n ≡ hash_len format → ArePassedOver bytes rest → StopsWith n (Some (h, b)) rest → list_all (λ x. eqb x 0) h ≡ true → (h ≡ zero_hash format) × HasNoLink format bytes
+zero_is_no_link format bytes rest n h b n_is passed holds zeros =
+    let again : StopsWith (hash_len format) (Some (h, b)) rest = subst (λ (m : ℕ). StopsWith m (Some (h, b)) rest) n_is holds in
+    let zero : h ≡ zero_hash format = zeros_are h zeros ∙ ap (λ (m : ℕ). replicate m 0) (again.4) in
+    (zero, inr (b, subst (λ (w : List ℕ). HasLink format w b bytes) zero (stop_is_link format h b bytes rest passed again)))
+
+pub is_no_zero : (format : ObjectFormat) (h : List ℕ) → list_all (λ x. eqb x 0) h ≡ false → h ≢ zero_hash format
+is_no_zero format h other = λ is. let zeros : list_all (λ x. eqb x 0) h ≡ true = ap (list_all (λ x. eqb x 0)) is ∙ replicate-zeros (hash_len format) in absurd (false≢true (sym other ∙ zeros))
+
+pub other_is_link : (format : ObjectFormat) (bytes rest : List ℕ) (n : ℕ) (h b : List ℕ) → n ≡ hash_len format → ArePassedOver bytes rest → StopsWith n (Some (h, b)) rest → list_all (λ x. eqb x 0) h ≡ false → HasLink format h b bytes × (h ≢ zero_hash format)
+other_is_link format bytes rest n h b n_is passed holds other =
+    (stop_is_link format h b bytes rest passed (subst (λ (m : ℕ). StopsWith m (Some (h, b)) rest) n_is holds), is_no_zero format h other)
+
+pub some_is : (x y : List ℕ × List ℕ) → ◌≡◌ {A = Option (List ℕ × List ℕ)} (Some x) (Some y) → x ≡ y
+some_is x y e = cc
+
+pub none_is_no_some : (y : List ℕ × List ℕ) → ◌≡◌ {A = Option (List ℕ × List ℕ)} None (Some y) → ⊥
+none_is_no_some y e = absurd cc
+
+pub some_is_no_none : (y : List ℕ × List ℕ) → ◌≡◌ {A = Option (List ℕ × List ℕ)} (Some y) None → ⊥
+some_is_no_none y e = absurd cc
+
+-- by whether there is one
+pub none_has : (o : Option LinkParts) (A : Type 0) (P : LinkParts → Type 0) → MatchOption o A P → is_some o ≡ false → A
+none_has None A P h none = h
+none_has (Some x) A P h none = absurd cc
+
+pub some_has : (o : Option LinkParts) (A : Type 0) → MatchOption o A (λ x. ⊥) → is_some o ≡ true → ⊥
+some_has None A h some = absurd cc
+some_has (Some x) A h some = h
+
+-- the bitmaps of a file's link are bytes
+pub link_fits : (format : ObjectFormat) (h b bytes extensions : List ℕ) (own : List Tracked) → IsBytes bytes → IsFile format bytes own extensions → HasLink format h b extensions → IsBytes b
+link_fits format h b bytes extensions own fits file link =
+    let f0 = IsBytes-front file.content file.checksum bytes file.joined fits in
+    let f1 = IsBytes-behind (codes "DIRC") (to_be_bytes w32 file.version ++ (to_be_bytes w32 (length own) ++ (file.texts ++ extensions))) file.content file.content_is f0 in
+    let f2 = IsBytes-behind (to_be_bytes w32 file.version) (to_be_bytes w32 (length own) ++ (file.texts ++ extensions)) (to_be_bytes w32 file.version ++ (to_be_bytes w32 (length own) ++ (file.texts ++ extensions))) refl f1 in
+    let f3 = IsBytes-behind (to_be_bytes w32 (length own)) (file.texts ++ extensions) (to_be_bytes w32 (length own) ++ (file.texts ++ extensions)) refl f2 in
+    let f4 = IsBytes-behind file.texts extensions (file.texts ++ extensions) refl f3 in
+    let text = extension_text (codes "link", h ++ b) in
+    let f5 = IsBytes-behind (flat_map extension_text link.first.0) (text ++ link.behind) extensions link.first.2 f4 in
+    let f6 = IsBytes-front text link.behind (text ++ link.behind) refl f5 in
+    let f7 = IsBytes-behind (codes "link") (to_be_bytes w32 (length (h ++ b)) ++ (h ++ b)) text refl f6 in
+    let f8 = IsBytes-behind (to_be_bytes w32 (length (h ++ b))) (h ++ b) (to_be_bytes w32 (length (h ++ b)) ++ (h ++ b)) refl f7 in
+    IsBytes-behind h b (h ++ b) refl f8

@@ -186,6 +186,9 @@ pushed-nil count marks = refl
 
 -- ---- words
 
+abbrev Words : Type 0
+Words = Result (List Bool × List ℕ) IndexFault
+
 pub record TakesWords (count n due : ℕ) (marks : List Bool) (bytes : List ℕ) (x : List Bool × List ℕ) : Type 0 where
   pub words : List ℕ
   pub bits : List Bool
@@ -219,18 +222,21 @@ unfolding words_at
 words_again count due [] bits marks m rest spelled pushes =
     let none : pushed count marks [] ≡ Ok m = subst (λ (w : List Bool). pushed count marks w ≡ Ok m) spelled.1 pushes in
     let same : marks ≡ m = ok_is marks m (sym (pushed-nil count marks) ∙ none) in
-    rw (spelled.0, same) refl
+    let read : words_at count 0 0 marks rest ≡ Ok (m, rest) = ap (λ (w : List Bool). Ok (w, rest)) same in
+    subst (λ (d : ℕ). words_at count 0 d marks rest ≡ Ok (m, rest)) (sym spelled.0) read
 words_again count due (word ∷ words) bits marks m rest spelled pushes =
     let more = spelled.0 in
     let both : (pushed count marks (bits_of due word) >>= λ w. pushed count w more) ≡ Ok m = sym (pushed-append count marks (bits_of due word) more) ∙ subst (λ (w : List Bool). pushed count marks w ≡ Ok m) spelled.2 pushes in
     let a = bind_ok (pushed count marks (bits_of due word)) (λ w. pushed count w more) m both in
-    let regrouped : flat_map (to_be_bytes w64) (word ∷ words) ++ rest ≡ to_be_bytes w64 word ++ (flat_map (to_be_bytes w64) words ++ rest) = append_assoc (to_be_bytes w64 word) (flat_map (to_be_bytes w64) words) rest in
-    rw (regrouped, number_again w64 (2 ^ 64) wide64 word (flat_map (to_be_bytes w64) words ++ rest) spelled.1, a.1) (words_again count (due_after due word) words more a.0 m rest spelled.3 a.2)
+    let tail = flat_map (to_be_bytes w64) words ++ rest in
+    let regrouped : flat_map (to_be_bytes w64) (word ∷ words) ++ rest ≡ to_be_bytes w64 word ++ tail = append_assoc (to_be_bytes w64 word) (flat_map (to_be_bytes w64) words) rest in
+    let step : ℕ × List ℕ → Words = λ x. pushed count marks (bits_of due x.0) >>= λ w. words_at count (length words) (due_after due x.0) w x.1 in
+    ap (λ (w : List ℕ). number_at w64 w >>= step) regrouped
+    ∙ ap (λ (r : Result (ℕ × List ℕ) IndexFault). r >>= step) (number_again w64 (2 ^ 64) wide64 word tail spelled.1)
+    ∙ ap (λ (r : Pushed). r >>= λ w. words_at count (length words) (due_after due word) w tail) a.1
+    ∙ words_again count (due_after due word) words more a.0 m rest spelled.3 a.2
 
 -- reading one word after the other, as a loop does
-
-abbrev Words : Type 0
-Words = Result (List Bool × List ℕ) IndexFault
 
 pub words_go_on : (count words i due : ℕ) (marks m : List Bool) (bytes after : List ℕ) (word next : ℕ) (total : Words) → i < words → number_at w64 bytes ≡ Ok (word, after) → pushed count marks (bits_of due word) ≡ Ok m → next ≡ due_after due word
     → words_at count (words - i) due marks bytes ≡ total → words_at count (words - (i + 1)) next m after ≡ total

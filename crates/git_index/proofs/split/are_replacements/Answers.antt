@@ -1,7 +1,9 @@
+use Rattle.std.proofs.Common.{◌≡◌, ◌∙◌, ◌&&◌, Bool, true, false, map, sym, ap}
+use Rattle.git_index.proofs.lemmas.Joined.{are_replacements_by}
 use Rattle.git_index.proofs.split.are_replacements.Goals as goal
 
-pub returns-then-all : goal.returns-then-all
-returns-then-all c = ?
+pub returns-then-is_unnamed-clause-are : goal.returns-then-is_unnamed-clause-are
+returns-then-is_unnamed-clause-are c = ?
 
-pub returns-else-all : goal.returns-else-all
-returns-else-all c = ?
+pub returns-else-is_unnamed-clause-are : goal.returns-else-is_unnamed-clause-are
+returns-else-is_unnamed-clause-are c = ?
