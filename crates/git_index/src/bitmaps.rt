@@ -12,12 +12,7 @@ const WORD_BITS: u64 = 64;
 
 /// Adds a bit so many times, and each is the mark of an entry. There are `count` entries; for the bits behind them there is no mark, and
 /// none may be set.
-fn push_bits(
-    marks: &mut Vec<bool>,
-    count: usize,
-    bit: bool,
-    len: u64,
-) -> Result<(), IndexFault>
+fn push_bits(marks: &mut Vec<bool>, count: usize, bit: bool, len: u64) -> Result<(), IndexFault>
     ensures { Gives (λ _. marks.new.items) result (pushed count marks.old.items (replicate len bit)) }
 {
     let room = count.saturating_sub(marks.len()) as u64;
@@ -42,12 +37,7 @@ fn push_plain(marks: &mut Vec<bool>, count: usize, word: u64) -> Result<(), Inde
 }
 
 /// Adds what a word stands for, where so many plain words are due, and tells how many are due then.
-fn push_word(
-    marks: &mut Vec<bool>,
-    count: usize,
-    due: u64,
-    word: u64,
-) -> Result<u64, IndexFault>
+fn push_word(marks: &mut Vec<bool>, count: usize, due: u64, word: u64) -> Result<u64, IndexFault>
     ensures marks { Gives (λ _. marks.new.items) result (pushed count marks.old.items (bits_of due word)) }
     ensures due { IfOk result (λ after. after ≡ due_after due word) }
 {
@@ -85,11 +75,7 @@ fn words_of(
 
 /// The marks of the bitmap at the front, one for each of so many entries up to the last that is marked, and what follows it.
 #[tactic(auto, unfolding(crate::specs::Private::Reading::marks_at))]
-pub fn marks_of(
-    alloc: Global,
-    count: usize,
-    bytes: &[u8],
-) -> Result<(Vec<bool>, &[u8]), IndexFault>
+pub fn marks_of(alloc: Global, count: usize, bytes: &[u8]) -> Result<(Vec<bool>, &[u8]), IndexFault>
     ensures { Gives (λ x. (x.0.items, x.1.now)) result (marks_at count bytes.now) }
 {
     let rest = skip(bytes, 4)?;

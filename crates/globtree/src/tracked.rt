@@ -72,7 +72,10 @@ impl IndexFile {
                 return Ok(bytes);
             }
         }
-        bail!("{}: the shared file 'sharedindex.{hash}' isn't there", self.name)
+        bail!(
+            "{}: the shared file 'sharedindex.{hash}' isn't there",
+            self.name
+        )
     }
 
     /// A fault that reading it met.

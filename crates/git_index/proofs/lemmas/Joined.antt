@@ -202,3 +202,7 @@ are_replacements_by own new added count a b few new_is added_is a_is b_is =
     let one : a ≡ list_all (λ e. eqb (length e.path) 0) (take count (map tracked own)) = a_is ∙ unnamed_map new ∙ ap (λ (v : List Entry). list_all (λ e. eqb (length e.path) 0) (map tracked v)) new_is ∙ ap (list_all (λ e. eqb (length e.path) 0)) (sym (take-map tracked count own)) in
     let two : b ≡ list_all (λ e. not (eqb (length e.path) 0)) (drop count (map tracked own)) = b_is ∙ named_map added ∙ ap (λ (v : List Entry). list_all (λ e. not (eqb (length e.path) 0)) (map tracked v)) added_is ∙ ap (list_all (λ e. not (eqb (length e.path) 0))) (sym (drop-map tracked count own)) in
     rw (long, ← one, ← two) refl
+
+pub none_follow : (own new added : List Entry) (count : ℕ) (a : Bool) → count ≤ length own → new ≡ take count own → added ≡ drop count own → a ≡ list_all (λ e. eqb (vec_len e.path) 0) new → a ≡ false → are_replacements (map tracked own) count ≡ false
+none_follow own new added count a few new_is added_is a_is no =
+    are_replacements_by own new added count a (list_all (λ e. not (eqb (vec_len e.path) 0)) added) few new_is added_is a_is refl ∙ rw no refl

@@ -3,8 +3,9 @@ use Rattle.std.specs.Prelude.{count_by}
 use Rattle.std.proofs.lemmas.List.{length-map, length-take, take-map}
 use Rattle.std.proofs.lemmas.Result.{err_from_is_err_and}
 use Rattle.git_index.specs.declared.entry.Entry.{Entry}
-use Rattle.git_index.specs.Entries.{tracked}
+use Rattle.git_index.specs.Entries.{Tracked, tracked}
 use Rattle.git_index.specs.Private.Reading.{are_replacements}
+use Rattle.git_index.specs.Split.{replaced_by, unmarked}
 use Rattle.git_index.proofs.lemmas.Joined.{bytes_stand_behind, deletions_fail, joined_is, names_differ, replacements_fail}
 use Rattle.git_index.proofs.split.joined.Goals as goal
 
@@ -35,4 +36,15 @@ slice_bounds-kept-end c =
     omega (arith, fit, own, length-take c.marked-count.result c.deref-3.result.now)
 
 pub returns : goal.returns
-returns c = ?
+returns c =
+    let k = c.marked-count.result in
+    let shared = map tracked c.args.shared.items in
+    let replaced = c.in_ok-replaced.replaced.items in
+    let told : are_replacements (map tracked c.args.own.items) k ≡ true = ap (λ (w : List Entry). are_replacements (map tracked w) k) (sym c.deref-2.ensures.value) ∙ sym c.are_replacements.ensures.are ∙ c.if-not-are_replacements.false in
+    let kept_is = c.in_ok-kept.ensures
+    ∙ ap (λ (w : List Bool). unmarked (replaced_by shared w (map tracked (take k c.deref-3.result.now))) c.deref-5.result.now) c.deref-4.ensures.value
+    ∙ ap (λ (w : List Entry). unmarked (replaced_by shared replaced (map tracked (take k w))) c.deref-5.result.now) c.deref-3.ensures.value
+    ∙ ap (λ (w : List Tracked). unmarked (replaced_by shared replaced w) c.deref-5.result.now) (sym (take-map tracked k c.args.own.items))
+    ∙ ap (λ (w : List Bool). unmarked (replaced_by shared replaced (take k (map tracked c.args.own.items))) w) c.deref-5.ensures.value in
+    joined_is shared (map tracked c.args.own.items) c.args.bitmaps.now c.len-places.result k (c.in_ok-deleted.deleted.items, c.in_ok-deleted.rest.now) (c.in_ok-replaced.replaced.items, c.in_ok-replaced.behind.now) (map tracked c.in_ok-kept.kept.items) (map tracked c.in_ok-entries.entries.items) (omega (arith, c.args.shared.ok.0, length-map c.args.shared.items tracked)) c.in_ok-deleted.ensures c.in_ok-replaced.ensures
+    (sym c.is_empty.ensures ∙ c.if-not-is_empty.false) (c.marked-count.ensures ∙ ap (λ (w : List Bool). count_by (λ mark. mark) w) c.deref.ensures.value) told kept_is c.in_ok-entries.ensures
