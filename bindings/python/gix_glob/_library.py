@@ -17,6 +17,7 @@ from __future__ import annotations
 
 import ctypes
 from array import array
+from functools import partial
 from itertools import accumulate
 from typing import Any, Iterable, Optional, Sequence
 
@@ -109,7 +110,7 @@ class Rules:
         told = ctypes.byref(lines), ctypes.byref(parts)
         readings = bytearray()
         numbers = array("Q")
-        for line in iter(lambda: take_line(*told), END):
+        for line in iter(partial(take_line, *told), END):
             if line == PATTERN:
                 readings += parts
                 numbers.append(lines.number)

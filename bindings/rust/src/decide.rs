@@ -68,7 +68,9 @@ impl Pattern for IgnoreLines {
 
     fn bytes_to_patterns(&self, bytes: &[u8], _source: &Path) -> Vec<Mapping<()>> {
         let lines = library::ignore_lines(bytes);
-        lines.map(|(sequence_number, it)| Mapping { pattern: it.pattern_of(bytes), value: (), sequence_number }).collect()
+        lines
+            .map(|(sequence_number, it)| Mapping { pattern: it.pattern_of(bytes), value: (), sequence_number })
+            .collect()
     }
 }
 
