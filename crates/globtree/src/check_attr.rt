@@ -57,7 +57,7 @@ pub(crate) fn check_attr<R: Files + Env + Eprint + AllocGlobal, I: Read, O: Writ
         }
     };
     let (names, paths) = operands.words.split_at(count);
-    let outer = outer_attributes(rt, alloc, options)?;
+    let (outer, indexed) = outer_attributes(rt, alloc, options)?;
     if let Some(name) = wrong_name(names) {
         tell_line(
             rt,
@@ -68,7 +68,7 @@ pub(crate) fn check_attr<R: Files + Env + Eprint + AllocGlobal, I: Read, O: Writ
     }
     let asked_names = bytes_of(alloc, names)?;
     let question = question_of(&outer, &asked_names, options, flags);
-    let source = AttributeFiles::new(rt, alloc, &outer.indexed);
+    let source = AttributeFiles::new(rt, alloc, &indexed);
     if flags.stdin {
         answer_input(alloc, &question, source, input, output)?;
         return Ok(ANSWERED);

@@ -5,7 +5,7 @@ ghost use Rattle.gix_glob.specs.Watched.{has_failed, inner};
 ghost use Rattle.globtree.specs.Answers.{AnswersIgnore, ReadsIgnore, TellsIgnore};
 ghost use Rattle.globtree.specs.Running.{IsAnswered, asked_by_flags};
 
-use crate::fronts::{case_of, fronts_of, tree_behind};
+use crate::fronts::{Fronts, case_of, fronts_of, tree_behind};
 use crate::index_use::IndexUse;
 use crate::pathspec_settings::{refuse_settings, refuse_settings_for};
 use crate::running::ANSWERED;
@@ -48,17 +48,25 @@ pub(crate) fn check_ignore<R: Files + Env + Eprint + AllocGlobal, I: Read, O: Wr
         bail!("{message}");
     }
     let fronts = fronts_of(rt, alloc, options, index_by(flags))?;
-    let case = case_of(options, fronts.folds);
-    let tree = tree_behind(rt, alloc, fronts.lists, &fronts.indexed, case)?;
+    let Fronts {
+        standpoint,
+        lists,
+        folds,
+        quoting,
+        tracked,
+        indexed,
+        ..
+    } = fronts;
+    let case = case_of(options, folds);
+    let tree = tree_behind(rt, alloc, lists, &indexed, case)?;
     let kinds = FileKinds::new(rt, alloc);
-    let tracked = TrackedPaths::new(fronts.tracked);
+    let tracked = TrackedPaths::new(tracked);
     let sources = IgnoreSources {
         tree,
         kinds,
         tracked,
     };
-    let standpoint = fronts.standpoint;
-    let asked = asked_by_flags(flags, fronts.quoting);
+    let asked = asked_by_flags(flags, quoting);
     if flags.stdin {
         refuse_settings_for(rt, alloc, input)?;
         let is_any = answer_input(alloc, &standpoint, asked, sources, input, output)?;

@@ -24,8 +24,6 @@ pub(crate) struct OuterAttributes {
     user: Vec<u8>,
     top: Vec<u8>,
     info: Vec<u8>,
-    /// The folders whose attribute file Git takes from the index if the work tree hasn't it.
-    pub(crate) indexed: IndexedFiles,
 }
 
 impl OuterAttributes {
@@ -40,12 +38,13 @@ impl OuterAttributes {
     }
 }
 
-/// Goes to the top, and reads the files that don't depend on a path.
+/// Goes to the top, and reads the files that don't depend on a path. It answers these, and the folders whose attribute file Git takes
+/// from the index if the work tree hasn't it.
 pub(crate) fn outer_attributes<R: Files + Env + Eprint + AllocGlobal>(
     rt: &R,
     alloc: Global,
     options: Options<'_>,
-) -> Result<OuterAttributes> {
+) -> Result<(OuterAttributes, IndexedFiles)> {
     go_to_folders(rt, alloc, options)?;
     let none = IndexedFiles::none(alloc);
     let reader = AttributeFiles::new(rt, alloc, &none);
@@ -68,7 +67,7 @@ pub(crate) fn outer_attributes<R: Files + Env + Eprint + AllocGlobal>(
     };
     let top = AttributeFiles::new(rt, alloc, &indexed).top()?;
     let info = reader.file(own_attributes)?;
-    Ok(OuterAttributes {
+    let outer = OuterAttributes {
         standpoint,
         folds,
         quoting,
@@ -76,8 +75,8 @@ pub(crate) fn outer_attributes<R: Files + Env + Eprint + AllocGlobal>(
         user,
         top,
         info,
-        indexed,
-    })
+    };
+    Ok((outer, indexed))
 }
 
 /// The bytes of a file that is named.
