@@ -1,3 +1,4 @@
+pub mod FrontLemmas
 pub mod InputLemmas
 pub mod ListingLemmas
 pub mod OperandLemmas

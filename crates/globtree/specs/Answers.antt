@@ -6,6 +6,7 @@ use Rattle.config_answers.specs.Answers.{Asked, All, Last, Values, answer_of, ha
 use Rattle.git_config.specs.Configuration.{Seen}
 use Rattle.git_config.specs.Words.{canonical_of}
 use Rattle.git_index.specs.Entries.{Tracked}
+use Rattle.gix_glob.specs.EntryLists.{EntryList}
 use Rattle.gix_glob.specs.declared.pattern.Case.{Case}
 use Rattle.gix_glob.specs.declared.pattern.Case.TheVariants.{Fold, Sensitive}
 use Rattle.glob_lines.specs.Transfers.{ReadsWhole, Run}
@@ -27,7 +28,7 @@ use Rattle.tree_commands.specs.TrackedFiles.{AreIgnored, names_alone, paths_aske
 use Rattle.tree_commands.specs.declared.check_ignore.flags.IgnoreFlags.{IgnoreFlags}
 use Rattle.tree_commands.specs.declared.files.mark.Mark.{Mark}
 use Rattle.tree_commands.specs.declared.files.mark.Mark.TheVariants as marks
-use Rattle.tree_files.specs.FileLists.{IsOfFolder}
+use Rattle.tree_files.specs.FileLists.{IsOfFolder, IsSpelled}
 use Rattle.tree_words.specs.CheckAttr.{names_first}
 use Rattle.tree_words.specs.declared.check_attr.CheckAttrFlags.{CheckAttrFlags}
 use Rattle.tree_words.specs.declared.check_ignore.CheckIgnoreFlags.{CheckIgnoreFlags}
@@ -52,40 +53,45 @@ any_file folder file = Unit {0}
 abbrev pub case_by : Options → Bool → Case
 case_by options folds = if options.ignore_case || folds then Fold else Sensitive
 
--- The text about each path that the input names was written, and all of it was read. Words spell paths that are told from the standpoint
--- or from the top, these are tracked, and patterns are matched by these rules.
-pub record ReadsIgnore (standpoint : Standpoint) (tracked : List Tracked) (rules : Rules) (flags : IgnoreFlags) (is_any : Bool) (left rest old new : Option (List ℕ)) : Type 0 where
-  pub question : Question
-  pub from : (question.leads ≡ word_leads standpoint) × (question.literal ≡ word_front standpoint)
-  pub beside : question.tracked ≡ tracked
-  pub by_rules : question.rules ≡ rules
-  pub asks : question.flags ≡ flags
-  pub run : Run (ReadsWhole left rest)
-      (AnswersAll (TextOfNamed (IsIgnoreAnswer question IsOfFolder) (IsStatus question IsOfFolder is_any) flags.form) (behind flags.form 10)) (Appends old new)
+-- the list is what some bytes of some file spell, as Git reads them
+abbrev pub IsOfSomeFile : EntryList (Unit {0}) → Type 0
+IsOfSomeFile list = (name : List ℕ) × IsSpelled name list
+
+-- the lists before those of all folders, and how many they are: of the file of excludes, and of the repository's own
+pub record AreFronts (count : ℕ) (lists : List (EntryList (Unit {0}))) : Type 0 where
+  pub outer : EntryList (Unit {0})
+  pub own : EntryList (Unit {0})
+  pub both : (count ≡ 2) × (lists ≡ outer ∷ own ∷ [])
+  pub spelled : IsOfSomeFile outer × IsOfSomeFile own
+
+-- the text about each path that the input names was written, and all of it was read
+abbrev pub ReadsIgnore : Question → Bool → Option (List ℕ) → Option (List ℕ) → Option (List ℕ) → Option (List ℕ) → Type 0
+ReadsIgnore question is_any left rest old new =
+    Run (ReadsWhole left rest)
+    (AnswersAll (TextOfNamed (IsIgnoreAnswer question IsOfFolder) (IsStatus question IsOfFolder is_any) question.flags.form) (behind question.flags.form 10)) (Appends old new)
 
 -- the text about each of these paths was written
-pub record TellsIgnore (standpoint : Standpoint) (tracked : List Tracked) (rules : Rules) (flags : IgnoreFlags) (paths : List (List ℕ)) (is_any : Bool) (old new : Option (List ℕ)) : Type 0 where
-  pub question : Question
-  pub from : (question.leads ≡ word_leads standpoint) × (question.literal ≡ word_front standpoint)
-  pub beside : question.tracked ≡ tracked
-  pub by_rules : question.rules ≡ rules
-  pub asks : question.flags ≡ flags
-  pub writes : Writes (TextOfPaths (IsIgnoreAnswer question IsOfFolder) (IsStatus question IsOfFolder is_any) paths) (Appends old new)
+abbrev pub TellsIgnore : Question → List (List ℕ) → Bool → Option (List ℕ) → Option (List ℕ) → Type 0
+TellsIgnore question paths is_any old new = Writes (TextOfPaths (IsIgnoreAnswer question IsOfFolder) (IsStatus question IsOfFolder is_any) paths) (Appends old new)
 
--- The words behind `check-ignore` were answered from some standpoint, whatever the configuration and the index say; with `--no-index`
--- nothing is tracked. With `--stdin` the paths are those that are read, else those among the words. The status says whether a line
--- decides about one.
+-- The words behind `check-ignore` were answered, whatever the configuration and the index say. They spell paths that are told from some
+-- standpoint, or from the top; with `--no-index` nothing is tracked. With `--stdin` the paths are those that are read, else those among
+-- the words. The status says whether a line decides about one.
 pub record AnswersIgnore (options : Options) (flags : CheckIgnoreFlags) (words : List (List ℕ)) (status : ℕ) (left rest old new : Option (List ℕ)) : Type 0 where
   pub standpoint : Standpoint
   pub folds : Bool
   pub quoting : Quoting
-  pub tracked : List Tracked
-  pub of_index : IsOfIndex tracked
-  pub without : flags.no_index ≡ true → tracked ≡ []
+  pub question : Question
+  pub from : (question.leads ≡ word_leads standpoint) × (question.literal ≡ word_front standpoint)
+  pub of_index : IsOfIndex question.tracked
+  pub without : flags.no_index ≡ true → question.tracked ≡ []
+  pub before : AreFronts question.front_count question.fronts
+  pub by_rules : question.rules ≡ by_git (case_by options folds)
+  pub asks : question.flags ≡ asked_by_flags flags quoting
   pub is_any : Bool
   pub ends : status ≡ (if is_any then 0 else 1)
-  pub read : flags.stdin ≡ true → ReadsIgnore standpoint tracked (by_git (case_by options folds)) (asked_by_flags flags quoting) is_any left rest old new
-  pub told : flags.stdin ≡ false → TellsIgnore standpoint tracked (by_git (case_by options folds)) (asked_by_flags flags quoting) (operands_among words) is_any old new
+  pub read : flags.stdin ≡ true → ReadsIgnore question is_any left rest old new
+  pub told : flags.stdin ≡ false → TellsIgnore question (operands_among words) is_any old new
 
 -- the states for each path that the input names were written, and all of it was read
 abbrev pub ReadsStates : Query → Option (List ℕ) → Option (List ℕ) → Option (List ℕ) → Option (List ℕ) → Type 0
@@ -125,6 +131,7 @@ pub record ListsIgnored (standpoint : Standpoint) (rules : Rules) (form : Form) 
   pub question : Question
   pub from : (question.leads ≡ led standpoint) × (question.literal ≡ literal_front standpoint)
   pub beside : question.tracked ≡ []
+  pub before : AreFronts question.front_count question.fronts
   pub by_rules : question.rules ≡ rules
   pub asks : question.flags ≡ names_alone form
   pub writes : Writes (AreIgnored question IsOfFolder standpoint paths) (Appends old new)

@@ -1,7 +1,8 @@
 //! The lists of patterns that count before those of all folders, and the tree that they begin.
-ghost use Rattle.std.specs.Prelude.{◌≡◌, ◌≢◌, [], IfOk};
+ghost use Rattle.std.specs.Prelude.{◌≡◌, ◌≢◌, [], IfOk, length, map};
+ghost use Rattle.gix_glob.specs.EntryLists.{entry_list_of};
 ghost use Rattle.glob_lists.specs.Rules.{by_git};
-ghost use Rattle.globtree.specs.Answers.{case_by};
+ghost use Rattle.globtree.specs.Answers.{AreFronts, IsOfSomeFile, case_by};
 ghost use Rattle.globtree.specs.Tracked.{IsOfIndex};
 
 use crate::excludes::{excludes, named_excludes};
@@ -52,6 +53,7 @@ pub(crate) fn fronts_of<R: Files + Env + Eprint + AllocGlobal>(
     index: IndexUse,
 ) -> Result<Fronts>
     ensures tracked { IfOk result (λ fronts. IsOfIndex fronts.tracked) }
+    ensures before { IfOk result (λ fronts. AreFronts (length fronts.lists.items) (map (entry_list_of (λ _. tt)) fronts.lists.items)) }
     ensures unread { IfOk result (λ fronts. index ≢ IndexUse.Paths → fronts.tracked ≡ []) }
 {
     go_to_folders(rt, alloc, options)?;
@@ -95,7 +97,9 @@ fn usual_excludes<R: Files + Eprint>(
     rt: &R,
     alloc: Global,
     file: Option<Vec<u8>>,
-) -> Result<List<IgnoreLines>> {
+) -> Result<List<IgnoreLines>>
+    ensures { IfOk result (λ list. IsOfSomeFile (entry_list_of (λ _. tt) list)) }
+{
     match file {
         Some(file) => excludes(rt, alloc, path_text(alloc, &file)?),
         None => Ok(List::empty(alloc)),
@@ -110,7 +114,9 @@ pub(crate) fn tree_behind<'a, R: Files + Eprint>(
     indexed: &'a IndexedFiles,
     case: Case,
 ) -> Result<Tree<IgnoreLines, FolderFiles<'a, R>>>
-    ensures { IfOk result (λ tree. tree.rules ≡ by_git case) }
+    ensures rules { IfOk result (λ tree. tree.rules ≡ by_git case) }
+    ensures count { IfOk result (λ tree. tree.front_count ≡ length lists.items) }
+    ensures before { IfOk result (λ tree. tree.lists ≡ lists.items) }
 {
     let source = FolderFiles::new(rt, alloc, indexed);
     let mut tree = Tree::new(alloc, source, lists, Rules::by_git(case)).context(

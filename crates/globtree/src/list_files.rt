@@ -1,9 +1,10 @@
 //! The command `files`.
-ghost use Rattle.std.specs.Prelude.{◌≡◌, IfOk, MatchBool, OnOk, false};
+ghost use Rattle.std.specs.Prelude.{◌≡◌, IfOk, MatchBool, OnOk, false, length, map};
+ghost use Rattle.gix_glob.specs.EntryLists.{entry_list_of};
 ghost use Rattle.gix_glob.specs.Watched.{has_failed, inner};
 ghost use Rattle.glob_lists.specs.Rules.{by_git};
 ghost use Rattle.tree_commands.specs.declared.files.mark.Mark.TheVariants as marks;
-ghost use Rattle.globtree.specs.Answers.{AnswersFiles, ListsFound, ListsIgnored, ListsTracked, case_by};
+ghost use Rattle.globtree.specs.Answers.{AnswersFiles, AreFronts, ListsFound, ListsIgnored, ListsTracked, case_by};
 ghost use Rattle.globtree.specs.Running.{IsAnswered, chosen_by, folders_by, form_by};
 
 use crate::fronts::{Fronts, case_of, fronts_of, tree_behind};
@@ -141,7 +142,8 @@ fn list_tracked_by<R: Files + Env + Eprint + AllocGlobal, O: Write>(
     folder: &str,
     output: &mut Watched<O>,
 ) -> Result<()>
-    requires { has_failed output.old ≡ false }
+    requires working { has_failed output.old ≡ false }
+    requires before { AreFronts (length fronts.lists.items) (map (entry_list_of (λ _. tt)) fronts.lists.items) }
     ensures { OnOk result (MatchBool flags.ignored
         (ListsIgnored fronts.standpoint (by_git (case_by options.entry fronts.folds)) (form_by flags.nul fronts.quoting) fronts.tracked folder.now (O.contents (inner output.old)) (O.contents (inner output.new)))
         (ListsTracked fronts.standpoint (form_by flags.nul fronts.quoting) fronts.tracked folder.now (O.contents (inner output.old)) (O.contents (inner output.new)))) }

@@ -1,9 +1,10 @@
 //! Tracked paths, as `files -c` lists them.
-ghost use Rattle.std.specs.Prelude.{◌≡◌, ℕ, IfOk, List, OnOk, Some, false, map};
+ghost use Rattle.std.specs.Prelude.{◌≡◌, ℕ, IfOk, List, OnOk, Some, false, map, take};
 ghost use Rattle.std.specs.Borrow.{Bor};
+ghost use Rattle.gix_glob.specs.EntryLists.{entry_list_of};
 ghost use Rattle.gix_glob.specs.Watched.{has_failed, inner};
 ghost use Rattle.tree_commands.specs.TrackedFiles.{paths_asked};
-ghost use Rattle.globtree.specs.Answers.{ListsIgnored, ListsTracked};
+ghost use Rattle.globtree.specs.Answers.{AreFronts, ListsIgnored, ListsTracked};
 
 use crate::check_ignore::told_fault;
 use anyhow::Result;
@@ -47,7 +48,8 @@ pub(crate) fn list_tracked_ignored<R: Files + Eprint, O: Write>(
     folder: &str,
     output: &mut Watched<O>,
 ) -> Result<()>
-    requires { has_failed output.old ≡ false }
+    requires working { has_failed output.old ≡ false }
+    requires before { AreFronts tree.entry.front_count (take tree.entry.front_count (map (entry_list_of (λ _. tt)) tree.entry.lists)) }
     ensures { OnOk result (ListsIgnored standpoint.now tree.entry.rules form tracked.now folder.now (O.contents (inner output.old)) (O.contents (inner output.new))) }
 {
     let paths = asked_paths(alloc, standpoint, tracked, folder)?;

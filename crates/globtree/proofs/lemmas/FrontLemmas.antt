@@ -1,0 +1,18 @@
+-- The lists that stand before those of all folders.
+use Rattle.std.proofs.Common.{◌≡◌, ℕ, List, [], ◌∷◌, refl, ap, subst, sym, length, map, take}
+use Rattle.gix_glob.specs.EntryLists.{EntryList, entry_list_of}
+use Rattle.gix_glob.specs.declared.search.pattern.list.List as patterns
+use Rattle.globtree.specs.Answers.{AreFronts}
+
+take_all : {A B : Type 0} (f : A → B) (items : List A) → take (length items) (map f items) ≡ map f items
+take_all f [] = refl
+take_all f (x ∷ items) = ap (λ more. f x ∷ more) (take_all f items)
+
+-- what holds of the lists that a tree is made of holds of those that it begins with
+pub fronts_of_tree : {T X : Type 0} (count : ℕ) (all items : List (patterns.List T X)) → count ≡ length items → all ≡ items
+    → AreFronts (length items) (map (entry_list_of (λ _. tt)) items) → AreFronts count (take count (map (entry_list_of (λ _. tt)) all))
+fronts_of_tree {T} {X} count all items counted same are =
+    let see : patterns.List T X → EntryList (Unit {0}) = entry_list_of (λ _. tt) in
+    subst (λ n. AreFronts n (take n (map see all))) (sym counted)
+        (subst (λ lists. AreFronts (length items) (take (length items) (map see lists))) (sym same)
+        (subst (AreFronts (length items)) (sym (take_all see items)) are))
