@@ -2,7 +2,7 @@
 use Rattle.std.proofs.Common.{◌≡◌, ◌≢◌, ◌⊎◌, ℕ, zero, suc, inl, inr, map, vec_len, ◌+◌, ◌<◌, ◌≤◌, Bool, true, false, cond, eqb, leb, ◌&&◌, not, List, [], ◌∷◌, ◌++◌, length, take, drop, Result, Ok, Err, refl, sym, ap, subst, ◌∙◌, arith}
 use Rattle.std.specs.Prelude.{count_by}
 use Rattle.std.specs.List.{AllByRecursion, list_all}
-use Rattle.std.proofs.lemmas.Bool.{eqb-true, eq-eqb, leb-true, le-leb, false≢true}
+use Rattle.std.proofs.lemmas.Bool.{eqb-true, eq-eqb, leb-true, le-leb, lt-leb, false≢true}
 use Rattle.std.proofs.lemmas.List.{append-nil, drop-map, drop_at, length-append, length-map, length-take, take-map, take_at, take-append-drop}
 use Rattle.git_index.specs.declared.fault.IndexFault.{IndexFault}
 use Rattle.git_index.specs.declared.fault.IndexFault.TheVariants.{Link, Memory, Replacements}
@@ -155,8 +155,8 @@ bytes_stand_behind shared own bitmaps n d r n_is d-is r-is more = last_step shar
 
 pub names_differ : (shared own : List Tracked) (bitmaps : List ℕ) (n k : ℕ) (d r : Marks) → n ≡ length shared → marks_at n bitmaps ≡ Ok d → marks_at n d.1 ≡ Ok r → eqb (length r.1) 0 ≡ true → k ≡ mark_count r.0 → are_replacements own k ≡ false
     → joined_at shared own bitmaps ≡ Err Replacements
-names_differ shared own bitmaps n k d r n_is d-is r-is end k_is no =
-    let told : are_replacements own (mark_count r.0) ≡ false = subst (λ (m : ℕ). are_replacements own m ≡ false) k_is no in
+names_differ shared own bitmaps n k d r n_is d-is r-is end k_is differ =
+    let told : are_replacements own (mark_count r.0) ≡ false = subst (λ (m : ℕ). are_replacements own m ≡ false) k_is differ in
     last_step shared own bitmaps n d r n_is d-is r-is ∙ rw (end, told) refl
 
 pub joined_is : (shared own : List Tracked) (bitmaps : List ℕ) (n k : ℕ) (d r : Marks) (kept joined : List Tracked) → n ≡ length shared → marks_at n bitmaps ≡ Ok d → marks_at n d.1 ≡ Ok r → eqb (length r.1) 0 ≡ true → k ≡ mark_count r.0
@@ -204,5 +204,11 @@ are_replacements_by own new added count a b few new_is added_is a_is b_is =
     rw (long, ← one, ← two) refl
 
 pub none_follow : (own new added : List Entry) (count : ℕ) (a : Bool) → count ≤ length own → new ≡ take count own → added ≡ drop count own → a ≡ list_all (λ e. eqb (vec_len e.path) 0) new → a ≡ false → are_replacements (map tracked own) count ≡ false
-none_follow own new added count a few new_is added_is a_is no =
-    are_replacements_by own new added count a (list_all (λ e. not (eqb (vec_len e.path) 0)) added) few new_is added_is a_is refl ∙ rw no refl
+none_follow own new added count a few new_is added_is a_is unset =
+    are_replacements_by own new added count a (list_all (λ e. not (eqb (vec_len e.path) 0)) added) few new_is added_is a_is refl ∙ rw unset refl
+
+pub too_few : (own : List Entry) (count : ℕ) → length own < count → are_replacements (map tracked own) count ≡ false
+unfolding are_replacements
+too_few own count few =
+    let short : leb count (length (map tracked own)) ≡ false = lt-leb _ _ (omega (arith, few, length-map own tracked)) in
+    rw short refl

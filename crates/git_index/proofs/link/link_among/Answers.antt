@@ -75,7 +75,7 @@ returns-clause-none c = λ none.
     let h = c.in-Some.link.hash.now in
     let b = c.in-Some.link.bitmaps.now in
     let seen : option_map seen_link c.in_ok-link.field-0 ≡ Some (h, b) = ap (λ (o : Option Link). option_map seen_link o) c.in-Some.is in
-    let zero = (zero_hash c.args.format, stops.0) in
+    let zero : List ℕ × List ℕ = (zero_hash c.args.format, stops.0) in
     elim (stops.1) [
       | inl x ↦ some_is_no_none (h, b) (sym seen ∙ c.in_ok-link.ensures.only None (at_stop c.args.format None c.args.bytes.now c.in_ok-rest.rest.now c.hash_len.result x (c.in_ok-rest.ensures.only x.stop x.passed x.ends) c.hash_len.ensures))
       | inr x ↦

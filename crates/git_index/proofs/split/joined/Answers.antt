@@ -25,9 +25,9 @@ returns-then-not-is_empty c =
 
 pub returns-then-not-are_replacements : goal.returns-then-not-are_replacements
 returns-then-not-are_replacements c =
-    let no : are_replacements (map tracked c.args.own.items) c.marked-count.result ≡ false =
+    let unlike : are_replacements (map tracked c.args.own.items) c.marked-count.result ≡ false =
     ap (λ (w : List Entry). are_replacements (map tracked w) c.marked-count.result) (sym c.deref-2.ensures.value) ∙ sym c.are_replacements.ensures.are ∙ c.if-not-are_replacements.true in
-    inr (names_differ (map tracked c.args.shared.items) (map tracked c.args.own.items) c.args.bitmaps.now c.len-places.result c.marked-count.result (c.in_ok-deleted.deleted.items, c.in_ok-deleted.rest.now) (c.in_ok-replaced.replaced.items, c.in_ok-replaced.behind.now) (omega (arith, c.args.shared.ok.0, length-map c.args.shared.items tracked)) c.in_ok-deleted.ensures c.in_ok-replaced.ensures (sym c.is_empty.ensures ∙ c.if-not-is_empty.false) (c.marked-count.ensures ∙ ap (λ (w : List Bool). count_by (λ mark. mark) w) c.deref.ensures.value) no)
+    inr (names_differ (map tracked c.args.shared.items) (map tracked c.args.own.items) c.args.bitmaps.now c.len-places.result c.marked-count.result (c.in_ok-deleted.deleted.items, c.in_ok-deleted.rest.now) (c.in_ok-replaced.replaced.items, c.in_ok-replaced.behind.now) (omega (arith, c.args.shared.ok.0, length-map c.args.shared.items tracked)) c.in_ok-deleted.ensures c.in_ok-replaced.ensures (sym c.is_empty.ensures ∙ c.if-not-is_empty.false) (c.marked-count.ensures ∙ ap (λ (w : List Bool). count_by (λ mark. mark) w) c.deref.ensures.value) unlike)
 
 pub slice_bounds-kept-end : goal.slice_bounds-kept-end
 slice_bounds-kept-end c =
