@@ -1,9 +1,9 @@
 -- The entries of a shared file that stay, one after the other.
-use Rattle.std.proofs.Common.{◌≡◌, ℕ, Bool, true, false, cond, List, [], ◌∷◌, ◌++◌, refl, sym, ap, ◌∙◌, append_assoc}
+use Rattle.std.proofs.Common.{◌≡◌, Bool, true, false, cond, List, [], ◌∷◌, ◌++◌, refl, sym, ap, ◌∙◌, append_assoc}
 use Rattle.std.proofs.lemmas.List.{append-nil}
 use Rattle.git_index.specs.Entries.{Tracked}
 use Rattle.git_index.specs.Private.Reading.{next_of, renewed_at}
-use Rattle.git_index.specs.Split.{named, replaced_by, unmarked}
+use Rattle.git_index.specs.Split.{replaced_by, unmarked}
 
 -- without marks or without new entries nothing is replaced
 replaced_unmarked : (entries new : List Tracked) → replaced_by entries [] new ≡ entries

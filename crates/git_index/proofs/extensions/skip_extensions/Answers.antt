@@ -1,7 +1,7 @@
-use Rattle.std.proofs.Common.{◌≡◌, ◌∙◌, List, ℕ, true, arith}
+use Rattle.std.proofs.Common.{◌≡◌, ◌∙◌, true, arith}
 use Rattle.std.proofs.lemmas.Result.{err_from_is_err_and}
 use Rattle.git_index.specs.Private.Reading.{Ends}
-use Rattle.git_index.proofs.lemmas.Extensions.{is_refused, is_shorter, none_is_passed, passes_back, passes_on, rest_fits, stops_here}
+use Rattle.git_index.proofs.lemmas.Extensions.{is_refused, is_shorter, passes_back, passes_on, rest_fits, stops_here}
 use Rattle.git_index.proofs.extensions.skip_extensions.Goals as goal
 
 pub loop-rest-init : goal.loop-rest-init

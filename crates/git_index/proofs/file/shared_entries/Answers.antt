@@ -1,4 +1,4 @@
-use Rattle.std.proofs.Common.{◌≡◌, ◌∙◌, List, ℕ, true, length, map, take, ◌-◌, refl, sym}
+use Rattle.std.proofs.Common.{◌≡◌, ◌∙◌, true, length, take, ◌-◌, refl, sym}
 use Rattle.std.specs.Prelude.{nat_eq}
 use Rattle.std.specs.List.{ends_with}
 use Rattle.std.proofs.lemmas.Bool.Decides.{Decides-eqb}

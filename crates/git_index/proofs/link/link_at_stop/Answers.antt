@@ -1,4 +1,4 @@
-use Rattle.std.proofs.Common.{◌≡◌, ◌≤◌, ◌∙◌, List, ℕ, length, ap, arith, inl}
+use Rattle.std.proofs.Common.{◌≡◌, ◌∙◌, length, ap, arith, inl}
 use Rattle.std.proofs.lemmas.Result.{err_from_is_err_and}
 use Rattle.git_index.proofs.lemmas.Links.{is_read, link_refused, link_stands}
 use Rattle.git_index.proofs.link.link_at_stop.Goals as goal

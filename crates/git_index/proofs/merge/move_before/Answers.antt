@@ -1,4 +1,4 @@
-use Rattle.std.proofs.Common.{◌≡◌, ◌++◌, ◌∷◌, [], ◌∙◌, List, true, false, get_or, map, sym, ap, subst}
+use Rattle.std.proofs.Common.{◌≡◌, ◌++◌, ◌∷◌, [], ◌∙◌, List, false, get_or, map, sym, ap, subst}
 use Rattle.std.specs.Ordering.{is_gt, is_lt}
 use Rattle.std.proofs.lemmas.List.{map_push}
 use Rattle.git_index.specs.declared.entry.Entry.{Entry}
