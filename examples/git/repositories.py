@@ -126,5 +126,7 @@ class Repository(Shapes, Settings, Faults, Indexes):
                 os.symlink(self.placed(room, target), path)
         if self.index is not None and not os.path.isdir(os.path.join(room, self.index_file)):
             write(os.path.join(room, self.index_file), self.index)
+            for path, text in self.shared.items():
+                write(os.path.join(room, path), text)
         for path in self.strangers:
             os.chown(os.path.join(room, path), STRANGER, STRANGER)

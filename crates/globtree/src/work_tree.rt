@@ -112,7 +112,11 @@ fn tree_at(
     let own_attributes = told_from(alloc, current, &opened.attributes_file)?;
     let index = told_from(alloc, current, &opened.index_file)?;
     let git_folder = told_from(alloc, current, &opened.git_folder)?;
-    let format = format_of(&opened.config);
+    let index = IndexFile {
+        name: path_text(alloc, &index)?,
+        git_folder: path_text(alloc, &git_folder)?,
+        format: format_of(&opened.config),
+    };
     Ok(WorkTree {
         standpoint,
         folds: opened.core.ignore_case,
@@ -122,10 +126,7 @@ fn tree_at(
         own_excludes: path_text(alloc, &own_excludes)?,
         own_attributes: path_text(alloc, &own_attributes)?,
         git_folder: Some(git_folder),
-        index: Some(IndexFile {
-            name: path_text(alloc, &index)?,
-            format,
-        }),
+        index: Some(index),
     })
 }
 
