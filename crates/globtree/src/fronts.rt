@@ -1,5 +1,5 @@
 //! The lists of patterns that count before those of all folders, and the tree that they begin.
-ghost use Rattle.std.specs.Prelude.{◌≡◌, ◌≢◌, [], IfOk, length, map};
+ghost use Rattle.std.specs.Prelude.{◌≡◌, ◌≢◌, ◌∷◌, [], IfOk, IfSome, length, map};
 ghost use Rattle.gix_glob.specs.EntryLists.{entry_list_of};
 ghost use Rattle.glob_lists.specs.Rules.{by_git};
 ghost use Rattle.globtree.specs.Answers.{AreFronts, IsOfSomeFile, case_by};
@@ -17,7 +17,7 @@ use gix_glob::search::pattern::List;
 use glob_lines::IgnoreLines;
 use glob_lists::{PreparedList, Rules};
 use glob_trees::Tree;
-use std::alloc::Global;
+use std::alloc::{AllocError, Global};
 use std::rt::{Env, Files};
 use told_paths::{Quoting, Standpoint};
 use tree_files::{FolderFiles, IndexedFiles, path_text};
@@ -57,10 +57,7 @@ pub(crate) fn fronts_of<R: Files + Env + Eprint + AllocGlobal>(
     ensures unread { IfOk result (λ fronts. index ≢ IndexUse.Paths → fronts.tracked ≡ []) }
 {
     go_to_folders(rt, alloc, options)?;
-    let named = match options.excludes {
-        Some(name) => Some(named_excludes(rt, alloc, name)?),
-        None => None,
-    };
+    let named = excludes_by_option(rt, alloc, options)?;
     let tree = work_tree(rt, alloc, options)?;
     tell_signs(rt, alloc)?;
     let Taken { tracked, indexed } = take_from_index(rt, alloc, &tree.index, index)?;
@@ -73,14 +70,9 @@ pub(crate) fn fronts_of<R: Files + Env + Eprint + AllocGlobal>(
         git_folder,
         ..
     } = tree;
-    let outer = match named {
-        Some(list) => list,
-        None => usual_excludes(rt, alloc, file)?,
-    };
-    let mut lists = Vec::new(alloc);
-    lists.push(PreparedList::new(alloc, outer))?;
+    let outer = outer_excludes(rt, alloc, named, file)?;
     let own = excludes(rt, alloc, own_excludes)?;
-    lists.push(PreparedList::new(alloc, own))?;
+    let lists = both(alloc, outer, own)?;
     Ok(Fronts {
         standpoint,
         lists,
@@ -92,18 +84,51 @@ pub(crate) fn fronts_of<R: Files + Env + Eprint + AllocGlobal>(
     })
 }
 
-/// The list of the file of excludes for all repositories, where there is one.
-fn usual_excludes<R: Files + Eprint>(
+/// The list of the file of excludes that an option names, where one does.
+fn excludes_by_option<R: Files>(
     rt: &R,
     alloc: Global,
+    options: Options<'_>,
+) -> Result<Option<List<IgnoreLines>>>
+    ensures { IfOk result (λ named. IfSome named (λ list. IsOfSomeFile (entry_list_of (λ _. tt) list))) }
+{
+    match options.excludes {
+        Some(name) => Ok(Some(named_excludes(rt, alloc, name)?)),
+        None => Ok(None),
+    }
+}
+
+/// The list that is named, or else that of the file of excludes for all repositories, where there is one.
+fn outer_excludes<R: Files + Eprint>(
+    rt: &R,
+    alloc: Global,
+    named: Option<List<IgnoreLines>>,
     file: Option<Vec<u8>>,
 ) -> Result<List<IgnoreLines>>
+    requires { IfSome named (λ list. IsOfSomeFile (entry_list_of (λ _. tt) list)) }
     ensures { IfOk result (λ list. IsOfSomeFile (entry_list_of (λ _. tt) list)) }
 {
+    if let Some(list) = named {
+        return Ok(list);
+    }
     match file {
         Some(file) => excludes(rt, alloc, path_text(alloc, &file)?),
         None => Ok(List::empty(alloc)),
     }
+}
+
+/// Both lists, prepared, in this order.
+fn both(
+    alloc: Global,
+    outer: List<IgnoreLines>,
+    own: List<IgnoreLines>,
+) -> Result<Vec<PreparedList<IgnoreLines>>, AllocError>
+    ensures { IfOk result (λ lists. lists.items ≡ outer ∷ own ∷ []) }
+{
+    let mut lists = Vec::with_capacity(alloc, 2)?;
+    lists.push(PreparedList::new(alloc, outer))?;
+    lists.push(PreparedList::new(alloc, own))?;
+    Ok(lists)
 }
 
 /// The tree whose folders' files stand behind these lists.

@@ -49,7 +49,7 @@ pub(crate) fn list_tracked_ignored<R: Files + Eprint, O: Write>(
     output: &mut Watched<O>,
 ) -> Result<()>
     requires working { has_failed output.old ≡ false }
-    requires before { AreFronts tree.entry.front_count (take tree.entry.front_count (map (entry_list_of (λ _. tt)) tree.entry.lists)) }
+    requires before { AreFronts tree.front_count (take tree.front_count (map (entry_list_of (λ _. tt)) tree.lists)) }
     ensures { OnOk result (ListsIgnored standpoint.now tree.entry.rules form tracked.now folder.now (O.contents (inner output.old)) (O.contents (inner output.new))) }
 {
     let paths = asked_paths(alloc, standpoint, tracked, folder)?;

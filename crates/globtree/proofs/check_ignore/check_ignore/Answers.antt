@@ -7,6 +7,7 @@ use Rattle.tree_commands.specs.CheckIgnore.{Question, question_of}
 use Rattle.tree_words.specs.declared.operands.Operands.{Operands}
 use Rattle.tree_words.specs.Operands.{operands_among}
 use Rattle.globtree.specs.Answers.{TellsIgnore}
+use Rattle.globtree.specs.Tracked.{IsOfIndex}
 use Rattle.globtree.specs.declared.index_use.IndexUse.{IndexUse}
 use Rattle.globtree.specs.declared.index_use.IndexUse.TheVariants.{Nothing, Paths}
 use Rattle.globtree.proofs.lemmas.FrontLemmas.{fronts_of_tree}
@@ -23,7 +24,7 @@ returns-then-flags-clause-answered g c =
     let fronts = c.in_ok-fronts.fronts in
     let tree = c.in_ok-tree.tree in
     let is_any = c.in_ok-is_any.is_any in
-    let question : Question = question_of fronts.standpoint c.asked_by_flags-asked.result fronts.tracked tree (λ _. None) in
+    let question : Question = question_of fronts.standpoint c.asked_by_flags-asked.result c.new-tracked.result tree (λ _. None) in
     let left : Option (List ℕ) = g.I.Read.remaining (inner c.args.input.now) in
     let here : Option (List ℕ) = g.I.Read.remaining (inner c.refuse_settings_for.new.input) in
     let rest : Option (List ℕ) = g.I.Read.remaining (inner c.answer_input.new.input) in
@@ -35,8 +36,8 @@ returns-then-flags-clause-answered g c =
       quoting = fronts.quoting;
       question = question;
       from = (refl, refl);
-      of_index = c.in_ok-fronts.ensures.tracked;
-      without = λ no. c.in_ok-fronts.ensures.unread (not_asked c.args.flags.no_index c.index_by.result c.index_by.ensures no);
+      of_index = subst IsOfIndex (sym c.new-tracked.ensures) c.in_ok-fronts.ensures.tracked;
+      without = λ no. c.new-tracked.ensures ∙ c.in_ok-fronts.ensures.unread (not_asked c.args.flags.no_index c.index_by.result c.index_by.ensures no);
       before = fronts_of_tree tree.front_count tree.lists fronts.lists.items c.in_ok-tree.ensures.count c.in_ok-tree.ensures.before c.in_ok-fronts.ensures.before;
       by_rules = c.in_ok-tree.ensures.rules ∙ ap by_git c.case_of-case.ensures;
       asks = c.asked_by_flags-asked.ensures;
@@ -54,7 +55,7 @@ returns-clause-answered g c =
     let fronts = c.in_ok-fronts.fronts in
     let tree = c.in_ok-tree.tree in
     let is_any = c.in_ok-is_any-2.is_any in
-    let question : Question = question_of fronts.standpoint c.asked_by_flags-asked.result fronts.tracked tree (λ _. None) in
+    let question : Question = question_of fronts.standpoint c.asked_by_flags-asked.result c.new-tracked.result tree (λ _. None) in
     let old : Option (List ℕ) = g.O.Write.contents (inner c.args.output.now) in
     let new : Option (List ℕ) = g.O.Write.contents (inner c.answer_paths.new.output) in
     let paths = ap (map see) c.deref-2.ensures.value ∙ (c.in_ok-paths-2.ensures ∙ (ap (map see) c.deref.ensures.value ∙ all)) in
@@ -64,8 +65,8 @@ returns-clause-answered g c =
       quoting = fronts.quoting;
       question = question;
       from = (refl, refl);
-      of_index = c.in_ok-fronts.ensures.tracked;
-      without = λ no. c.in_ok-fronts.ensures.unread (not_asked c.args.flags.no_index c.index_by.result c.index_by.ensures no);
+      of_index = subst IsOfIndex (sym c.new-tracked.ensures) c.in_ok-fronts.ensures.tracked;
+      without = λ no. c.new-tracked.ensures ∙ c.in_ok-fronts.ensures.unread (not_asked c.args.flags.no_index c.index_by.result c.index_by.ensures no);
       before = fronts_of_tree tree.front_count tree.lists fronts.lists.items c.in_ok-tree.ensures.count c.in_ok-tree.ensures.before c.in_ok-fronts.ensures.before;
       by_rules = c.in_ok-tree.ensures.rules ∙ ap by_git c.case_of-case.ensures;
       asks = c.asked_by_flags-asked.ensures;

@@ -12,6 +12,6 @@ pub returns : goal.returns
 returns g c =
     let see : Bor (List ℕ) → List ℕ = λ path. path.now in
     let old : Option (List ℕ) = g.O.Write.contents (inner c.args.output.now) in
-    let new : Option (List ℕ) = g.O.Write.contents (inner c.write_paths.new.output) in
+    let new : Option (List ℕ) = g.O.Write.contents (inner c.write_paths-told.new.writer) in
     of_mapped_err c.write_paths-told.result c.map_err.result _ _ _ c.map_err.ensures.cases c.write_paths-told.ensures.ok
     (λ _ written. (map see c.in_ok-paths.paths.items, c.in_ok-paths.ensures, subst (λ paths. Appends old new (flat_map (path_line marks.Bare c.args.standpoint.now c.args.form) (map see paths))) c.deref.ensures.value written))

@@ -13,9 +13,9 @@ pub returns : goal.returns
 returns g c =
     let see : Bor (List ℕ) → List ℕ = λ path. path.now in
     let old : Option (List ℕ) = g.O.Write.contents (inner c.args.output.now) in
-    let new : Option (List ℕ) = g.O.Write.contents (inner c.write_ignored.new.output) in
+    let new : Option (List ℕ) = g.O.Write.contents (inner c.write_ignored-sources.new.writer) in
     let question = question_of c.args.standpoint.now (names_alone c.args.form) [] c.args.tree (λ _. None) in
-    of_mapped_err c.write_ignored.result.1 c.map_err.result _ _ _ c.map_err.ensures.cases c.write_ignored.ensures.ok
+    of_mapped_err c.write_ignored-sources.result.1 c.map_err.result _ _ _ c.map_err.ensures.cases c.write_ignored-sources.ensures.ok
     (λ _ written. record {
       paths = map see c.in_ok-paths.paths.items;
       asked = c.in_ok-paths.ensures;
