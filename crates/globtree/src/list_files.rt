@@ -44,6 +44,9 @@ pub(crate) fn list_files<R: Files + Env + Clock + Eprint + AllocGlobal + Clone +
         bail!("--directory isn't known with -i, nor with --no-empty-directory");
     }
     let fronts = fronts_of(rt, alloc, options, index_by(flags))?;
+    if counts_patterns(flags) && fronts.excludes_are_elsewhere {
+        bail!("a relative core.excludesFile isn't read from outside of the work tree");
+    }
     let status = if flags.are_usual() || flags.others {
         list_found(
             rt,
@@ -65,6 +68,11 @@ pub(crate) fn list_files<R: Files + Env + Clock + Eprint + AllocGlobal + Clone +
         list_tracked_by(rt, alloc, options, flags, fronts, folder, output)?;
     }
     Ok(status)
+}
+
+/// Whether the patterns of the usual files count.
+fn counts_patterns(flags: FilesFlags) -> bool {
+    flags.exclude_standard || flags.are_usual()
 }
 
 /// Whether folders are to be told by their names as no listing knows it.
