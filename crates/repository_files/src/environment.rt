@@ -73,6 +73,8 @@ impl RepositoryVariables {
             index_file: None,
             object_directory: None,
             ceiling_directories: None,
+            pwd: None,
+            implicit_work_tree: None,
             across_file_systems: false,
         }
     }
