@@ -1,7 +1,8 @@
 //! The command `files`.
-ghost use Rattle.std.specs.Prelude.{◌≡◌, IfOk, MatchBool, OnOk, false};
+ghost use Rattle.std.specs.Prelude.{◌≡◌, ◌||◌, IfOk, MatchBool, OnOk, false};
 ghost use Rattle.gix_glob.specs.Watched.{has_failed, inner};
 ghost use Rattle.glob_lists.specs.Rules.{by_git};
+ghost use Rattle.tree_words.specs.Files.{are_usual};
 ghost use Rattle.tree_commands.specs.declared.files.mark.Mark.TheVariants as marks;
 ghost use Rattle.globtree.specs.Answers.{AnswersFiles, ListsFound, ListsIgnored, ListsTracked, case_by};
 ghost use Rattle.globtree.specs.Running.{IsAnswered, chosen_by, folders_by, form_by};
@@ -71,7 +72,9 @@ pub(crate) fn list_files<R: Files + Env + Clock + Eprint + AllocGlobal + Clone +
 }
 
 /// Whether the patterns of the usual files count.
-fn counts_patterns(flags: FilesFlags) -> bool {
+fn counts_patterns(flags: FilesFlags) -> bool
+    ensures { result ≡ (flags.exclude_standard || are_usual flags) }
+{
     flags.exclude_standard || flags.are_usual()
 }
 
@@ -122,7 +125,7 @@ fn chosen_by(flags: FilesFlags) -> Chosen
     if flags.ignored {
         return Chosen::Ignored;
     }
-    if flags.exclude_standard || flags.are_usual() {
+    if counts_patterns(flags) {
         return Chosen::Unignored;
     }
     Chosen::All
