@@ -31,5 +31,5 @@ returns g c =
     let left1 = step (Unit {0}) Whole (seen_settings c.in_ok-looked.looked) (all (Unit {0}) Whole) c.in_ok-looked.ensures in
     let left2 = step (Unit {0}) Whole (seen_settings c.in_ok-free.free) left1 c.in_ok-free.ensures in
     let left3 = step (Unit {0}) Whole c.in_ok-check_urls.field-0 left2 c.in_ok-check_urls.ensures in
-    rest (Unit {0}) Whole (ReadsWith Shows start known listed (Some (urls_of (seen_settings c.in_ok-free.free)))) seen_settings c.read_with.result left3
-    (subst (λ (urls : List (List ℕ)). Tells (Unit {0}) seen_settings c.read_with.result (ReadsWith Shows start known listed (Some urls))) c.in_ok-urls.ensures c.read_with.ensures)
+    rest (Unit {0}) Whole (ReadsWith Shows start known listed (Some (urls_of (seen_settings c.in_ok-free.free)))) seen_settings c.read_with-2.result left3
+    (subst (λ (urls : List (List ℕ)). Tells (Unit {0}) seen_settings c.read_with-2.result (ReadsWith Shows start known listed (Some urls))) c.in_ok-urls.ensures c.read_with-2.ensures)

@@ -1,7 +1,7 @@
 -- The first reading, what is wrong behind the sources, the branch, and then the URLs.
 use Rattle.core_settings.specs.Views.{seen_settings}
-use Rattle.opened_repository.specs.Readings.{Reads, ReadsUrls, asks, known_of, listed_of}
-use Rattle.opened_repository.proofs.lemmas.Stages.{all, rest, step, stop}
+use Rattle.opened_repository.specs.Readings.{Reads, known_of, listed_of}
+use Rattle.opened_repository.proofs.lemmas.Stages.{all, stop}
 use Rattle.opened_repository.proofs.reading.read_listed.Goals as goal
 
 pub returns-in_err-first : goal.returns-in_err-first
