@@ -1,5 +1,5 @@
 -- By whether the file is there.
-use Rattle.std.proofs.Common.{◌≡◌, ◌∙◌, ℕ, List, ap, map, option_map, sym}
+use Rattle.std.proofs.Common.{◌∙◌, ap, map, option_map, sym}
 use Rattle.std.specs.Vec.{vec_items}
 use Rattle.std.proofs.lemmas.Result.{IfOk-weaker}
 use Rattle.repository_files.specs.Users.{seen_user, users_in}
