@@ -27,23 +27,25 @@ OUTSIDE = [b"../../../../../../x", b"/", b"", b"../../x", b"l/x"]
 SPELT = [b":x", b"::x", b":()x", b":", b":/", b":/x", b"://:x", b":(top)x", b":(,top)d/x", b":/d/x", b":/k*/x", b":/a*", b":(top)./x", b":a:b", b":$x", b":/d/"]
 UNSPELT = [b":!x", b":^x", b":-x", b":/~", b":(top", b":(x)x", b":(exclude)x", b":(glob)x", b":(icase,top)x", b":(literal)x", b":(attr:a)x", b":(Top)x"]
 # kinds of differences that the documents name: the first in "From Git" of docs/GLOBTREE.md
-NESTED, MESSAGES, BARE, UNKNOWN, REMOTES = "`.git`", "messages", "no work tree", "another's folder", "files read for remotes alone"
+NESTED, MESSAGES, BARE, UNKNOWN = "`.git`", "messages", "no work tree", "another's folder"
 NAMED = kinds_in("GLOBTREE.md")
 OF_CONFIG, OF_STATUS = "`config`", "`status`"
 NO_OBJECT = re.compile(rb"fatal: (bad object HEAD|unable to read [0-9a-f]+)\n")
 ORIGIN = re.compile(rb"file:\"?[^\t\0]*/")
-# and those that "From Git" of docs/REPOSITORIES.md has: what tells a path otherwise, by the variables, options, links and texts of a repository
+# and those that "From Git" of docs/REPOSITORIES.md has: what tells a path otherwise, by the variables, links and texts of a repository
 TOLD = {
-    "a listing from outside": lambda made, question: question.words[0] in LISTINGS and made.says(rb'(?im)excludesfile *= *"?[^/~@%\s"]'),
     "a slash behind GIT_DIR": lambda made, question: made.git_dir().endswith(b"/"),
-    "relative files of the environment": lambda made, question: any(made.is_relative(name) for name in FILES_OF_VARIABLES),
     "`.git` as a link": lambda made, question: any(os.path.basename(link) == b".git" for link in made.links),
     "`core.ignoreCase`": lambda made, question: question.words[0] in LISTINGS and made.index is not None and made.says(rb"(?i)ignorecase"),
-    "an empty core.worktree": lambda made, question: made.says(rb'(?im)worktree[ \t]*=[ \t"]*([#;].*)?\r?$'),
 }
-FILES_OF_VARIABLES = (b"GIT_CONFIG_GLOBAL", b"GIT_CONFIG_SYSTEM", b"XDG_CONFIG_HOME", b"HOME")
-UNKNOWN_FOLDER = re.compile(rb"fatal: failed to expand user dir in: '(~root|%\(prefix\))/[^\n]*\n")
-OF_INCLUDED = re.compile(rb"remote URLs cannot|unable to parse command-line config|bad config line|exceeded maximum include depth")
+# and what isn't read, by the fault that names it
+UNREAD = {
+    "a listing from outside": b"a relative core.excludesFile isn't read",
+    "relative files of the environment": b"is a relative path of a file of configuration",
+    "a relative GIT_COMMON_DIR": b"GIT_COMMON_DIR is a relative path",
+    "a reference that may lead on": b"no condition 'onbranch' can be answered",
+}
+UNKNOWN_FOLDER = re.compile(rb"fatal: failed to expand user dir in: '%\(prefix\)/[^\n]*\n")
 OF_FORMAT = re.compile(rb"repo version|unknown repository extension")
 WARNINGS = re.compile(rb"(warning: [^\n]*\n)+")
 RELATIVE_CONDITION = b"error: relative config include conditionals must come from files\n"
@@ -206,9 +208,6 @@ class Comparison:
             return BARE
         if UNKNOWN_FOLDER.fullmatch(found.errors) and expected.errors != found.errors:
             return UNKNOWN
-        # (Git reads a file under such a condition, where it doesn't hold, too)
-        if "condition: hasconfig" in self.pair.made.constructs and is_answer(found) and OF_INCLUDED.match(fault(expected)):
-            return REMOTES
         if command in LISTINGS and NESTED in NAMED and not found.is_as(expected) and is_nested(expected, found):
             return NESTED
         if found.is_as(expected):
@@ -219,7 +218,8 @@ class Comparison:
             return OF_STATUS
         if RELATIVE_CONDITION in expected.errors and found.is_as(expected._replace(errors=found.errors)):
             return MESSAGES
-        return next((kind for kind, holds in TOLD.items() if holds(self.pair.made, question)), None)
+        unread = next((kind for kind, words in UNREAD.items() if words in fault(found)), None)
+        return unread or next((kind for kind, holds in TOLD.items() if holds(self.pair.made, question)), None)
 
     def is_shown_otherwise(self, expected, found):
         """Whether `config` answers otherwise as "From Git" says."""
@@ -228,7 +228,7 @@ class Comparison:
         is_fault = not is_answer(expected) and not is_answer(found) and not found.output
         if expected.status == found.status and ORIGIN.sub(b"file:", expected.output) == ORIGIN.sub(b"file:", found.output):
             return True
-        return is_fault or OF_FORMAT.search(found.errors) or b"fatal: cannot chdir to" in expected.errors or b"/." in self.pair.made.variables.get(b"GIT_CONFIG_SYSTEM", b"")
+        return is_fault or OF_FORMAT.search(found.errors) or b"/." in self.pair.made.variables.get(b"GIT_CONFIG_SYSTEM", b"")
 
     # ---- texts of faults
 

@@ -103,10 +103,6 @@ class Repository(Shapes, Settings, Faults, Indexes):
         at = self.options.index(b"--git-dir") + 1 if b"--git-dir" in self.options else None
         return self.options[at] if at else self.variables.get(b"GIT_DIR", b"")
 
-    def is_relative(self, name):
-        """Whether a variable is set to a path from the current folder."""
-        return self.variables.get(name, b"/")[:1] not in (b"/", b"@", b"")
-
     def placed(self, room, text):
         return text.replace(b"@", room)
 

@@ -1,14 +1,15 @@
 //! The lists of patterns that count before those of all folders, and the tree that they begin.
-ghost use Rattle.std.specs.Prelude.{◌≡◌, ◌≢◌, ◌∷◌, [], IfOk, IfSome, length, map};
+ghost use Rattle.std.specs.Prelude.{◌≡◌, ◌≢◌, ◌&&◌, ◌∷◌, [], IfOk, IfSome, length, map, not, option_map};
+ghost use Rattle.std.specs.Vec.{vec_items};
 ghost use Rattle.gix_glob.specs.EntryLists.{entry_list_of};
 ghost use Rattle.glob_lists.specs.Rules.{by_git};
 ghost use Rattle.globtree.specs.Answers.{AreFronts, IsOfSomeFile, case_by};
+ghost use Rattle.globtree.specs.Places.{is_relative_file};
 ghost use Rattle.globtree.specs.Tracked.{IsOfIndex};
 
 use crate::excludes::{excludes, named_excludes};
 use crate::index_use::{IndexUse, Taken, take_from_index};
 use crate::moving::go_to_folders;
-use crate::signs::tell_signs;
 use crate::work_tree::{WorkTree, work_tree};
 use anyhow::{Context, Result};
 use git_index::Index;
@@ -33,6 +34,8 @@ pub(crate) struct Fronts {
     pub(crate) standpoint: Standpoint,
     /// The lists before those of all folders, the weakest first.
     pub(crate) lists: Vec<PreparedList<IgnoreLines>>,
+    /// Whether Git, to list files, tells the usual file of excludes from another folder.
+    pub(crate) excludes_are_elsewhere: bool,
     /// Whether the configuration says that the case of letters doesn't count.
     pub(crate) folds: bool,
     /// Which names stand in quotes.
@@ -59,7 +62,6 @@ pub(crate) fn fronts_of<R: Files + Env + Eprint + AllocGlobal>(
     go_to_folders(rt, alloc, options)?;
     let named = excludes_by_option(rt, alloc, options)?;
     let tree = work_tree(rt, alloc, options)?;
-    tell_signs(rt, alloc)?;
     let Taken { tracked, indexed } = take_from_index(rt, alloc, &tree.index, index)?;
     let WorkTree {
         standpoint,
@@ -70,18 +72,30 @@ pub(crate) fn fronts_of<R: Files + Env + Eprint + AllocGlobal>(
         git_folder,
         ..
     } = tree;
+    let excludes_are_elsewhere = named.is_none() && is_elsewhere(&standpoint, &file);
     let outer = outer_excludes(rt, alloc, named, file)?;
     let own = excludes(rt, alloc, own_excludes)?;
     let lists = both(alloc, outer, own)?;
     Ok(Fronts {
         standpoint,
         lists,
+        excludes_are_elsewhere,
         folds,
         quoting,
         tracked,
         indexed,
         git_folder,
     })
+}
+
+/// Whether Git, to list files, tells the file of excludes from another folder: a relative path, outside of the work tree.
+fn is_elsewhere(standpoint: &Standpoint, file: &Option<Vec<u8>>) -> bool
+    ensures { result ≡ (not standpoint.now.is_inside && is_relative_file (option_map vec_items file.now)) }
+{
+    match file {
+        Some(path) => !standpoint.is_inside && !path.is_empty() && !path.starts_with(b"/"),
+        None => false,
+    }
 }
 
 /// The list of the file of excludes that an option names, where one does.

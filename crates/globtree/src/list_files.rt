@@ -1,8 +1,9 @@
 //! The command `files`.
-ghost use Rattle.std.specs.Prelude.{◌≡◌, IfOk, MatchBool, OnOk, false, length, map};
+ghost use Rattle.std.specs.Prelude.{◌≡◌, ◌||◌, IfOk, MatchBool, OnOk, false, length, map};
 ghost use Rattle.gix_glob.specs.EntryLists.{entry_list_of};
 ghost use Rattle.gix_glob.specs.Watched.{has_failed, inner};
 ghost use Rattle.glob_lists.specs.Rules.{by_git};
+ghost use Rattle.tree_words.specs.Files.{are_usual};
 ghost use Rattle.tree_commands.specs.declared.files.mark.Mark.TheVariants as marks;
 ghost use Rattle.globtree.specs.Answers.{AnswersFiles, AreFronts, ListsFound, ListsIgnored, ListsTracked, case_by};
 ghost use Rattle.globtree.specs.Running.{IsAnswered, chosen_by, folders_by, form_by};
@@ -45,6 +46,9 @@ pub(crate) fn list_files<R: Files + Env + Clock + Eprint + AllocGlobal + Clone +
         bail!("--directory isn't known with -i, nor with --no-empty-directory");
     }
     let fronts = fronts_of(rt, alloc, options, index_by(flags))?;
+    if counts_patterns(flags) && fronts.excludes_are_elsewhere {
+        bail!("a relative core.excludesFile isn't read from outside of the work tree");
+    }
     let status = if flags.are_usual() || flags.others {
         list_found(
             rt,
@@ -66,6 +70,13 @@ pub(crate) fn list_files<R: Files + Env + Clock + Eprint + AllocGlobal + Clone +
         list_tracked_by(rt, alloc, options, flags, fronts, folder, output)?;
     }
     Ok(status)
+}
+
+/// Whether the patterns of the usual files count.
+fn counts_patterns(flags: FilesFlags) -> bool
+    ensures { result ≡ (flags.exclude_standard || are_usual flags) }
+{
+    flags.exclude_standard || flags.are_usual()
 }
 
 /// Whether folders are to be told by their names as no listing knows it.
@@ -115,7 +126,7 @@ fn chosen_by(flags: FilesFlags) -> Chosen
     if flags.ignored {
         return Chosen::Ignored;
     }
-    if flags.exclude_standard || flags.are_usual() {
+    if counts_patterns(flags) {
         return Chosen::Unignored;
     }
     Chosen::All

@@ -19,7 +19,6 @@ mod progress;
 mod running;
 mod show_config;
 mod show_status;
-mod signs;
 mod tracked;
 mod work_tree;
 mod wrong_words;

@@ -2,13 +2,13 @@
 ghost use Rattle.std.specs.Prelude.{◌≡◌};
 ghost use Rattle.std.specs.Option.{option_copied, option_or};
 ghost use Rattle.git_repository.specs.Environments.{environment_with};
-ghost use Rattle.globtree.specs.Places.{with_options};
+ghost use Rattle.globtree.specs.Places.{denies, denies_work_tree, with_options};
 
 use crate::check_ignore::bytes_of;
 use crate::moving::current_folder;
 use crate::places::from_root;
 use anyhow::{Context, Result, bail};
-use git_config::Config;
+use git_config::{Config, boolean};
 use git_repository::Environment;
 use opened_repository::{OpenFault, Opened, Told, config_place, open, read_config};
 use repository_files::{
@@ -33,9 +33,11 @@ pub(crate) fn open_here<R: Files + Env>(
     let pairs = configuration.pairs(alloc)?;
     let words = bytes_of(alloc, &values_of(alloc, options.words, "-c")?)?;
     let around = configuration.surroundings(alloc, &files)?;
+    let environment = asked_environment(&variables, options)?;
     let told = Told {
         current,
-        environment: with_options(variables.environment(), options),
+        pwd: variables.pwd.as_deref(),
+        environment,
         places: configuration.places(),
         pairs: &pairs,
         words: &words,
@@ -59,9 +61,11 @@ pub(crate) fn config_here<R: Files + Env + AllocGlobal>(
     let pairs = configuration.pairs(alloc)?;
     let words = bytes_of(alloc, &values_of(alloc, options.words, "-c")?)?;
     let around = configuration.surroundings(alloc, &files)?;
+    let environment = asked_environment(&variables, options)?;
     let told = Told {
         current: &current,
-        environment: with_options(variables.environment(), options),
+        pwd: variables.pwd.as_deref(),
+        environment,
         places: configuration.places(),
         pairs: &pairs,
         words: &words,
@@ -81,6 +85,35 @@ fn told_fault<T: Drop>(answer: std::result::Result<T, OpenFault<ConfigFileFault>
     match answer {
         Ok(found) => Ok(found),
         Err(fault) => bail!("{fault}"),
+    }
+}
+
+/// What the variables and options say of a repository, if nothing else says that there is no work tree.
+fn asked_environment<'a>(
+    variables: &'a RepositoryVariables,
+    options: Options<'a>,
+) -> Result<Environment<&'a [u8]>> {
+    let environment = with_options(variables.environment(), options);
+    if denies_work_tree(&environment, variables.implicit_work_tree.as_deref()) {
+        bail!("the variable GIT_IMPLICIT_WORK_TREE isn't read");
+    }
+    Ok(environment)
+}
+
+/// Whether a git folder is told and no work tree, and this value of `GIT_IMPLICIT_WORK_TREE` isn't true.
+fn denies_work_tree(environment: &Environment<&[u8]>, implicit: Option<&[u8]>) -> bool
+    ensures { result ≡ denies_work_tree (environment_with (λ b. b.now) environment.now) (option_copied implicit.entry) }
+{
+    environment.git_dir.is_some() && environment.work_tree.is_none() && denies(implicit)
+}
+
+/// Whether a value is set and isn't true.
+fn denies(value: Option<&[u8]>) -> bool
+    ensures { result ≡ denies (option_copied value.entry) }
+{
+    match value {
+        Some(text) => !boolean(Some(text)).unwrap_or(false),
+        None => false,
     }
 }
 

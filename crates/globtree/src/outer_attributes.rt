@@ -2,7 +2,6 @@
 
 use crate::index_use::{IndexUse, Taken, take_from_index};
 use crate::moving::go_to_folders;
-use crate::signs::tell_signs;
 use crate::work_tree::{WorkTree, work_tree};
 use anyhow::Result;
 use std::alloc::Global;
@@ -51,7 +50,6 @@ pub(crate) fn outer_attributes<R: Files + Env + Eprint + AllocGlobal>(
     let system = named_file(alloc, &reader, options.system)?;
     let named = named_file(alloc, &reader, options.attributes)?;
     let tree = work_tree(rt, alloc, options)?;
-    tell_signs(rt, alloc)?;
     let Taken { indexed, .. } = take_from_index(rt, alloc, &tree.index, IndexUse::Attributes)?;
     let WorkTree {
         standpoint,

@@ -11,7 +11,6 @@ ghost use Rattle.globtree.specs.Running.{IsAnswered, IsRefused, manner_by};
 use crate::moving::go_to_folders;
 use crate::opening::config_here;
 use crate::running::{ANSWERED, WRONG_WORDS};
-use crate::signs::tell_signs;
 use crate::wrong_words::tell_misuse;
 use anyhow::{Context, Result, bail};
 use config_answers::{Manner, Question, append_answer, key_fault};
@@ -50,7 +49,6 @@ pub(crate) fn show_config<R: Files + Env + Eprint + AllocGlobal, O: Write>(
     }
     go_to_folders(rt, alloc, options)?;
     let config = config_here(rt, alloc, options)?;
-    tell_signs(rt, alloc)?;
     if flags.list {
         return write_answer(alloc, &config, Question::All, manner_by(flags), output);
     }

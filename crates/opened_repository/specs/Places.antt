@@ -5,7 +5,7 @@ use Rattle.std.specs.Vec.{vec_items}
 use Rattle.git_config.specs.Configuration.{Seen}
 use Rattle.git_repository.specs.FileTree.{FileTree}
 use Rattle.git_repository.specs.GitFolders.{told_from}
-use Rattle.git_repository.specs.Naming.{exclude_name, lies_below}
+use Rattle.git_repository.specs.Naming.{exclude_name}
 use Rattle.git_repository.specs.declared.fault.FindFault.TheVariants.{At, NotFound}
 use Rattle.git_repository.specs.declared.fault.Wrong.{Wrong}
 use Rattle.git_repository.specs.declared.fault.Wrong.TheVariants.{Bare, Border, NotNamed, Owner}
@@ -18,7 +18,7 @@ use Rattle.opened_repository.specs.declared.fault.RepositoryFault.TheVariants.{F
 use Rattle.opened_repository.specs.declared.place.ConfigPlace.{ConfigPlace}
 use Rattle.opened_repository.specs.Alone.{OwnSettings}
 use Rattle.opened_repository.specs.Answers.{Answer, Asked, Fault, In, fault_of, is, is', ◌>>=◌}
-use Rattle.opened_repository.specs.Opening.{FindsTrusted, FoldersOf, KnownIn, NameFrom, Outer, TopOf, path_if}
+use Rattle.opened_repository.specs.Opening.{FindsTrusted, FoldersOf, KnownIn, NameFrom, Outer, TopOf, path_if, top_above}
 use Rattle.opened_repository.specs.Readings.{Files, Known, Reads, known_of, listed_by, nothing_known}
 use Rattle.opened_repository.specs.Results.{Said}
 
@@ -56,11 +56,6 @@ tells_outside (Told fault) = is_outside (fault_of fault)
 
 -- ---- names
 
--- Git goes to the top of the work tree where the current folder lies below it
-abbrev pub top_above : List ℕ → Option (List ℕ) → Option (List ℕ)
-top_above current None = None
-top_above current (Some top) = if lies_below top current then Some top else None
-
 -- a file that lies in the folder of `info` has the name of `info/exclude` up to that
 abbrev pub beside : List ℕ → List ℕ → List ℕ
 beside exclude name = take (length exclude - 12) exclude ++ name
@@ -91,7 +86,7 @@ module _ (tree : FileTree) (Shows : Files) (said : Said) where
     folders ← FoldersOf tree Shows said found
     own ← OwnSettings Shows said.environment folders
     top ← TopOf tree Shows said found own
-    known ← KnownIn tree Shows said folders.git_folder
+    known ← KnownIn tree Shows said found own top folders
     exclude ← ExcludeThere found own (top_above said.current top)
     is (Ok (record {
       known = known;

@@ -3,6 +3,7 @@
 
 mod alone;
 mod around;
+mod asked;
 mod fault;
 mod format;
 mod head;
@@ -12,7 +13,9 @@ mod order;
 mod own;
 mod place;
 mod reading;
+mod reference;
 mod safe;
+mod there;
 mod told;
 mod trusted;
 mod urls;

@@ -3,22 +3,21 @@ ghost use Rattle.std.specs.Prelude.{◌≡◌, IfOk, MatchResult, false, option_
 ghost use Rattle.std.specs.Vec.{vec_items};
 ghost use Rattle.git_repository.specs.Answers.{found_with};
 ghost use Rattle.git_repository.specs.Folders.{folders_with, settings_with};
-ghost use Rattle.git_repository.specs.Naming.{lies_below};
-ghost use Rattle.git_repository.specs.Search.{folder_of};
 ghost use Rattle.core_settings.specs.Views.{seen_settings};
 ghost use Rattle.opened_repository.specs.Answers.{Tells, fault_of};
 ghost use Rattle.opened_repository.specs.Opening.{path_if};
-ghost use Rattle.opened_repository.specs.Places.{ExcludeHere, ExcludeThere, Locates, PlaceIn, ReadsPlace, beside, folder_there, is_outside, is_passed, outside, place_of, tells_outside, top_above, worktree_name};
+ghost use Rattle.opened_repository.specs.Places.{ExcludeHere, ExcludeThere, Locates, PlaceIn, ReadsPlace, beside, folder_there, is_outside, is_passed, outside, place_of, tells_outside, worktree_name};
 ghost use Rattle.opened_repository.specs.Results.{said_of};
 
-use crate::around::KnownRepository;
+use crate::around::{KnownRepository, nothing_known};
 use crate::fault::{OpenFault, RepositoryFault};
 use crate::inside::{known_in, told_from};
 use crate::order::{folders, name_from, work_tree};
 use crate::own::{lent, read_own};
 use crate::reading::read;
+use crate::there::top_above;
 use crate::told::Told;
-use crate::trusted::{find_trusted, nothing_known, read_outer};
+use crate::trusted::{find_trusted, read_outer};
 use core_settings::ConfigPlaces;
 use git_config::{Config, ConfigFiles};
 use git_repository::{
@@ -128,7 +127,11 @@ fn is_outside(fault: &RepositoryFault<Rc<Vec<u8>>, Vec<u8>>) -> bool
         | RepositoryFault::Number { .. }
         | RepositoryFault::Value(_)
         | RepositoryFault::Format(_)
-        | RepositoryFault::NoWorkTree => false,
+        | RepositoryFault::NoWorkTree
+        | RepositoryFault::RemoteUrl
+        | RepositoryFault::Branch(_)
+        | RepositoryFault::RelativeFile(_)
+        | RepositoryFault::RelativeFolder(_) => false,
     }
 }
 
@@ -160,8 +163,8 @@ fn place_in<S: FileSystem + ConfigFiles>(
     let folders = folders(alloc, source, told, found)?;
     let own = read_own(alloc, source, &told.environment, &folders)?;
     let top = work_tree(alloc, source, told, &own, found)?;
-    let known = known_in(alloc, source, told, &folders.git_folder)?;
-    let top = top_above(alloc, told.current, top)?;
+    let known = known_in(alloc, source, told, found, &own, &top, &folders)?;
+    let top = top_above(alloc, told.current, &top)?;
     let exclude = exclude_there(alloc, source, told, found, &own, &top)?;
     Ok(ConfigPlace {
         known,
@@ -176,43 +179,6 @@ fn place_in<S: FileSystem + ConfigFiles>(
         )?,
         top,
     })
-}
-
-/// The top of the work tree, where the current folder lies below it: Git goes there.
-fn top_above(
-    alloc: Global,
-    current: &[u8],
-    top: Option<Vec<u8>>,
-) -> Result<Option<Vec<u8>>, AllocError>
-    ensures { IfOk result (λ above. option_map vec_items above ≡ top_above current.now (option_map vec_items top)) }
-{
-    let Some(top) = top else {
-        return Ok(None);
-    };
-    if lies_below(alloc, &top, current)? {
-        return Ok(Some(top));
-    }
-    Ok(None)
-}
-
-/// Whether a path lies below a folder.
-fn lies_below(alloc: Global, folder: &[u8], path: &[u8]) -> Result<bool, AllocError>
-    ensures { IfOk result (λ answer. answer ≡ lies_below folder.now path.now) }
-{
-    let mut front = Vec::from_slice(alloc, folder_of(folder))?;
-    front.extend_from_slice(b"/")?;
-    Ok(path.starts_with(&front))
-}
-
-/// The path of a folder without a slash at its end.
-fn folder_of(path: &[u8]) -> &[u8]
-    ensures { result.now ≡ folder_of path.now }
-{
-    if path.ends_with(b"/") {
-        &path[..path.len() - 1]
-    } else {
-        path
-    }
 }
 
 /// The name of `info/exclude` from the top to which Git goes, or else from the current folder.

@@ -29,6 +29,10 @@ pub struct RepositoryVariables {
     pub object_directory: Option<Vec<u8>>,
     /// `GIT_CEILING_DIRECTORIES`.
     pub ceiling_directories: Option<Vec<u8>>,
+    /// `PWD`.
+    pub pwd: Option<Vec<u8>>,
+    /// `GIT_IMPLICIT_WORK_TREE`.
+    pub implicit_work_tree: Option<Vec<u8>>,
     /// Whether `GIT_DISCOVERY_ACROSS_FILESYSTEM` is true. Git doesn't look at it where `GIT_DIR` is set.
     pub across_file_systems: bool,
 }
@@ -52,6 +56,8 @@ impl RepositoryVariables {
             index_file: variable(rt, alloc, "GIT_INDEX_FILE")?,
             object_directory: variable(rt, alloc, "GIT_OBJECT_DIRECTORY")?,
             ceiling_directories: variable(rt, alloc, "GIT_CEILING_DIRECTORIES")?,
+            pwd: variable(rt, alloc, "PWD")?,
+            implicit_work_tree: variable(rt, alloc, "GIT_IMPLICIT_WORK_TREE")?,
             across_file_systems,
         })
     }
@@ -67,6 +73,8 @@ impl RepositoryVariables {
             index_file: None,
             object_directory: None,
             ceiling_directories: None,
+            pwd: None,
+            implicit_work_tree: None,
             across_file_systems: false,
         }
     }

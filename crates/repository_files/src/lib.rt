@@ -13,6 +13,7 @@ mod sight;
 #[cfg(test)]
 mod tests;
 mod user;
+mod users;
 mod variables;
 
 pub use configuration::{ConfigurationPair, ConfigurationVariables};

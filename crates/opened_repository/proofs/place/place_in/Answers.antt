@@ -5,7 +5,7 @@ use Rattle.git_repository.specs.Answers.{found_with}
 use Rattle.git_repository.specs.Folders.{folders_with, settings_with}
 use Rattle.opened_repository.specs.Alone.{OwnSettings}
 use Rattle.opened_repository.specs.Answers.{Tells}
-use Rattle.opened_repository.specs.Opening.{KnownIn, path_if}
+use Rattle.opened_repository.specs.Opening.{path_if}
 use Rattle.opened_repository.specs.Places.{ExcludeThere, PlaceIn, beside, place_of, worktree_name}
 use Rattle.opened_repository.specs.Readings.{known_of}
 use Rattle.opened_repository.specs.Results.{said_of}
@@ -46,8 +46,7 @@ returns-in_err-known g c =
     let left1 = step known Whole (folders_with vec_items c.in_ok-folders.folders) left0 c.in_ok-folders.ensures in
     let left2 = step known Whole (settings_with vec_items c.in_ok-own.own) left1 (λ k. c.in_ok-own.ensures tt) in
     let left3 = step known Whole (option_map vec_items c.in_ok-top.top) left2 c.in_ok-top.ensures in
-    stop known Whole place_of known_of c.in_err-known.field-0.0 c.from_residual-in_err-known.result left3 c.from_residual-in_err-known.ensures.1
-    (subst (λ (p : List ℕ). Tells known known_of (Err c.in_err-known.field-0.0) (KnownIn tree Shows said p)) c.deref.ensures.value c.in_err-known.ensures)
+    stop known Whole place_of known_of c.in_err-known.field-0.0 c.from_residual-in_err-known.result left3 c.from_residual-in_err-known.ensures.1 c.in_err-known.ensures
 
 pub returns-in_err-exclude : goal.returns-in_err-exclude
 returns-in_err-exclude g c =
@@ -58,7 +57,7 @@ returns-in_err-exclude g c =
     let left1 = step known Whole (folders_with vec_items c.in_ok-folders.folders) left0 c.in_ok-folders.ensures in
     let left2 = step known Whole own left1 (λ k. c.in_ok-own.ensures tt) in
     let left3 = step known Whole (option_map vec_items c.in_ok-top.top) left2 c.in_ok-top.ensures in
-    let left4 = step known Whole is left3 (λ k. subst (λ (p : List ℕ). KnownIn tree Shows said p (Ok is)) c.deref.ensures.value (c.in_ok-known.ensures k)) in
+    let left4 = step known Whole is left3 c.in_ok-known.ensures in
     stop known Whole place_of bytes c.in_err-exclude.field-0.0 c.from_residual-in_err-exclude.result left4 c.from_residual-in_err-exclude.ensures.1
     (subst (λ (t : Option (List ℕ)). Tells known bytes (Err c.in_err-exclude.field-0.0) (ExcludeThere tree Shows said found own t)) c.in_ok-top-2.ensures c.in_err-exclude.ensures)
 
@@ -72,11 +71,11 @@ returns g c =
     let left1 = step known Whole folders left0 c.in_ok-folders.ensures in
     let left2 = step known Whole own left1 (λ k. c.in_ok-own.ensures tt) in
     let left3 = step known Whole (option_map vec_items c.in_ok-top.top) left2 c.in_ok-top.ensures in
-    let left4 = step known Whole is left3 (λ k. subst (λ (p : List ℕ). KnownIn tree Shows said p (Ok is)) c.deref.ensures.value (c.in_ok-known.ensures k)) in
+    let left4 = step known Whole is left3 c.in_ok-known.ensures in
     let left5 = step known Whole exclude left4 (λ k. subst (λ (t : Option (List ℕ)). ExcludeThere tree Shows said found own t (Ok exclude)) c.in_ok-top-2.ensures (c.in_ok-exclude.ensures k)) in
-    let config = c.in_ok-beside.ensures ∙ ap (λ (e : List ℕ). beside e (codes "config")) c.deref-2.ensures.value in
+    let config = c.in_ok-beside.ensures ∙ ap (λ (e : List ℕ). beside e (codes "config")) c.deref.ensures.value in
     let worktree =
     c.in_ok-if_own.ensures
-    ∙ ap (λ (e : List ℕ). path_if own.has_worktree_config (worktree_name said.current (option_map vec_items c.in_ok-top-2.top) folders e)) c.deref-3.ensures.value
+    ∙ ap (λ (e : List ℕ). path_if own.has_worktree_config (worktree_name said.current (option_map vec_items c.in_ok-top-2.top) folders e)) c.deref-2.ensures.value
     ∙ ap (λ (t : Option (List ℕ)). path_if own.has_worktree_config (worktree_name said.current t folders exclude)) c.in_ok-top-2.ensures in
     λ k. left5 _ k (place_is is _ _ _ _ _ _ c.in_ok-top-2.ensures config worktree)

@@ -1,7 +1,7 @@
 use Rattle.std.proofs.Common.{◌≡◌, ◌+◌, ◌-◌, ◌≤◌, drop, length}
 use Rattle.std.specs.List.{prefix_len}
-use Rattle.git_repository.specs.GitFolders.{is_blank}
-use Rattle.opened_repository.proofs.head.blank_len.Given as goal
+use Rattle.git_config.specs.Grammar.{is_blank}
+use Rattle.core_settings.proofs.blanks.blank_len.Given as goal
 
 -- the bytes so far are blanks
 abbrev pub invariant-bytes : goal.invariant-bytes

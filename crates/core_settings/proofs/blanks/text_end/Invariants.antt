@@ -1,7 +1,7 @@
 use Rattle.std.proofs.Common.{◌≡◌, ◌+◌, ◌-◌, ◌≤◌, take, length}
 use Rattle.std.specs.List.{suffix_len}
-use Rattle.git_repository.specs.GitFolders.{is_blank}
-use Rattle.opened_repository.proofs.head.text_end.Given as goal
+use Rattle.git_config.specs.Grammar.{is_blank}
+use Rattle.core_settings.proofs.blanks.text_end.Given as goal
 
 -- the bytes behind are blanks
 abbrev pub invariant-bytes : goal.invariant-bytes
