@@ -15,7 +15,6 @@ use Rattle.glob_lists.specs.Rules.{by_git}
 use Rattle.glob_trees.specs.Ways.{Folder}
 use Rattle.pathspecs.specs.Leading.{word_front, word_leads}
 use Rattle.record_streams.specs.Records.{AnswersAll}
-use Rattle.told_paths.specs.Standpoints.{led, literal_front}
 use Rattle.told_paths.specs.declared.quoting.Quoting.{Quoting}
 use Rattle.told_paths.specs.declared.standpoint.Standpoint.{Standpoint}
 use Rattle.tree_answers.specs.Lines.{behind}
@@ -129,7 +128,7 @@ pub record ListsIgnored (standpoint : Standpoint) (rules : Rules) (form : Form) 
   pub paths : List (List ℕ)
   pub asked : paths_asked standpoint told tracked ≡ Some paths
   pub question : Question
-  pub from : (question.leads ≡ led standpoint) × (question.literal ≡ literal_front standpoint)
+  pub from : (question.leads ≡ word_leads standpoint) × (question.literal ≡ word_front standpoint)
   pub beside : question.tracked ≡ []
   pub before : AreFronts question.front_count question.fronts
   pub by_rules : question.rules ≡ rules

@@ -1,11 +1,11 @@
 //! The command `files`.
-ghost use Rattle.std.specs.Prelude.{◌≡◌, ◌||◌, IfOk, MatchBool, OnOk, false, length, map};
+ghost use Rattle.std.specs.Prelude.{◌≡◌, ◌||◌, IfOk, MatchBool, OnOk, length, map};
 ghost use Rattle.gix_glob.specs.EntryLists.{entry_list_of};
-ghost use Rattle.gix_glob.specs.Watched.{has_failed, inner};
+ghost use Rattle.gix_glob.specs.Watched.{inner};
 ghost use Rattle.glob_lists.specs.Rules.{by_git};
-ghost use Rattle.tree_words.specs.Files.{are_usual};
 ghost use Rattle.tree_commands.specs.declared.files.mark.Mark.TheVariants as marks;
 ghost use Rattle.globtree.specs.Answers.{AnswersFiles, AreFronts, ListsFound, ListsIgnored, ListsTracked, case_by};
+ghost use Rattle.tree_words.specs.Files.{are_usual, lists_tracked};
 ghost use Rattle.globtree.specs.Running.{IsAnswered, chosen_by, folders_by, form_by};
 
 use crate::fronts::{Fronts, case_of, fronts_of, tree_behind};
@@ -49,26 +49,17 @@ pub(crate) fn list_files<R: Files + Env + Clock + Eprint + AllocGlobal + Clone +
     if counts_patterns(flags) && fronts.excludes_are_elsewhere {
         bail!("a relative core.excludesFile isn't read from outside of the work tree");
     }
-    let status = if flags.are_usual() || flags.others {
-        list_found(
-            rt,
-            alloc,
-            options,
-            flags,
-            &fronts,
-            folder,
-            shows_progress,
-            output,
-        )?
-    } else {
-        ANSWERED
-    };
-    if flags.lists_tracked() {
-        if output.failed() {
-            bail!("writing");
-        }
-        list_tracked_by(rt, alloc, options, flags, fronts, folder, output)?;
-    }
+    let status = list_found(
+        rt,
+        alloc,
+        options,
+        flags,
+        &fronts,
+        folder,
+        shows_progress,
+        output,
+    )?;
+    list_tracked_by(rt, alloc, options, flags, fronts, folder, output)?;
     Ok(status)
 }
 
@@ -93,7 +84,7 @@ fn index_by(flags: FilesFlags) -> IndexUse {
     }
 }
 
-/// Lists the files that are found below a folder.
+/// Lists the files that are found below a folder, where such are listed.
 fn list_found<R: Files + Env + Clock + Eprint + AllocGlobal + Clone + Drop, O: Write>(
     rt: &R,
     alloc: Global,
@@ -105,8 +96,13 @@ fn list_found<R: Files + Env + Clock + Eprint + AllocGlobal + Clone + Drop, O: W
     output: &mut Watched<O>,
 ) -> Result<u8>
     ensures status { IfOk result IsAnswered }
-    ensures found { IfOk result (λ _. ListsFound marks.Bare fronts.now.standpoint (form_by flags.nul fronts.now.quoting) (O.contents (inner output.old)) (O.contents (inner output.new))) }
+    ensures found { IfOk result (λ _. MatchBool (are_usual flags || flags.others)
+        (ListsFound marks.Bare fronts.now.standpoint (form_by flags.nul fronts.now.quoting) (O.contents (inner output.old)) (O.contents (inner output.new)))
+        (O.contents (inner output.new) ≡ O.contents (inner output.old))) }
 {
+    if !lists_found(flags) {
+        return Ok(ANSWERED);
+    }
     let listing = Listing {
         standpoint: copy_of(&fronts.standpoint)?,
         form: Form::ended_by(flags.nul, fronts.quoting),
@@ -117,6 +113,13 @@ fn list_found<R: Files + Env + Clock + Eprint + AllocGlobal + Clone + Drop, O: W
         case: case_of(options, fronts.folds),
     };
     run_listing(rt, alloc, listing, fronts, folder, shows_progress, output)
+}
+
+/// Whether files are listed that are found: with `-o`, and without options.
+fn lists_found(flags: FilesFlags) -> bool
+    ensures { result ≡ (are_usual flags || flags.others) }
+{
+    flags.are_usual() || flags.others
 }
 
 /// Which files are listed that are found: without options those that aren't ignored; else what the patterns say, where they count.
@@ -143,7 +146,7 @@ fn folders_by(flags: FilesFlags) -> Folders
     }
 }
 
-/// Lists the tracked paths at or below a folder; with `-i` those that are ignored.
+/// Lists the tracked paths at or below a folder, where such are listed; with `-i` those that are ignored.
 fn list_tracked_by<R: Files + Env + Eprint + AllocGlobal, O: Write>(
     rt: &R,
     alloc: Global,
@@ -153,12 +156,19 @@ fn list_tracked_by<R: Files + Env + Eprint + AllocGlobal, O: Write>(
     folder: &str,
     output: &mut Watched<O>,
 ) -> Result<()>
-    requires working { has_failed output.old ≡ false }
-    requires before { AreFronts (length fronts.lists.items) (map (entry_list_of (λ _. tt)) fronts.lists.items) }
-    ensures { OnOk result (MatchBool flags.ignored
+    requires { AreFronts (length fronts.lists.items) (map (entry_list_of (λ _. tt)) fronts.lists.items) }
+    ensures { OnOk result (MatchBool (lists_tracked flags)
+        (MatchBool flags.ignored
         (ListsIgnored fronts.standpoint (by_git (case_by options.entry fronts.folds)) (form_by flags.nul fronts.quoting) fronts.tracked folder.now (O.contents (inner output.old)) (O.contents (inner output.new)))
-        (ListsTracked fronts.standpoint (form_by flags.nul fronts.quoting) fronts.tracked folder.now (O.contents (inner output.old)) (O.contents (inner output.new)))) }
+        (ListsTracked fronts.standpoint (form_by flags.nul fronts.quoting) fronts.tracked folder.now (O.contents (inner output.old)) (O.contents (inner output.new))))
+        (O.contents (inner output.new) ≡ O.contents (inner output.old))) }
 {
+    if !flags.lists_tracked() {
+        return Ok(());
+    }
+    if output.failed() {
+        bail!("writing");
+    }
     let form = Form::ended_by(flags.nul, fronts.quoting);
     let case = case_of(options, fronts.folds);
     let Fronts {

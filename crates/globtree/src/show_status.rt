@@ -41,17 +41,17 @@ pub(crate) fn show_status<R: Files + Env + Clock + Eprint + AllocGlobal + Clone 
         bail!("{message}");
     }
     let fronts = fronts_of(rt, alloc, options, IndexUse::Paths)?;
-    let mut status = ANSWERED;
-    if flags.tells_untracked() {
-        let listing = listing_of(alloc, options, flags, &fronts, Mark::Untracked)?;
-        status = run_listing(rt, alloc, listing, &fronts, ".", shows_progress, output)?;
+    if !flags.tells_untracked() {
+        return Ok(ANSWERED);
     }
-    if flags.tells_ignored() {
-        // what can't be read for those that aren't ignored can't be for these, which lie in more folders
-        let listing = listing_of(alloc, options, flags, &fronts, Mark::Ignored)?;
-        status = run_listing(rt, alloc, listing, &fronts, ".", shows_progress, output)?;
+    let listing = listing_of(alloc, options, flags, &fronts, Mark::Untracked)?;
+    let status = run_listing(rt, alloc, listing, &fronts, ".", shows_progress, output)?;
+    if !flags.tells_ignored() {
+        return Ok(status);
     }
-    Ok(status)
+    // what can't be read for those that aren't ignored can't be for these, which lie in more folders
+    let listing = listing_of(alloc, options, flags, &fronts, Mark::Ignored)?;
+    run_listing(rt, alloc, listing, &fronts, ".", shows_progress, output)
 }
 
 /// What is asked of a listing from the top of the files that this mark stands before.
