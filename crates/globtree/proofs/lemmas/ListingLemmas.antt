@@ -32,10 +32,10 @@ from_top mark told form asked standpoint old new is same top lists =
     (standpoint, top, subst (λ mark. ListsFound mark standpoint form old new) is (subst (λ form. ListsFound told standpoint form old new) same lists))
 
 -- what is told by a value that was looked at
-pub where_true : {A B : Type 0} (asked told : Bool) → told ≡ asked → told ≡ true → A → MatchBool asked A B
-where_true true told is holds a = a
-where_true false told is holds a = absurd (false≢true (sym is ∙ holds))
+pub where_true : (A B : Type 0) (asked told : Bool) → told ≡ asked → told ≡ true → A → MatchBool asked A B
+where_true A B true told is holds a = a
+where_true A B false told is holds a = absurd (false≢true (sym is ∙ holds))
 
-pub where_false : {A B : Type 0} (asked told : Bool) → told ≡ asked → told ≡ false → B → MatchBool asked A B
-where_false false told is fails b = b
-where_false true told is fails b = absurd (false≢true (sym fails ∙ is))
+pub where_false : (A B : Type 0) (asked told : Bool) → told ≡ asked → told ≡ false → B → MatchBool asked A B
+where_false A B false told is fails b = b
+where_false A B true told is fails b = absurd (false≢true (sym fails ∙ is))

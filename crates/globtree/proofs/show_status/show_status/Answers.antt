@@ -18,8 +18,8 @@ returns-then-not-tells_untracked-clause-answered g c =
     record {
       quoting = c.in_ok-fronts.fronts.quoting;
       middle = g.O.Write.contents (inner c.args.output.now);
-      untracked = where_false (tells_untracked c.args.flags) c.tells_untracked.result c.tells_untracked.ensures c.if-not-tells_untracked.true refl;
-      ignored = where_false (tells_ignored c.args.flags) false (sym (neither c.args.flags none)) refl refl;
+      untracked = where_false _ _ (tells_untracked c.args.flags) c.tells_untracked.result c.tells_untracked.ensures c.if-not-tells_untracked.true refl;
+      ignored = where_false _ _ (tells_ignored c.args.flags) false (sym (neither c.args.flags none)) refl refl;
     }
 
 pub returns-then-not-tells_ignored-clause-answered : goal.returns-then-not-tells_ignored-clause-answered
@@ -31,9 +31,9 @@ returns-then-not-tells_ignored-clause-answered g c =
     record {
       quoting = c.in_ok-fronts.fronts.quoting;
       middle = new;
-      untracked = where_true (tells_untracked c.args.flags) c.tells_untracked.result c.tells_untracked.ensures c.if-not-tells_untracked.false
+      untracked = where_true _ _ (tells_untracked c.args.flags) c.tells_untracked.result c.tells_untracked.ensures c.if-not-tells_untracked.false
           (from_top marks.Untracked listing.mark (form_by c.args.flags.nul c.in_ok-fronts.fronts.quoting) listing.form listing.standpoint old new is.0 is.1 is.2 c.in_ok-status.ensures.found);
-      ignored = where_false (tells_ignored c.args.flags) c.tells_ignored.result c.tells_ignored.ensures c.if-not-tells_ignored.true refl;
+      ignored = where_false _ _ (tells_ignored c.args.flags) c.tells_ignored.result c.tells_ignored.ensures c.if-not-tells_ignored.true refl;
     }
 
 pub returns-clause-answered : goal.returns-clause-answered
@@ -50,9 +50,9 @@ returns-clause-answered g c =
     (λ _ found. record {
       quoting = c.in_ok-fronts.fronts.quoting;
       middle = middle;
-      untracked = where_true (tells_untracked c.args.flags) c.tells_untracked.result c.tells_untracked.ensures c.if-not-tells_untracked.false
+      untracked = where_true _ _ (tells_untracked c.args.flags) c.tells_untracked.result c.tells_untracked.ensures c.if-not-tells_untracked.false
           (from_top marks.Untracked first.mark form first.form first.standpoint old middle is.0 is.1 is.2 c.in_ok-status.ensures.found);
-      ignored = where_true (tells_ignored c.args.flags) c.tells_ignored.result c.tells_ignored.ensures c.if-not-tells_ignored.false
+      ignored = where_true _ _ (tells_ignored c.args.flags) c.tells_ignored.result c.tells_ignored.ensures c.if-not-tells_ignored.false
           (from_top marks.Ignored second.mark form second.form second.standpoint middle new also.0 also.1 also.2 found);
     })
     c.run_listing-2.ensures.found
