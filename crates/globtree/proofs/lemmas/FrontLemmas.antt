@@ -18,8 +18,8 @@ pub fronts_of_tree : {T X : Type 0} (count : ℕ) (all items : List (patterns.Li
 fronts_of_tree {T} {X} count all items counted same are =
     let see : patterns.List T X → EntryList (Unit {0}) = entry_list_of (λ _. tt) in
     subst (λ n. AreFronts n (take n (map see all))) (sym counted)
-        (subst (λ lists. AreFronts (length items) (take (length items) (map see lists))) (sym same)
-        (subst (AreFronts (length items)) (sym (take_all see items)) are))
+    (subst (λ lists. AreFronts (length items) (take (length items) (map see lists))) (sym same)
+    (subst (AreFronts (length items)) (sym (take_all see items)) are))
 
 -- entries that have no value are plain ones
 plain_same : (entries : List PlainEntry) → map plain entries ≡ entries

@@ -16,5 +16,5 @@ returns-clause-found g c =
     let new : Option (List ℕ) = g.O.Write.contents (inner c.run_listing.new.output) in
     IfOk-weaker c.run_listing.result _ _
     (λ _ found. where_true _ _ (are_usual c.args.flags || c.args.flags.others) c.lists_found.result c.lists_found.ensures c.if-not-lists_found.false
-        (subst (λ form. ListsFound marks.Bare standpoint form old new) c.ended_by.ensures (as_seen_from marks.Bare copy standpoint c.ended_by.result old new same.0 same.1 same.2 found)))
+    (subst (λ form. ListsFound marks.Bare standpoint form old new) c.ended_by.ensures (as_seen_from marks.Bare copy standpoint c.ended_by.result old new same.0 same.1 same.2 found)))
     c.run_listing.ensures.found
