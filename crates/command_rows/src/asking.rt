@@ -1,6 +1,6 @@
 //! Which calls answer the rows of a subject.
 
-use crate::{as_git, ignore_runs, pathspecs};
+use crate::{as_git, ignore_runs, spelt_words};
 use row_texts::{Answer, Question, RowFault};
 use std::alloc::Global;
 
@@ -29,6 +29,6 @@ pub fn ask_commands(
         CommandSubject::GitTold => as_git::git_told(alloc, question, answer),
         CommandSubject::Attributes => as_git::git_attributes(alloc, question, answer),
         CommandSubject::IgnoreRuns => ignore_runs::ignore_runs(alloc, question, answer),
-        CommandSubject::Pathspecs => pathspecs::pathspecs(question, answer),
+        CommandSubject::Pathspecs => spelt_words::spelt_words(question, answer),
     }
 }

@@ -4,7 +4,7 @@
 mod as_git;
 mod asking;
 mod ignore_runs;
-mod pathspecs;
 mod sources;
+mod spelt_words;
 
 pub use asking::{CommandSubject, ask_commands};

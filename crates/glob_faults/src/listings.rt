@@ -157,7 +157,9 @@ fn index_of(alloc: Global, entries: Entries) -> Result<Index, IndexFault> {
     bytes.extend_from_slice(&[0; 20])?;
     Index::from_bytes(alloc, &bytes, ObjectFormat::Sha1)
 }
+
 /// A question: what is listed, what is to be written, and how many folders are asked for their names.
+#[derive(Drop)]
 struct Question {
     told: &'static [u8],
     chosen: Chosen,
