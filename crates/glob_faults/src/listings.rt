@@ -142,24 +142,27 @@ fn index_of(alloc: Global, entries: Entries) -> Result<Index, IndexFault> {
     bytes.extend_from_slice(b"DIRC\0\0\0\x02")?;
     bytes.extend_from_slice(&(entries.len() as u32).to_be_bytes())?;
     for (mode, path) in entries {
-        let start = bytes.len();
-        bytes.extend_from_slice(&[0; 24])?;
-        bytes.extend_from_slice(&mode.to_be_bytes())?;
-        bytes.extend_from_slice(&[0; 32])?;
-        bytes.extend_from_slice(&(path.len() as u16).to_be_bytes())?;
-        bytes.extend_from_slice(path)?;
-        bytes.push(0)?;
-        while (bytes.len() - start) % 8 != 0 {
-            bytes.push(0)?;
-        }
+        push_entry(&mut bytes, *mode, path)?;
     }
     // no checksum, as where Git was told to leave it out
     bytes.extend_from_slice(&[0; 20])?;
     Index::from_bytes(alloc, &bytes, ObjectFormat::Sha1)
 }
 
+/// Appends an entry, with as many zeros behind its path as make its length a multiple of eight, and one at least.
+fn push_entry(bytes: &mut Vec<u8>, mode: u32, path: &[u8]) -> Result<(), AllocError> {
+    bytes.extend_from_slice(&[0; 24])?;
+    bytes.extend_from_slice(&mode.to_be_bytes())?;
+    bytes.extend_from_slice(&[0; 32])?;
+    bytes.extend_from_slice(&(path.len() as u16).to_be_bytes())?;
+    bytes.extend_from_slice(path)?;
+    let zeros = [0; 8];
+    let count = 8 - (path.len() % 8 + 6) % 8;
+    bytes.extend_from_slice(&zeros[..count])
+}
+
 /// A question: what is listed, what is to be written, and how many folders are asked for their names.
-#[derive(Drop)]
+#[derive(Clone, Copy, Drop)]
 struct Question {
     told: &'static [u8],
     chosen: Chosen,
@@ -230,54 +233,44 @@ fn ask(rt: &(impl Abort + AllocGlobal), question: Question, row: usize) -> Resul
     Ok(())
 }
 
-/// Asks each of the questions.
-fn ask_all<const N: usize>(
-    rt: &(impl Abort + AllocGlobal),
-    questions: [Question; N],
-) -> Result<(), Fail> {
-    for (row, question) in questions.into_iter().enumerate() {
-        ask(rt, question, row)?;
-    }
-    Ok(())
-}
-
 #[test]
 fn files_are_listed(rt: HostRuntime) -> Result<(), Fail> {
-    ask_all(
-        &rt,
-        [
-            Question {
-                told: b".",
-                wanted: b".gitignore\na\nb.c\nb/.gitignore\nb/z\nown/\ny\n",
-                asked: 3,
-                ..PLAIN
-            },
-            Question {
-                told: b"b",
-                wanted: b"b/.gitignore\nb/z\n",
-                asked: 1,
-                ..PLAIN
-            },
-            Question {
-                told: b"ignored",
-                wanted: b"",
-                asked: 0,
-                ..PLAIN
-            },
-            Question {
-                told: b"own/x",
-                wanted: b"",
-                asked: 1,
-                ..PLAIN
-            },
-            Question {
-                told: b"a/",
-                wanted: b"",
-                asked: 0,
-                ..PLAIN
-            },
-        ],
-    )
+    let rows: [Question; 5] = [
+        Question {
+            told: b".",
+            wanted: b".gitignore\na\nb.c\nb/.gitignore\nb/z\nown/\ny\n",
+            asked: 3,
+            ..PLAIN
+        },
+        Question {
+            told: b"b",
+            wanted: b"b/.gitignore\nb/z\n",
+            asked: 1,
+            ..PLAIN
+        },
+        Question {
+            told: b"ignored",
+            wanted: b"",
+            asked: 0,
+            ..PLAIN
+        },
+        Question {
+            told: b"own/x",
+            wanted: b"",
+            asked: 1,
+            ..PLAIN
+        },
+        Question {
+            told: b"a/",
+            wanted: b"",
+            asked: 0,
+            ..PLAIN
+        },
+    ];
+    for (row, question) in rows.into_iter().enumerate() {
+        ask(&rt, question, row)?;
+    }
+    Ok(())
 }
 
 /// A file that stands in the tree, and one that doesn't.
@@ -293,66 +286,67 @@ const IN_REPOSITORIES: Entries = &[
 
 #[test]
 fn files_are_listed_beside_an_index(rt: HostRuntime) -> Result<(), Fail> {
-    ask_all(
-        &rt,
-        [
-            Question {
-                tracked: TRACKED,
-                wanted: b".gitignore\nb.c\nb/.gitignore\nb/z\nown/\ny\n",
-                asked: 3,
-                ..PLAIN
-            },
-            Question {
-                tracked: TRACKED,
-                chosen: Chosen::All,
-                wanted: b".gitignore\nb.c\nb/.gitignore\nb/y\nb/z\nignored/x\nown/\ny\n",
-                asked: 4,
-                ..PLAIN
-            },
-            Question {
-                tracked: TRACKED,
-                chosen: Chosen::Ignored,
-                wanted: b"b/y\nignored/x\n",
-                asked: 4,
-                ..PLAIN
-            },
-            Question {
-                tracked: TRACKED,
-                folders: Folders::Named,
-                wanted: b".gitignore\nb.c\nb/.gitignore\nb/z\nown/\ny\n",
-                asked: 2,
-                ..PLAIN
-            },
-            Question {
-                tracked: TRACKED,
-                chosen: Chosen::All,
-                folders: Folders::Named,
-                wanted: b".gitignore\nb.c\nb/.gitignore\nb/y\nb/z\nignored/\nown/\ny\n",
-                asked: 2,
-                ..PLAIN
-            },
-            Question {
-                tracked: TRACKED,
-                chosen: Chosen::Ignored,
-                folders: Folders::NamedIfIgnored,
-                mark: Mark::Ignored,
-                wanted: b"!! b/y\n!! ignored/\n",
-                asked: 3,
-                ..PLAIN
-            },
-            Question {
-                tracked: IN_REPOSITORIES,
-                wanted: b".gitignore\nb.c\nb/.gitignore\nb/z\nown/x\ny\n",
-                asked: 3,
-                ..PLAIN
-            },
-            Question {
-                tracked: IN_REPOSITORIES,
-                chosen: Chosen::All,
-                wanted: b".gitignore\nb.c\nb/.gitignore\nb/y\nb/z\nown/x\ny\n",
-                asked: 3,
-                ..PLAIN
-            },
-        ],
-    )
+    let rows: [Question; 8] = [
+        Question {
+            tracked: TRACKED,
+            wanted: b".gitignore\nb.c\nb/.gitignore\nb/z\nown/\ny\n",
+            asked: 3,
+            ..PLAIN
+        },
+        Question {
+            tracked: TRACKED,
+            chosen: Chosen::All,
+            wanted: b".gitignore\nb.c\nb/.gitignore\nb/y\nb/z\nignored/x\nown/\ny\n",
+            asked: 4,
+            ..PLAIN
+        },
+        Question {
+            tracked: TRACKED,
+            chosen: Chosen::Ignored,
+            wanted: b"b/y\nignored/x\n",
+            asked: 4,
+            ..PLAIN
+        },
+        Question {
+            tracked: TRACKED,
+            folders: Folders::Named,
+            wanted: b".gitignore\nb.c\nb/.gitignore\nb/z\nown/\ny\n",
+            asked: 2,
+            ..PLAIN
+        },
+        Question {
+            tracked: TRACKED,
+            chosen: Chosen::All,
+            folders: Folders::Named,
+            wanted: b".gitignore\nb.c\nb/.gitignore\nb/y\nb/z\nignored/\nown/\ny\n",
+            asked: 2,
+            ..PLAIN
+        },
+        Question {
+            tracked: TRACKED,
+            chosen: Chosen::Ignored,
+            folders: Folders::NamedIfIgnored,
+            mark: Mark::Ignored,
+            wanted: b"!! b/y\n!! ignored/\n",
+            asked: 3,
+            ..PLAIN
+        },
+        Question {
+            tracked: IN_REPOSITORIES,
+            wanted: b".gitignore\nb.c\nb/.gitignore\nb/z\nown/x\ny\n",
+            asked: 3,
+            ..PLAIN
+        },
+        Question {
+            tracked: IN_REPOSITORIES,
+            chosen: Chosen::All,
+            wanted: b".gitignore\nb.c\nb/.gitignore\nb/y\nb/z\nown/x\ny\n",
+            asked: 3,
+            ..PLAIN
+        },
+    ];
+    for (row, question) in rows.into_iter().enumerate() {
+        ask(&rt, question, row)?;
+    }
+    Ok(())
 }
