@@ -24,7 +24,6 @@ use Rattle.tree_commands.specs.CheckIgnore.{IsIgnoreAnswer, IsStatus, Question}
 use Rattle.tree_answers.specs.declared.form.Form.{Form}
 use Rattle.tree_commands.specs.Files.{ComesBefore, path_line}
 use Rattle.tree_commands.specs.TrackedFiles.{AreIgnored, names_alone, paths_asked}
-use Rattle.tree_commands.specs.declared.check_ignore.flags.IgnoreFlags.{IgnoreFlags}
 use Rattle.tree_commands.specs.declared.files.mark.Mark.{Mark}
 use Rattle.tree_commands.specs.declared.files.mark.Mark.TheVariants as marks
 use Rattle.tree_files.specs.FileLists.{IsOfFolder, IsSpelled}

@@ -1,7 +1,7 @@
 -- Lines of paths that are told from a standpoint.
 use Rattle.std.proofs.Common.{◌≡◌, ℕ, Bool, true, false, List, [], ◌∷◌, ◌++◌, if◌then◌else◌, Option, subst, sym, ◌∙◌}
 use Rattle.std.proofs.lemmas.Bool.{false≢true}
-use Rattle.std.specs.Prelude.{AllPairs, MatchBool}
+use Rattle.std.specs.Prelude.{MatchBool}
 use Rattle.std.specs.Io.KnownBytes.{Appends}
 use Rattle.std.specs.List.{flat_map}
 use Rattle.told_paths.specs.declared.standpoint.Standpoint.{Standpoint}
@@ -9,7 +9,7 @@ use Rattle.told_paths.specs.Paths.{below, folder_parts, seen_from}
 use Rattle.tree_answers.specs.declared.form.Form.{Form}
 use Rattle.tree_answers.specs.Lines.{behind}
 use Rattle.tree_commands.specs.declared.files.mark.Mark.{Mark}
-use Rattle.tree_commands.specs.Files.{ComesBefore, mark_text, marked_name}
+use Rattle.tree_commands.specs.Files.{mark_text, marked_name}
 use Rattle.globtree.specs.Answers.{IsAtTop, ListsFound, ListsFromTop}
 
 -- what a standpoint says counts, and not where it lies in memory
