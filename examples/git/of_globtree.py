@@ -118,11 +118,6 @@ def lines_with_zeros(random, paths):
     return b"".join(line + b"\n" for line in lines + [b'"a\\000"', b'"./b\\000x"', b'"dir/a.o\\000/"'])
 
 
-def without_magic(told):
-    """The same path with no colon in front, which Git takes for magic."""
-    return b"./" + told if told.startswith(b":") else told
-
-
 def parts_below(tree, folder):
     """The names of the folders directly below one."""
     below = [path[len(folder):-1] for path in tree.folders if path.startswith(folder) and path != folder]
@@ -269,7 +264,7 @@ class Comparison:
     def folders(self):
         """The folders above and below one, told with dots: `.`, `./`, `..`, `x/..`."""
         folder = self.random.choice(self.pair.tree.folders)
-        below = [without_magic(part) + b"/" + dots for part in parts_below(self.pair.tree, folder) for dots in (b"", b".", b"./", b"x/..")]
+        below = [part + b"/" + dots for part in parts_below(self.pair.tree, folder) for dots in (b"", b".", b"./", b"x/..")]
         folder = os.path.join(self.pair.top, folder)
         asked = [told for told in [*DOTTED, *below, self.pair.top, self.pair.top + b"/"] if self.is_in_tree(folder, told)]
         self.both(folder, ["-v", "-n", "-z", "--stdin"], asked)
@@ -305,7 +300,11 @@ class Comparison:
             told = self.random.choice((b"./", b".//", b"no/../", b"././")) + told
         if self.random.random() < 0.1:
             told = told.replace(b"/", self.random.choice((b"//", b"/./", b"/no/../")))
-        return without_magic(told)
+        if self.random.random() < 0.05:
+            return self.random.choice((b"::", b":()", b":(,)")) + told
+        if self.random.random() < 0.05:
+            return self.random.choice((b":/:", b"://:", b":(top)", b":(top,top)")) + path
+        return told
 
     # ---- both
 

@@ -13,27 +13,44 @@ from repositories import NAMES, Repository
 from repository_indexes import ASKED
 
 HOW_MANY_SHOWN = 3
-# how check-ignore is asked by words, and check-attr and files
+# how check-ignore is asked by words, and check-attr, config, files and status
 BY_WORDS = [["--"], ["-v", "--"], ["-v", "-n", "--"], ["--no-index", "--"], ["--no-index", "-v", "--"]]
+SHOWN = [["--list", "--show-origin", "-z"], ["--list"], ["--show-origin", "--get-all", "core.excludesFile"], ["-z", "CORE.ignorecase"]]
+LISTED = [
+    ["-c"], ["-o"], ["-c", "-o"], ["-co", "--exclude-standard"], ["-oi", "--exclude-standard"], ["-c", "-i", "--exclude-standard"],
+    ["--cached", "-oi", "--exclude-standard"], ["-o", "--directory"], ["--others", "--directory", "--exclude-standard"], ["--exclude-standard"],
+]
+STATUS = [["-uall"], ["-uall", "--ignored"], ["-u", "--ignored=matching"], ["--untracked-files=all", "--ignored=traditional"], ["-uno", "--ignored"]]
 ATTRIBUTES = [["-a", "--"], ["one", "two", "--"], ["-z", "two", "--"], ["-a", "-z", "--"]]
 OUTSIDE = [b"../../../../../../x", b"/", b"", b"../../x", b"l/x"]
+# words that spell a path behind a colon, and words that spell none
+SPELT = [b":x", b"::x", b":()x", b":", b":/", b":/x", b"://:x", b":(top)x", b":(,top)d/x", b":/d/x", b":/k*/x", b":/a*", b":(top)./x", b":a:b", b":$x", b":/d/"]
+UNSPELT = [b":!x", b":^x", b":-x", b":/~", b":(top", b":(x)x", b":(exclude)x", b":(glob)x", b":(icase,top)x", b":(literal)x", b":(attr:a)x", b":(Top)x"]
 # kinds of differences that the documents name: the first in "From Git" of docs/GLOBTREE.md
-NESTED, INDEX, MESSAGES, BARE, UNKNOWN, REMOTES = "`.git`", "the index", "messages", "no work tree", "another's folder", "files read for remotes alone"
+NESTED, MESSAGES, BARE, UNKNOWN = "`.git`", "messages", "no work tree", "another's folder"
 NAMED = kinds_in("GLOBTREE.md")
-# and those that "From Git" of docs/REPOSITORIES.md has: what tells a path otherwise, by the variables, options, links and texts of a repository
+OF_CONFIG, OF_STATUS = "`config`", "`status`"
+NO_OBJECT = re.compile(rb"fatal: (bad object HEAD|unable to read [0-9a-f]+)\n")
+ORIGIN = re.compile(rb"file:\"?[^\t\0]*/")
+# and those that "From Git" of docs/REPOSITORIES.md has: what tells a path otherwise, by the variables, links and texts of a repository
 TOLD = {
-    "a listing from outside": lambda made, question: question.words[0] == "files" and made.says(rb'(?im)excludesfile *= *"?[^/~@%\s"]'),
     "a slash behind GIT_DIR": lambda made, question: made.git_dir().endswith(b"/"),
-    "relative files of the environment": lambda made, question: any(made.is_relative(name) for name in FILES_OF_VARIABLES),
     "`.git` as a link": lambda made, question: any(os.path.basename(link) == b".git" for link in made.links),
-    "safe.bareRepository without a value": lambda made, question: made.says(rb"(?im)bareRepository[ \t]*([#;].*)?\r?$"),
-    "an empty core.worktree": lambda made, question: made.says(rb'(?im)worktree[ \t]*=[ \t"]*([#;].*)?\r?$'),
+    "`core.ignoreCase`": lambda made, question: question.words[0] in LISTINGS and made.index is not None and made.says(rb"(?i)ignorecase"),
 }
-FILES_OF_VARIABLES = (b"GIT_CONFIG_GLOBAL", b"GIT_CONFIG_SYSTEM", b"XDG_CONFIG_HOME", b"HOME")
-UNKNOWN_FOLDER = re.compile(rb"fatal: failed to expand user dir in: '(~root|%\(prefix\))/[^\n]*\n")
-OF_INCLUDED = re.compile(rb"remote URLs cannot|unable to parse command-line config|bad config line|exceeded maximum include depth")
+# and what isn't read, by the fault that names it
+UNREAD = {
+    "a listing from outside": b"a relative core.excludesFile isn't read",
+    "relative files of the environment": b"is a relative path of a file of configuration",
+    "a relative GIT_COMMON_DIR": b"GIT_COMMON_DIR is a relative path",
+    "a reference that may lead on": b"no condition 'onbranch' can be answered",
+}
+UNKNOWN_FOLDER = re.compile(rb"fatal: failed to expand user dir in: '%\(prefix\)/[^\n]*\n")
+OF_FORMAT = re.compile(rb"repo version|unknown repository extension")
+WARNINGS = re.compile(rb"(warning: [^\n]*\n)+")
 RELATIVE_CONDITION = b"error: relative config include conditionals must come from files\n"
 NO_WORK_TREE = b"fatal: this operation must be run in a work tree\n"
+LISTINGS = ("files", "status")
 FILES_OF_GIT = ["ls-files", "-co", "--exclude-standard"]
 
 Question = collections.namedtuple("Question", "folder words asked")
@@ -48,8 +65,8 @@ class Pair:
         self.environment.update((name, made.placed(room, value)) for name, value in made.variables.items())
 
     def git(self, question, is_there):
-        words = FILES_OF_GIT + question.words[1:] if question.words[0] == "files" else question.words
-        return self.run(["git"], self.made.standing[0], question, words, is_there)
+        told = self.run(["git"], self.made.standing[0], question, words_of_git(question.words), is_there)
+        return untracked_alone(told, question.words) if question.words[0] == "status" else told
 
     def globtree(self, question, is_there):
         return self.run([GLOBTREE], self.made.standing[1], question, question.words, is_there)
@@ -57,11 +74,28 @@ class Pair:
     def run(self, program, standing, question, words, is_there):
         """Runs a program in a folder, or with a word that leads to it."""
         folder = os.path.join(self.room, question.folder)
-        options = [self.made.placed(self.room, word) if isinstance(word, bytes) else word for word in self.made.options + standing]
+        # (what stands for configuration isn't the same for both)
+        words_before = self.made.options + ([] if question.words[0] == "config" else standing)
+        options = [self.made.placed(self.room, word) if isinstance(word, bytes) else word for word in words_before]
         front = program if is_there else [*program, "-C", folder]
         at = folder if is_there else self.room
         ran = subprocess.run([*front, *options, *words], cwd=at, input=question.asked, env=self.environment, capture_output=True)
         return Told(ran.returncode, ran.stdout, ran.stderr)
+
+
+def words_of_git(words):
+    """The words by which Git is asked the same."""
+    if words[0] == "status":
+        return ["status", "--porcelain", *words[1:]]
+    if words[0] != "files":
+        return words
+    return ["ls-files", *words[1:]] if set(words[1:]) - {"-z"} else FILES_OF_GIT + words[1:]
+
+
+def untracked_alone(told, words):
+    """What `git status` tells of files that aren't tracked."""
+    lines = re.findall(rb"[^\0]*\0" if "-z" in words else rb"[^\n]*\n", told.output)
+    return told._replace(output=b"".join(line for line in lines if line.startswith((b"?? ", b"!! "))))
 
 
 # ---- what is told
@@ -119,11 +153,14 @@ class Comparison:
         """Words of each kind, with what they read."""
         questions = [] if self.pair.made.index is not None else [(["files", *self.random.choice(([], ["-z"]))], b"")]
         return questions + [
+            (["files", *self.random.choice(LISTED), *self.random.choice(([], ["-z"]))], b""),
+            (["status", *self.random.choice(STATUS), *self.random.choice(([], ["-z"]))], b""),
             (["check-ignore", *self.random.choice(([], ["--no-index"])), "-v", "-n", "-z", "--stdin"], self.records()),
             (["check-ignore", *self.random.choice(BY_WORDS), *self.names()], b""),
             (["check-ignore", "-q", self.random.choice(self.names())], b""),
             (["check-attr", "-z", "--stdin", "one", "two"], self.records()),
             (["check-attr", *self.random.choice(ATTRIBUTES), *self.names()], b""),
+            (["config", *self.random.choice(SHOWN)], b""),
         ]
 
     def records(self):
@@ -135,6 +172,10 @@ class Comparison:
             names = self.random.sample(NAMES + ASKED, 9)
         if self.random.random() < 0.04:
             names.insert(self.random.randrange(8), self.random.choice(OUTSIDE))
+        if self.random.random() < 0.2:
+            names += self.random.sample(SPELT, 3)
+        if self.random.random() < 0.04:
+            names.insert(self.random.randrange(8), self.random.choice(UNSPELT))
         return names + [b"\xc3\xa4"]
 
     # ---- both
@@ -163,22 +204,31 @@ class Comparison:
     def named_kind(self, question, expected, found):
         """What the documents call a difference, or None."""
         command = question.words[0]
-        if command == "check-attr" and found.errors == NO_WORK_TREE and expected.errors != found.errors:
+        if command in ("check-attr", "files") and found.errors == NO_WORK_TREE and expected.errors != found.errors:
             return BARE
         if UNKNOWN_FOLDER.fullmatch(found.errors) and expected.errors != found.errors:
             return UNKNOWN
-        # (Git reads a file under such a condition, where it doesn't hold, too)
-        if "condition: hasconfig" in self.pair.made.constructs and is_answer(found) and OF_INCLUDED.match(fault(expected)):
-            return REMOTES
-        if b"index: bad index file checksum" in found.errors and INDEX in NAMED:
-            return INDEX
-        if command == "files" and NESTED in NAMED and not found.is_as(expected) and is_nested(expected, found):
+        if command in LISTINGS and NESTED in NAMED and not found.is_as(expected) and is_nested(expected, found):
             return NESTED
         if found.is_as(expected):
             return None
+        if command == "config" and OF_CONFIG in NAMED and self.is_shown_otherwise(expected, found):
+            return OF_CONFIG
+        if command == "status" and OF_STATUS in NAMED and NO_OBJECT.search(expected.errors):
+            return OF_STATUS
         if RELATIVE_CONDITION in expected.errors and found.is_as(expected._replace(errors=found.errors)):
             return MESSAGES
-        return next((kind for kind, holds in TOLD.items() if holds(self.pair.made, question)), None)
+        unread = next((kind for kind, words in UNREAD.items() if words in fault(found)), None)
+        return unread or next((kind for kind, holds in TOLD.items() if holds(self.pair.made, question)), None)
+
+    def is_shown_otherwise(self, expected, found):
+        """Whether `config` answers otherwise as "From Git" says."""
+        if WARNINGS.fullmatch(expected.errors) and found.is_as(expected._replace(errors=found.errors)):
+            return True
+        is_fault = not is_answer(expected) and not is_answer(found) and not found.output
+        if expected.status == found.status and ORIGIN.sub(b"file:", expected.output) == ORIGIN.sub(b"file:", found.output):
+            return True
+        return is_fault or OF_FORMAT.search(found.errors) or b"/." in self.pair.made.variables.get(b"GIT_CONFIG_SYSTEM", b"")
 
     # ---- texts of faults
 

@@ -39,10 +39,17 @@ class Repository(Shapes, Settings, Faults, Indexes):
         self.draw_includes()
         self.draw_words()
         self.draw_owner()
+        self.draw_pathspecs()
         self.draw_index()
         if not self.is_sound:
             self.draw_faults()
         self.write_configuration()
+
+    def draw_pathspecs(self):
+        """A variable by which Git reads words otherwise, which check-ignore doesn't take where it is true."""
+        if self.marked(0.05, "a variable of pathspecs"):
+            name = self.random.choice((b"LITERAL", b"GLOB", b"NOGLOB", b"ICASE"))
+            self.variables[b"GIT_%s_PATHSPECS" % name] = self.random.choice((b"1", b"true", b"0", b"no", b"", b"maybe"))
 
     # ---- work trees
 
@@ -96,10 +103,6 @@ class Repository(Shapes, Settings, Faults, Indexes):
         at = self.options.index(b"--git-dir") + 1 if b"--git-dir" in self.options else None
         return self.options[at] if at else self.variables.get(b"GIT_DIR", b"")
 
-    def is_relative(self, name):
-        """Whether a variable is set to a path from the current folder."""
-        return self.variables.get(name, b"/")[:1] not in (b"/", b"@", b"")
-
     def placed(self, room, text):
         return text.replace(b"@", room)
 
@@ -119,5 +122,7 @@ class Repository(Shapes, Settings, Faults, Indexes):
                 os.symlink(self.placed(room, target), path)
         if self.index is not None and not os.path.isdir(os.path.join(room, self.index_file)):
             write(os.path.join(room, self.index_file), self.index)
+            for path, text in self.shared.items():
+                write(os.path.join(room, path), text)
         for path in self.strangers:
             os.chown(os.path.join(room, path), STRANGER, STRANGER)

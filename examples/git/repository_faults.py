@@ -13,6 +13,9 @@ WRONG_WORDS = [
     b"a.b\n=1",
 ]
 WRONG_SETTINGS = [b"ignoreCase=maybe", b"excludesFile=~no-such-user/ig", b"attributesFile", b"excludesFile=~/.config", b"bare=x", b"symlinks=2x"]
+WRONG_PARAMETERS = [
+    b" ", b"x", b"'a.b=c", b"'a.b=c' x", b"'a.b=c''d.e=f'", b"'a.b'=c", b"'a.b'='c", b"'a.b'='c'='d'", b"'a.b=c'\\'", b" 'a.b=c'", b"'a'='c'", b"'core.ignoreCase=x'",
+]
 WRONG_COUNTS = [b"x", b"1x", b"2147483648", b"-1", b"0x1", b"9"]
 
 
@@ -160,6 +163,9 @@ class Faults(Chances):
             self.variables[b"GIT_CONFIG_KEY_0"] = self.one_of(b"core", b"", b"a.1", b"core.ignoreCase=x", b"include.path")
         else:
             del self.variables[b"GIT_CONFIG_%s_0" % kind.upper().encode()]
+
+    def fault_of_words_that_are_handed_on(self):
+        self.variables[b"GIT_CONFIG_PARAMETERS"] = self.random.choice(WRONG_PARAMETERS)
 
     def fault_of_a_word(self):
         self.options += [b"-c", self.random.choice(WRONG_WORDS)]

@@ -1,5 +1,6 @@
-"""Index files made at random, in versions 2 to 4: which names are tracked, as what, and with which bits."""
+"""Index files made at random, in versions 2 to 4, some of them split: which names are tracked, as what, and with which bits."""
 import hashlib
+import os
 import struct
 
 from configuration_texts import Chances
@@ -47,20 +48,56 @@ def index_text(version, entries, extension, is_summed):
     return text + (hashlib.sha1(text).digest() if is_summed else bytes(20))
 
 
+def bitmap(places):
+    """A bitmap in which these bits are set."""
+    words = [sum(1 << place % 64 for place in places if place // 64 == at) for at in range(max(places, default=-1) // 64 + 1)]
+    return struct.pack(">II%dQI" % (len(words) + 1), max(places, default=-1) + 1, len(words) + 1, len(words) << 33, *words, 0)
+
+
+def link(hash_, deleted, replaced):
+    content = hash_ + bitmap(deleted) + bitmap(replaced)
+    return b"link" + struct.pack(">I", len(content)) + content
+
+
 class Indexes(Chances):
     """What is tracked in a repository."""
 
     def draw_index(self):
         """An index, most often."""
-        self.index = None
+        self.index, self.shared = None, {}
         if not self.marked(0.6, "an index"):
             return
         version = self.one_of(2, 3, 4)
         self.mark("an index of version %d" % version)
-        self.index = index_text(version, self.entries_of_index(), self.random.choice(EXTENSIONS), not self.marked(0.2, "an index without a checksum"))
+        entries, extension, is_summed = self.entries_of_index(), self.random.choice(EXTENSIONS), not self.marked(0.2, "an index without a checksum")
         self.index_file = self.git + b"/index"
         if self.marked(0.08, "GIT_INDEX_FILE"):
             self.variables[b"GIT_INDEX_FILE"], self.index_file = b"@/home/other-index", b"home/other-index"
+        if self.marked(0.3, "a split index"):
+            entries, its_link = self.split(entries)
+            extension = its_link + extension
+        self.index = index_text(version, entries, extension, is_summed)
+
+    def split(self, entries):
+        """The entries and the link of an index that has these together with a shared file, which is put into a folder."""
+        shared, added = [(b"no", FILE, 0, (0, 0, 0), "deleted")] * self.chance(0.3), []
+        for name, mode, stage, bits in entries:
+            kind = self.one_of("kept", "replaced", "added", "deleted", "put in place")
+            self.mark("a split index, an entry " + kind)
+            if kind == "deleted" or (kind == "put in place" and stage == 0):
+                shared.append((name, self.random.choice((FILE, LINK)), stage or self.one_of(0, 1, 2), (0, 0, 0), kind))
+            if kind in ("kept", "replaced"):
+                shared.append((name, mode if kind == "kept" else FILE, stage, bits if kind == "kept" else (0, 0, 0), kind))
+            if kind not in ("kept", "replaced"):
+                added.append((name, mode, stage, bits))
+        shared.sort(key=lambda entry: (entry[0], entry[2]))
+        by_place = {(name, stage): (b"", mode, stage, bits) for name, mode, stage, bits in entries}
+        new = [by_place[name, stage] for name, _, stage, _, kind in shared if kind == "replaced"]
+        text = index_text(self.one_of(2, 4), [entry[:4] for entry in shared], b"", True)
+        folder = self.git if self.chance(0.7) else os.path.dirname(self.index_file)
+        self.shared = {folder + b"/sharedindex." + text[-20:].hex().encode(): text}
+        marked = [[at for at, entry in enumerate(shared) if entry[4] == kind] for kind in ("deleted", "replaced")]
+        return new + added, link(text[-20:], *marked)
 
     def entries_of_index(self):
         names = self.random.sample(TRACKED, self.one_of(0, 1, 2, 3, 5, 8))
@@ -77,7 +114,8 @@ class Indexes(Chances):
 
     def spoil_index(self):
         """Makes an index wrong that there is."""
-        kind = self.one_of("cut", "short", "version", "extension", "no name")
+        kinds = ("short", "version", "extension", "no name")
+        kind = self.one_of(*kinds, "no shared file", "another shared file", "a place behind the last") if self.shared else self.one_of(*kinds, "cut")
         self.mark("fault: an index, " + kind)
         if kind == "cut":
             self.index = self.index[:self.random.randrange(32, 33 + len(self.index) // 2)]
@@ -85,6 +123,12 @@ class Indexes(Chances):
             self.index = self.index[:self.one_of(0, 12, 31)]
         elif kind == "version":
             self.index = index_text(5, [], b"", True)
+        elif kind == "no shared file":
+            self.shared = {}
+        elif kind == "another shared file":
+            self.shared = {name: index_text(2, [(b"a", FILE, 0, (0, 0, 0))], b"", True) for name in self.shared}
+        elif kind == "a place behind the last":
+            self.index = index_text(2, [], link(next(iter(self.shared.values()))[-20:], [99], []), True)
         elif kind == "extension":
             self.index = index_text(2, [], WRONG_EXTENSION, True)
         else:

@@ -151,6 +151,8 @@ class Settings(Chances):
                 self.options += [b"-c", self.word()]
         if self.marked(0.25, "pairs of the environment"):
             self.pairs([(key_of(it), it.value or b"") for it in self.some_settings(self.one_of(0, 1, 2))])
+        if self.marked(0.2, "words that Git hands on"):
+            self.hand_on([self.word() for _ in range(self.one_of(0, 1, 1, 2))])
         if self.marked(0.1, "options that stand for configuration"):
             of_git, own = self.random.choice([
                 ([b"-c", b"core.excludesFile=@/home/ig"], [b"--excludes", b"@/home/ig"]),
@@ -169,6 +171,13 @@ class Settings(Chances):
             return self.one_of(b"a.b", b"a.B.c=", b"A.S.t.B-2=v", b"a.b=c.d=e", b"push.default=simple")
         it = self.some_settings(1)[0]
         return self.writer.cased(key_of(it)) + (b"" if it.value is None else b"=" + it.value)
+
+    def hand_on(self, words):
+        """Words that another Git hands on, as it spells them, or in its old form."""
+        spelt = [b"'%s'" % word.replace(b"'", b"'\\''") for word in words]
+        if self.marked(0.6, "words that Git hands on: two parts"):
+            spelt = [word.replace(b"=", b"'='", 1) if b"=" in word else word + b"=" for word in spelt]
+        self.variables[b"GIT_CONFIG_PARAMETERS"] = self.one_of(b" ", b" ", b"  ", b"\t").join(spelt) + self.one_of(b"", b"", b" ") * bool(spelt)
 
     def pairs(self, pairs):
         for number, (key, value) in enumerate(pairs):

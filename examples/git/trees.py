@@ -208,8 +208,6 @@ class Tree:
                     path += b"/" + self.random.choice(self.names)
             if not self.is_behind_link(path):
                 paths.append(path)
-        # (Git takes a colon in front for magic)
-        paths = [path for path in paths if not path.startswith(b":")]
         self.random.shuffle(paths)
         return paths
 

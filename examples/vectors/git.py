@@ -294,6 +294,21 @@ def tracked_paths(format_, index, asked, literal):
     return [*rows.told(ran.stdout.startswith(b"\0")), None]
 
 
+def pathspecs(word):
+    """Which end of a word is the path, by a line for each end: its file says whence it is told. Paths with `.` or `..` aren't asked."""
+    if re.search(rb"[:/)]\.\.?(/|$)", word):
+        return ()
+    ends = [word[at:] for at in range(len(word))]
+    lines = b"".join(b"/" + re.sub(rb"([*?[\\ ])", rb"\\\1", end) + b"\n" for end in ends)
+    with rows.repository_of([(b".gitignore", lines), (b"d/.gitignore", lines)]) as top:
+        command = [PROGRAM, "check-ignore", "-v", "-n", "-z", *NO_INDEX, "--stdin"]
+        ran = subprocess.run(command, cwd=os.path.join(top, "d"), input=word + b"\0", env=ALONE, capture_output=True, check=False)
+    if ran.returncode == 128:
+        return [None, None] if re.search(rb"pathspec magic|another sign", ran.stderr) else ()
+    file, line = ran.stdout.split(b"\0")[:2]
+    return [*rows.told(file == b".gitignore"), ends[int(line) - 1]] if file in (b".gitignore", b"d/.gitignore") else ()
+
+
 COMMON = ["rev-parse", "--path-format=absolute", "--git-common-dir"]
 
 
@@ -361,4 +376,4 @@ def exclude_names(current, words, *fields):
 
 OF_PATTERNS = (matching, git_paths, trees, trees_told, git_told, git_attributes, attribute_states, all_states, attribute_streams, attribute_names)
 OF_CONFIGURATION = (config_files, config_includes, config_sources, core_settings, config_booleans)
-rows.answer({it.__name__: it for it in (*OF_PATTERNS, *OF_CONFIGURATION, repositories, work_trees, exclude_names, tracked_paths)})
+rows.answer({it.__name__: it for it in (*OF_PATTERNS, *OF_CONFIGURATION, repositories, work_trees, exclude_names, tracked_paths, pathspecs)})

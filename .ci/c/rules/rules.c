@@ -1,7 +1,7 @@
-/* The handle of gix_glob_rules.h: it answers as gix_glob_decide_in_tree does for the lists of all its files, on drawn files and paths; and each
- * refusal of memory leaves it as it was. Status 0 where all is so. */
+/* The handle of gix_glob_rules.h: it answers as gix_glob_decide_in_tree does for the lists of all its files, on drawn files and paths; each
+ * refusal of memory leaves it as it was; and files are read by their names. Status 0 where all is so. */
 #include <gix_glob_rules.h>
-#include <stdio.h>
+#include <unistd.h>
 
 enum { MOST_FILES = 40, MOST_PATTERNS = 8, ROUNDS = 3000, PATHS = 60 };
 
@@ -148,10 +148,43 @@ static void refusals_change_nothing(void)
     check(gix_glob_is_ignored(gix_glob_text_of(NULL, 0), path, false) == GIX_GLOB_UNDECIDED, "no file", 0);
 }
 
+/* What isn't there and what is a directory count as files without lines; what can't be read isn't added; and memory may be refused. */
+static void files_are_read_by_their_names(void)
+{
+    char name[] = "/tmp/rulesXXXXXX", below[32], too_long[5000];
+    const int written = mkstemp(name);
+    const struct gix_glob_text top = gix_glob_string("");
+    check(written >= 0 && write(written, "a\n\n!*.o\0\nb", 10) == 10 && !close(written), "the file is written", 0);
+    sprintf(below, "%s/x", name);
+    memset(too_long, 'a', sizeof too_long);
+    too_long[sizeof too_long - 1] = 0;
+    for (size_t refused = 1; refused < 40; refused++) {
+        struct counted counted = { 0, 0, refused };
+        struct gix_glob_rule rule = GIX_GLOB_RULE_INIT;
+        struct gix_glob_rules_options options = GIX_GLOB_RULES_OPTIONS_INIT;
+        options.allocator.resize = counting;
+        options.allocator.of = &counted;
+        struct gix_glob_rules *rules = gix_glob_rules_new(&options);
+        const char *const names[] = { below, "/", name, "/tmp/rules/of/no/one" };
+        for (size_t i = 0; rules && i < sizeof names / sizeof *names; i++)
+            check(gix_glob_rules_read_file(rules, top, names[i]) || (counted.calls >= refused && gix_glob_rules_read_file(rules, top, names[i])),
+                  "a file is read", i);
+        check(!rules || (!gix_glob_rules_read_file(rules, top, too_long) && errno == ENAMETOOLONG), "a name is too long", refused);
+        check(!rules || gix_glob_rules_decide(rules, gix_glob_string("a"), false, &rule) == GIX_GLOB_IGNORED, "the first line", refused);
+        check(!rules || gix_glob_rules_decide(rules, gix_glob_string("x.o"), false, &rule) == GIX_GLOB_KEPT, "the third line", refused);
+        check(!rules || (rule.file == 2 && rule.line == 3), "which line it is", refused);
+        check(!rules || gix_glob_rules_decide(rules, gix_glob_string("b"), false, NULL) == GIX_GLOB_IGNORED, "the last line", refused);
+        gix_glob_rules_free(rules);
+        check(counted.bytes == 0, "all memory is given back", refused);
+    }
+    check(!unlink(name), "the file is removed", 0);
+}
+
 int main(void)
 {
     for (size_t round = 0; round < ROUNDS; round++)
         answers_are_those_of_all_lists(round);
     refusals_change_nothing();
+    files_are_read_by_their_names();
     return failed > 0;
 }

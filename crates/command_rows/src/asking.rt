@@ -1,6 +1,6 @@
 //! Which calls answer the rows of a subject.
 
-use crate::{as_git, ignore_runs};
+use crate::{as_git, ignore_runs, spelt_words};
 use row_texts::{Answer, Question, RowFault};
 use std::alloc::Global;
 
@@ -12,6 +12,7 @@ pub enum CommandSubject {
     GitTold,
     Attributes,
     IgnoreRuns,
+    Pathspecs,
 }
 
 /// Adds the answer to a row of a command to `answer`, by the call that its subject asks. A field that isn't as the subject asks for is a
@@ -28,5 +29,6 @@ pub fn ask_commands(
         CommandSubject::GitTold => as_git::git_told(alloc, question, answer),
         CommandSubject::Attributes => as_git::git_attributes(alloc, question, answer),
         CommandSubject::IgnoreRuns => ignore_runs::ignore_runs(alloc, question, answer),
+        CommandSubject::Pathspecs => spelt_words::spelt_words(question, answer),
     }
 }

@@ -69,6 +69,7 @@ fn word_of(fault: IgnoreFault<SourceFault>) -> Result<&'static [u8], RowFault> {
     match fault {
         IgnoreFault::Empty => Ok(b"empty"),
         IgnoreFault::Outside(_told) => Ok(b"outside"),
+        IgnoreFault::Unspelt(_word) => Ok(b"unspelt"),
         IgnoreFault::InSubmodule(_told) => Ok(b"in a submodule"),
         IgnoreFault::BadlyQuoted => Ok(b"badly quoted"),
         IgnoreFault::Source(SourceFault::Link) => Ok(b"link"),

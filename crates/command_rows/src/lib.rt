@@ -5,5 +5,6 @@ mod as_git;
 mod asking;
 mod ignore_runs;
 mod sources;
+mod spelt_words;
 
 pub use asking::{CommandSubject, ask_commands};

@@ -1,2 +1,3 @@
+pub mod HandedLemmas
 pub mod LastLemmas
 pub mod PairLemmas

@@ -1,3 +1,5 @@
+pub mod Blanks
+pub mod Parameters
 pub mod Private
 pub mod Sources
 pub mod UserFiles

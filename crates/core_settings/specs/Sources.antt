@@ -14,6 +14,7 @@ use Rattle.core_settings.specs.declared.sources.ConfigPlaces.{ConfigPlaces}
 use Rattle.core_settings.specs.declared.sources.ConfigSource.{ConfigSource}
 use Rattle.core_settings.specs.declared.sources.ConfigSource.TheVariants.{File, Word}
 use Rattle.core_settings.specs.declared.sources.Pair.{Pair}
+use Rattle.core_settings.specs.Parameters.{Handed, words_handed}
 use Rattle.core_settings.specs.UserFiles.{below_home, settings_file}
 
 abbrev Places : Type 0
@@ -79,6 +80,17 @@ pairs_fault (Ok n) pairs =
 
 -- ---- all of them
 
+-- the words of the environment, and what is wrong behind them: the pairs, and then the words that another Git hands on
+abbrev pub behind_pairs : Option WrongPairs → Handed → Handed
+behind_pairs (Some wrong) handed = ([], Some wrong)
+behind_pairs None handed = handed
+
+abbrev pub words_told : Places → List (Pair (List ℕ)) → Handed
+words_told places pairs =
+    let count = pair_count places.count in
+    let handed = behind_pairs (pairs_fault count pairs) (words_handed places.parameters) in
+    (pair_words count pairs ++ handed.0, handed.1)
+
 -- the words of the command line, if nothing is wrong before them
 abbrev pub word_of : List ℕ → ConfigSource (List ℕ)
 word_of word = Word (before_first is_equals word) (value_of_word word)
@@ -90,10 +102,10 @@ words_behind None words = map word_of words
 -- the sources, up to a fault
 abbrev pub sources_of : Places → List (Pair (List ℕ)) → List (List ℕ) → Sources
 sources_of places pairs words =
-    let count = pair_count places.count in
+    let told = words_told places pairs in
     elim (lacks_system places.no_system) [
       | None ↦ []
-      | Some lacks ↦ map (λ path. File path) (files_of lacks places) ++ (pair_words count pairs ++ words_behind (pairs_fault count pairs) words)
+      | Some lacks ↦ map (λ path. File path) (files_of lacks places) ++ (told.0 ++ words_behind told.1 words)
     ]
 
 -- and the fault behind them
@@ -101,5 +113,5 @@ abbrev pub sources_fault : Places → List (Pair (List ℕ)) → Option (Sources
 sources_fault places pairs =
     elim (lacks_system places.no_system) [
       | None ↦ option_map (λ value. NoSystem value) places.no_system
-      | Some lacks ↦ option_map (λ wrong. Pairs wrong) (pairs_fault (pair_count places.count) pairs)
+      | Some lacks ↦ option_map (λ wrong. Pairs wrong) (words_told places pairs).1
     ]

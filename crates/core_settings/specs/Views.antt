@@ -29,6 +29,7 @@ places_with see places =
       repository = option_map see places.repository;
       work_tree = option_map see places.work_tree;
       count = option_map see places.count;
+      parameters = option_map see places.parameters;
     }
 
 abbrev pub pair_with : {A B : Type 0} → (A → B) → Pair A → Pair B

@@ -8,7 +8,7 @@ use std::error::Error;
 use std::fmt;
 use thiserror::Error;
 
-/// What is wrong with the pairs of keys and values that the environment tells.
+/// What is wrong with the keys and values that the environment tells.
 #[derive(Debug, Clone, Copy, PartialEq, Eq, Error)]
 pub enum WrongPairs {
     /// `GIT_CONFIG_COUNT` is no number.
@@ -23,6 +23,9 @@ pub enum WrongPairs {
     /// The value of this number is missing.
     #[error("missing config value GIT_CONFIG_VALUE_{0}")]
     NoValue(usize),
+    /// `GIT_CONFIG_PARAMETERS` spells no words.
+    #[error("bogus format in GIT_CONFIG_PARAMETERS")]
+    Parameters,
 }
 
 /// What ends the sources of a configuration. `B` holds bytes.
@@ -30,7 +33,7 @@ pub enum WrongPairs {
 pub enum SourcesFault<B> {
     /// This value of `GIT_CONFIG_NOSYSTEM` is no boolean.
     NoSystem(B),
-    /// The pairs of the environment are wrong. Git tells what is wrong in a line before.
+    /// The keys and values of the environment are wrong. Git tells what is wrong in a line before.
     Pairs(WrongPairs),
 }
 

@@ -2,7 +2,7 @@
 ghost use Rattle.std.specs.Prelude.{◌≡◌, ◌++◌, ◌∷◌, ◌≤◌, ◌==◌, [], if◌then◌else◌, is_some, length, map, nat_lt, not, option_map, position, IfOk, OnOk};
 ghost use Rattle.std.specs.Option.{option_copied, option_to_list};
 ghost use Rattle.std.specs.Vec.{vec_items};
-ghost use Rattle.core_settings.specs.Sources.{files_of, lacks_system, pair_count, pair_word, pair_words, pairs_fault, read_pairs, sources_fault, sources_of, system_file, user_files, words_behind};
+ghost use Rattle.core_settings.specs.Sources.{files_of, lacks_system, pair_count, pair_word, pair_words, pairs_fault, read_pairs, sources_fault, sources_of, system_file, user_files, words_behind, words_told};
 ghost use Rattle.core_settings.specs.Views.{pair_with, places_with, seen_source, seen_sources, source_with, sources_fault_with};
 ghost use Rattle.core_settings.specs.declared.fault.SourcesFault.TheVariants.{NoSystem};
 ghost use Rattle.core_settings.specs.declared.fault.WrongPairs.TheVariants.{NoKey, NoValue};
@@ -11,6 +11,7 @@ ghost use Rattle.core_settings.specs.declared.sources.ConfigSource.TheVariants.{
 use crate::bytes::{owned, slice_of};
 use crate::count::pair_count;
 use crate::fault::{SourcesFault, WrongPairs};
+use crate::parameters::add_handed;
 use crate::user_files::{below_home, settings_file};
 use git_config::{Source, boolean, split_word};
 use std::alloc::{AllocError, Global};
@@ -37,6 +38,8 @@ pub struct ConfigPlaces<B> {
     pub work_tree: Option<B>,
     /// `GIT_CONFIG_COUNT`: how many pairs the environment tells.
     pub count: Option<B>,
+    /// `GIT_CONFIG_PARAMETERS`: words of `-c` that another Git hands on.
+    pub parameters: Option<B>,
 }
 
 /// A pair of the environment: the value of `GIT_CONFIG_KEY_n`, and that of `GIT_CONFIG_VALUE_n`, where it is set. `B` holds bytes.
@@ -102,8 +105,8 @@ impl ConfigSources {
     }
 }
 
-/// The sources that Git reads, in order: the system's file, the user's two, the repository's two, the pairs of the environment, and
-/// the words of the command line, each `KEY=VALUE` or `KEY`.
+/// The sources that Git reads, in order: the system's file, the user's two, the repository's two, the pairs of the environment, the words
+/// that another Git hands on, and those of the command line, each `KEY=VALUE` or `KEY`.
 ///
 /// `pairs` are those of the environment from number 0 on, up to the first that has no key, or at least as many as are told.
 ///
@@ -124,7 +127,7 @@ pub fn config_sources(
         return Ok(ConfigSources { list, fault });
     };
     add_files(alloc, lacks, places, &mut list)?;
-    let fault = add_pairs(alloc, places.count, pairs, &mut list)?;
+    let fault = add_told(alloc, places, pairs, &mut list)?;
     add_words(alloc, fault, words, &mut list)?;
     Ok(ConfigSources {
         list,
@@ -222,6 +225,22 @@ fn add_path(path: Option<Vec<u8>>, out: &mut Vec<ConfigSource<Vec<u8>>>) -> Resu
         out.push(ConfigSource::File(path))?;
     }
     Ok(())
+}
+
+/// Adds the words of the environment, up to what is wrong, and tells this.
+fn add_told(
+    alloc: Global,
+    places: &ConfigPlaces<&[u8]>,
+    pairs: &[Pair<&[u8]>],
+    out: &mut Vec<ConfigSource<Vec<u8>>>,
+) -> Result<Option<WrongPairs>, AllocError>
+    ensures added { OnOk result (seen_sources out.new ≡ seen_sources out.old ++ (words_told (places_with (λ b. b.now) places.now) (map (pair_with (λ b. b.now)) pairs.now)).0) }
+    ensures fault { IfOk result (λ fault. fault ≡ (words_told (places_with (λ b. b.now) places.now) (map (pair_with (λ b. b.now)) pairs.now)).1) }
+{
+    match add_pairs(alloc, places.count, pairs, out)? {
+        Some(wrong) => Ok(Some(wrong)),
+        None => add_handed(alloc, places.parameters, out),
+    }
 }
 
 /// Adds the words of the environment's pairs, and tells what is wrong behind them.

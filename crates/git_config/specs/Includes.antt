@@ -1,5 +1,5 @@
 -- Which file an entry includes.
-use Rattle.std.specs.Prelude.{◌≡◌, ◌⊎◌, ℕ, ◌-◌, Bool, true, false, not, nat_eq, if◌then◌else◌, List, [], ◌++◌, take, drop, length, option_map, find, Option, Some, None, Result, Ok, Err, Any, IsSomeAnd, IsTrue, codes}
+use Rattle.std.specs.Prelude.{◌≡◌, ◌⊎◌, ℕ, ◌-◌, Bool, true, false, not, nat_eq, if◌then◌else◌, List, [], ◌++◌, take, drop, length, option_map, find, Option, Some, None, Result, Ok, Err, Any, IsSomeAnd, IsTrue, MatchOption, codes}
 use Rattle.std.specs.List.{ends_with, starts_with, suffix_len}
 use Rattle.std.specs.Option.{unwrap_or}
 use Rattle.std.specs.Str.{bytes_eq}
@@ -65,12 +65,16 @@ MatchesFolder fold split path =
 abbrev pub InFolder : Surroundings → Option (List ℕ) → Bool → List ℕ → Type 0
 InFolder around real fold told = IsSomeAnd (folder_pattern around real told) (λ split. Any (λ path. MatchesFolder fold split path.items) around.git_folders.items)
 
+-- a URL of a remote; each, where they aren't known yet
+abbrev pub HasUrl : Surroundings → List ℕ → Type 0
+HasUrl around told = MatchOption around.urls (Unit {0}) (λ urls. Any (λ url. Splits url.items told (record { 0 = 1 })) urls.items)
+
 abbrev pub Holds : Surroundings → Option (List ℕ) → List ℕ → Type 0
 Holds around real condition =
     (told : List ℕ) × (((condition ≡ codes "gitdir:" ++ told) × InFolder around real false told)
     ⊎ (((condition ≡ codes "gitdir/i:" ++ told) × InFolder around real true told)
     ⊎ (((condition ≡ codes "onbranch:" ++ told) × IsSomeAnd around.branch (λ name. Splits name.items (below told) (record { 0 = 1 })))
-    ⊎ ((condition ≡ codes "hasconfig:remote.*.url:" ++ told) × Any (λ url. Splits url.items told (record { 0 = 1 })) around.urls.items))))
+    ⊎ ((condition ≡ codes "hasconfig:remote.*.url:" ++ told) × HasUrl around told))))
 
 -- the key of an entry that includes a file
 abbrev pub Includes : Surroundings → Option (List ℕ) → List ℕ → Type 0

@@ -17,8 +17,8 @@ pub(crate) fn is_space(b: u8) -> bool
     matches!(b, b' ' | b'\t' | b'\r')
 }
 
-/// Whether a byte is one of these or a line feed.
-pub(crate) fn is_blank(b: u8) -> bool
+/// Whether a byte is a blank: a space, a tab, a carriage return or a line feed.
+pub fn is_blank(b: u8) -> bool
     ensures { result ≡ is_blank b }
 {
     matches!(b, b' ' | b'\t' | b'\r' | b'\n')

@@ -3,7 +3,7 @@ ghost use Rattle.std.specs.Prelude.{◌≡◌, ◌↔◌, ◌++◌, Any, IfOk, I
 ghost use Rattle.std.specs.Option.{option_copied};
 ghost use Rattle.std.specs.Str.{bytes_eq};
 ghost use Rattle.glob_matcher.specs.Matching.{Splits};
-ghost use Rattle.git_config.specs.Includes.{Holds, InFolder, MatchesFolder, below, folder_pattern};
+ghost use Rattle.git_config.specs.Includes.{HasUrl, Holds, InFolder, MatchesFolder, below, folder_pattern};
 ghost use Rattle.git_config.specs.Numbers.{same_letters};
 ghost use Rattle.git_config.specs.Private.Places.{pattern_of, rooted};
 ghost use Rattle.git_config.specs.Private.Scopes.{OnBranch};
@@ -45,11 +45,21 @@ fn behind<'a>(condition: &'a [u8], word: &[u8]) -> Option<&'a [u8]>
     condition.strip_prefix(word)
 }
 
-/// Whether the URL of a remote matches a pattern.
+/// Whether the URL of a remote matches a pattern, or isn't known yet.
 fn has_url(around: &Surroundings, told: &[u8]) -> bool
-    ensures { IsTrue result ↔ Any (λ url. Splits url.items told.now (record { 0 = 1 })) around.now.urls.items }
+    ensures { IsTrue result ↔ HasUrl around.now told.now }
 {
-    for url in &around.urls {
+    match &around.urls {
+        Some(urls) => is_among(urls, told),
+        None => true,
+    }
+}
+
+/// Whether one of the URLs matches a pattern.
+fn is_among(urls: &[Vec<u8>], told: &[u8]) -> bool
+    ensures { IsTrue result ↔ Any (λ url. Splits url.items told.now (record { 0 = 1 })) urls.now }
+{
+    for url in urls {
         if wildmatch(told, url, path_mode(false)) {
             return true;
         }

@@ -27,6 +27,7 @@ mod value;
 mod words;
 
 pub use booleans::boolean;
+pub use bytes::is_blank;
 pub use config::{Config, ReadFault, Source};
 pub use fault::{ConfigFault, Wrong, WrongValue};
 pub use file::ConfigFile;
@@ -37,5 +38,5 @@ pub use number::integer;
 pub use path::{ConfigPath, config_path};
 pub use quoting::quoted;
 pub use setting::{ReadSetting, Setting, SettingFault, WrongSetting};
-pub use surroundings::{Surroundings, UserFolder};
+pub use surroundings::{Surroundings, UserFolder, folder_of};
 pub use words::{canonical_key, split_word};

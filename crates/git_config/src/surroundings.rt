@@ -33,8 +33,9 @@ pub struct Surroundings {
     pub git_folders: Vec<Vec<u8>>,
     /// The branch that `HEAD` leads to: what follows `refs/heads/`.
     pub branch: Option<Vec<u8>>,
-    /// The URLs of remotes that all files tell, which a reading before this one gives.
-    pub urls: Vec<Vec<u8>>,
+    /// The URLs of remotes that all files tell, which a reading before this one gives. `None` in that reading: there each condition holds
+    /// that asks for one.
+    pub urls: Option<Vec<Vec<u8>>>,
 }
 
 /// The bytes of a folder.
@@ -125,7 +126,7 @@ pub(crate) fn is_absolute(path: &[u8]) -> bool
 }
 
 /// The folder of a path, with the slash behind it.
-pub(crate) fn folder_of(path: &[u8]) -> &[u8]
+pub fn folder_of(path: &[u8]) -> &[u8]
     ensures { result.now ≡ folder_of path.now }
 {
     &path[..folder_end(path)]

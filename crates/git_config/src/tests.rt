@@ -51,7 +51,7 @@ fn the_last_of_several_words_counts(rt: HostRuntime) -> Result<(), Fail> {
         users: Vec::new(rt.alloc()),
         git_folders: Vec::new(rt.alloc()),
         branch: None,
-        urls: Vec::new(rt.alloc()),
+        urls: None,
     };
     let words = [
         Source::File(b"/nowhere"),

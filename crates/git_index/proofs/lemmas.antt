@@ -4,6 +4,11 @@ pub mod Extensions
 pub mod Fields
 pub mod FileLaws
 pub mod Flags
+pub mod Joined
+pub mod Kept
+pub mod Links
+pub mod Marks
+pub mod Merge
 pub mod Numbers
 pub mod Order
 pub mod Paths

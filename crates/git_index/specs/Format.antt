@@ -78,9 +78,12 @@ AreEntries version hash_len previous (e ∷ entries) bytes =
 abbrev pub IsExtension : List ℕ × List ℕ → Type 0
 IsExtension x = (length x.0 ≡ 4) × (65 ≤ slice_index x.0 0) × (slice_index x.0 0 ≤ 90) × (length x.1 < 2 ^ 32)
 
--- extensions, and at the end bytes that are too few for one, which git passes over too
-abbrev pub ArePassedOver : List ℕ → Type 0
-ArePassedOver bytes = (xs : List (List ℕ × List ℕ)) × (few : List ℕ) × AllByRecursion IsExtension xs × (length few < 8) × (bytes ≡ flat_map (λ x. x.0 ++ (to_be_bytes w32 (length x.1) ++ x.1)) xs ++ few)
+abbrev pub extension_text : List ℕ × List ℕ → List ℕ
+extension_text x = x.0 ++ (to_be_bytes w32 (length x.1) ++ x.1)
+
+-- extensions that may be passed over, up to an end
+abbrev pub ArePassedOver : List ℕ → List ℕ → Type 0
+ArePassedOver bytes end = (xs : List (List ℕ × List ℕ)) × AllByRecursion IsExtension xs × (bytes ≡ flat_map extension_text xs ++ end)
 
 abbrev pub hash_len : ObjectFormat → ℕ
 hash_len Sha1 = 20
@@ -94,19 +97,39 @@ digest_of Sha256 content = sha256 content
 abbrev pub IsChecksum : ObjectFormat → List ℕ → List ℕ → Type 0
 IsChecksum format content checksum = (checksum ≡ digest_of format content) ⊎ (checksum ≡ replicate (hash_len format) 0)
 
--- An index file: `DIRC`, the version, the number of entries, the entries, extensions that may be passed over, and a checksum.
-pub record IsIndexFile (format : ObjectFormat) (bytes : List ℕ) (entries : List Tracked) : Type 0 where
+-- a link among extensions: `link`, a length, the hash of a shared file, and so many bytes more; at the end fewer bytes may stand than
+-- an extension has, which git passes over too
+pub record HasLink (format : ObjectFormat) (hash bitmaps extensions : List ℕ) : Type 0 where
+  pub few : List ℕ
+  pub behind : List ℕ
+  pub last : ArePassedOver behind few × (length few < 8)
+  pub lengths : (length hash ≡ hash_len format) × (length (hash ++ bitmaps) < 2 ^ 32)
+  pub first : ArePassedOver extensions (extension_text (codes "link", hash ++ bitmaps) ++ behind)
+
+abbrev pub zero_hash : ObjectFormat → List ℕ
+zero_hash format = replicate (hash_len format) 0
+
+-- no link, or one whose hash is zero
+abbrev pub HasNoLink : ObjectFormat → List ℕ → Type 0
+HasNoLink format extensions = ((few : List ℕ) × ArePassedOver extensions few × (length few < 8)) ⊎ ((bitmaps : List ℕ) × HasLink format (zero_hash format) bitmaps extensions)
+
+-- A file: `DIRC`, the version, the number of entries, the entries, extensions, and a checksum.
+pub record IsFile (format : ObjectFormat) (bytes : List ℕ) (entries : List Tracked) (extensions : List ℕ) : Type 0 where
   pub version : ℕ
   pub known : (2 ≤ version) × (version ≤ 4) × (length entries < 2 ^ 32)
   pub texts : List ℕ
   pub each : AreEntries version (hash_len format) [] entries texts
-  pub extensions : List ℕ
-  pub passed : ArePassedOver extensions
   pub content : List ℕ
   pub content_is : content ≡ codes "DIRC" ++ (to_be_bytes w32 version ++ (to_be_bytes w32 (length entries) ++ (texts ++ extensions)))
   pub checksum : List ℕ
   pub checked : (length checksum ≡ hash_len format) × IsChecksum format content checksum
   pub joined : bytes ≡ content ++ checksum
+
+-- an index file that needs no other
+pub record IsIndexFile (format : ObjectFormat) (bytes : List ℕ) (entries : List Tracked) : Type 0 where
+  pub extensions : List ℕ
+  pub spelled : IsFile format bytes entries extensions
+  pub whole : HasNoLink format extensions
   pub ordered : InOrder entries
 
 -- the paths have together at most 16 bytes for each byte of the file

@@ -1,3 +1,4 @@
 pub mod Entries
 pub mod Format
 pub mod Private
+pub mod Split

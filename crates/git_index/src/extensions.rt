@@ -1,14 +1,14 @@
 //! The extensions of an index file, each of which may be passed over or has to be understood.
-ghost use Rattle.std.specs.Prelude.{◌≡◌, ◌⊎◌, IfErr, OnOk};
+ghost use Rattle.std.specs.Prelude.{◌≡◌, ◌↔◌, IfOk, IsTrue, List, MatchResult, ℕ};
 ghost use Rattle.git_index.specs.declared.fault.IndexFault.TheVariants.{Memory};
 ghost use Rattle.git_index.specs.Format.{ArePassedOver};
-ghost use Rattle.git_index.specs.Private.Reading.{Gives, extension_at};
+ghost use Rattle.git_index.specs.Private.Reading.{Ends, Gives, extension_at};
 
 use crate::fault::IndexFault;
 use crate::fields::{skip, u32_at};
 
-/// `link`, the name of a split index's extension.
-const LINK: u32 = 0x6C69_6E6B;
+/// Fewer bytes than the head of an extension has may stand at the end.
+pub const HEAD_LEN: usize = 8;
 
 /// `sdir`, the name of a sparse index's extension.
 const SDIR: u32 = 0x7364_6972;
@@ -20,9 +20,6 @@ fn skip_extension(bytes: &[u8]) -> Result<&[u8], IndexFault>
 {
     let (name, rest) = u32_at(bytes)?;
     let (len, rest) = u32_at(rest)?;
-    if name == LINK {
-        return Err(IndexFault::Split);
-    }
     if name == SDIR {
         return Err(IndexFault::Sparse);
     }
@@ -32,17 +29,21 @@ fn skip_extension(bytes: &[u8]) -> Result<&[u8], IndexFault>
     skip(rest, len as usize)
 }
 
-/// Fewer bytes than the head of an extension has may stand at the end.
-const HEAD_LEN: usize = 8;
+/// Whether nothing more is passed over: a link stands here, or nothing but the end.
+fn is_end(bytes: &[u8]) -> bool
+    ensures { IsTrue result ↔ Ends bytes.now }
+{
+    bytes.len() < HEAD_LEN || bytes.starts_with(b"link")
+}
 
-/// Passes over extensions, up to the end.
-pub fn skip_extensions(bytes: &[u8]) -> Result<(), IndexFault>
-    ensures ok { OnOk result (ArePassedOver bytes.now) }
-    ensures err { IfErr result (λ fault. (fault ≡ Memory) ⊎ (¬ ArePassedOver bytes.now)) }
+/// Passes over extensions, up to a link or the end.
+pub fn skip_extensions(bytes: &[u8]) -> Result<&[u8], IndexFault>
+    ensures found { IfOk result (λ rest. ArePassedOver bytes.now rest.now × Ends rest.now) }
+    ensures only { (rest : List ℕ) → ArePassedOver bytes.now rest → Ends rest → MatchResult result (λ found. found.now ≡ rest) (λ fault. fault ≡ Memory) }
 {
     let mut rest = bytes;
-    while rest.len() >= HEAD_LEN {
+    while !is_end(rest) {
         rest = skip_extension(rest)?;
     }
-    Ok(())
+    Ok(rest)
 }

@@ -49,8 +49,26 @@ pub enum IndexFault {
     #[error("a sparse index isn't read")]
     Sparse,
     /// The index is split: some of its entries are in another file.
-    #[error("a split index isn't read")]
+    #[error("a split index, whose shared file isn't at hand")]
     Split,
+    /// The index isn't split: it has all of its entries.
+    #[error("the index isn't split")]
+    NotSplit,
+    /// The shared file of a split index has another hash at its end than the index names.
+    #[error("broken index, the shared file has another hash")]
+    SharedHash,
+    /// The shared file of a split index is itself split.
+    #[error("the shared file is itself a split index")]
+    SharedSplit,
+    /// The extension `link` is shorter than a hash, stands twice, has bytes behind its two bitmaps, or a bitmap that isn't whole.
+    #[error("corrupt link extension")]
+    Link,
+    /// A bitmap marks an entry behind the last one of the shared file.
+    #[error("corrupt link extension, a position exceeds the size of the shared file")]
+    Position,
+    /// The first entries of a split index, which replace others, aren't as many as these, or have names; or another has none.
+    #[error("corrupt link extension, the entries without a name aren't those that replace others")]
+    Replacements,
 }
 
 impl From<AllocError> for IndexFault {

@@ -1,8 +1,8 @@
 //! Fields of an index file: numbers of fixed width, the numbers of version 4, and texts that end in a zero byte.
 ghost use Rattle.std.specs.Prelude.{◌≡◌, ◌==◌, ◌≤◌, IfOk};
-ghost use Rattle.std.specs.Int.{w16, w32};
+ghost use Rattle.std.specs.Int.{w16, w32, w64};
 ghost use Rattle.std.specs.List.{list_all};
-ghost use Rattle.git_index.specs.Private.Reading.{Gives, number_at, shared_number_from, skipped, until_zero};
+ghost use Rattle.git_index.specs.Private.Reading.{Gives, front_at, number_at, shared_number_from, skipped, until_zero};
 
 use crate::fault::IndexFault;
 use memchr::memchr;
@@ -15,6 +15,16 @@ pub fn skip(bytes: &[u8], count: usize) -> Result<&[u8], IndexFault>
         return Err(IndexFault::Cut);
     }
     Ok(&bytes[count..])
+}
+
+/// So many bytes, and what follows them.
+pub fn front(bytes: &[u8], count: usize) -> Result<(&[u8], &[u8]), IndexFault>
+    ensures { Gives (λ x. (x.0.now, x.1.now)) result (front_at count bytes.now) }
+{
+    if bytes.len() < count {
+        return Err(IndexFault::Cut);
+    }
+    Ok(bytes.split_at(count))
 }
 
 /// The number of two bytes at the front, and what follows it.
@@ -37,6 +47,21 @@ pub fn u32_at(bytes: &[u8]) -> Result<(u32, &[u8]), IndexFault>
     }
     let (front, rest) = bytes.split_at(4);
     let number = u32::from_be_bytes([front[0], front[1], front[2], front[3]]);
+    Ok((number, rest))
+}
+
+/// The number of eight bytes at the front, and what follows it.
+pub fn u64_at(bytes: &[u8]) -> Result<(u64, &[u8]), IndexFault>
+    ensures { Gives (λ x. (x.0, x.1.now)) result (number_at w64 bytes.now) }
+{
+    if bytes.len() < 8 {
+        return Err(IndexFault::Cut);
+    }
+    let (front, rest) = bytes.split_at(8);
+    let [a, b, c, d, e, f, g, h] = front else {
+        return Err(IndexFault::Cut);
+    };
+    let number = u64::from_be_bytes([*a, *b, *c, *d, *e, *f, *g, *h]);
     Ok((number, rest))
 }
 

@@ -1,48 +1,20 @@
 //! An index: the entries of an index file, and which paths are among them.
-ghost use Rattle.std.specs.Prelude.{◌≡◌, ◌↔◌, ◌+◌, ◌<◌, [], Err, IfOk, IsTrue, List, MatchResult, length, map};
+ghost use Rattle.std.specs.Prelude.{◌≡◌, ◌↔◌, ◌+◌, ◌++◌, ◌<◌, [], Err, IfOk, IsTrue, List, MatchOption, MatchResult, ℕ, length, map};
 ghost use Rattle.git_index.specs.declared.fault.IndexFault.TheVariants.{Memory};
 ghost use Rattle.git_index.specs.Entries.{HasBelow, IsSubmodule, IsTracked, Tracked, tracked};
 ghost use Rattle.git_index.specs.Format.{HasRoom, IsIndexFile, hash_len};
-ghost use Rattle.git_index.specs.Private.Reading.{Finds};
+ghost use Rattle.git_index.specs.Split.{IsSplitIndex};
 
 use crate::checksum::ObjectFormat;
-use crate::entries::entries_of;
 use crate::entry::Entry;
-use crate::extensions::skip_extensions;
 use crate::fault::IndexFault;
-use crate::header::header_of;
+use crate::file::{read, shared_entries, whole};
+use crate::link::link_among;
 use crate::order::is_ordered;
 use crate::search;
+use crate::split::joined;
 use std::alloc::Global;
 use std::marker::Model;
-
-/// Paths may have together so many bytes for each byte of the file. An entry takes 64 bytes at least, so an index whose paths have
-/// 1,024 bytes on average stays below it.
-const PATH_BYTES_PER_BYTE: usize = 16;
-
-/// The entries of an index file.
-fn read(alloc: Global, bytes: &[u8], format: ObjectFormat) -> Result<Vec<Entry>, IndexFault>
-    ensures short { length bytes.now < 12 + hash_len format → result ≡ Err IndexFault.TooShort }
-    ensures found { IfOk result (λ entries. Finds format bytes.now (map tracked entries.items)) }
-    ensures only { (es : List Tracked) → Finds format bytes.now es → MatchResult result (λ entries. map tracked entries.items ≡ es) (λ fault. fault ≡ Memory) }
-{
-    let hash_len = format.hash_len();
-    if bytes.len() < 12 + hash_len {
-        return Err(IndexFault::TooShort);
-    }
-    let (content, checksum) = bytes.split_at(bytes.len() - hash_len);
-    let (version, count, rest) = header_of(content)?;
-    if !format.is_checksum(content, checksum) {
-        return Err(IndexFault::Checksum);
-    }
-    let room = bytes.len().saturating_mul(PATH_BYTES_PER_BYTE);
-    let (entries, rest) = entries_of(alloc, version, hash_len, count, room, rest)?;
-    skip_extensions(rest)?;
-    if !is_ordered(&entries) {
-        return Err(IndexFault::Order);
-    }
-    Ok(entries)
-}
 
 /// The entries of an index file, by path and stage.
 #[derive(Debug, Drop)]
@@ -64,8 +36,8 @@ impl Model for Index {
 impl Index {
     /// The entries of an index file, which is all of the bytes. `format` tells how objects are named in the repository.
     ///
-    /// The file has to be whole and in order. Extensions that may be passed over are; of the others none is known: a split or a sparse
-    /// index is told, not read.
+    /// The file has to be whole and in order. Extensions that may be passed over are. An index that is split, so that another file has some
+    /// of its entries, is told by `IndexFault::Split`, for `shared_hash` and `from_split`; a sparse one is told and not read.
     pub fn from_bytes(
         alloc: Global,
         bytes: &[u8],
@@ -78,7 +50,53 @@ impl Index {
         // What is spelled so is read, unless memory is refused.
         ensures only { (es : List Tracked) → IsIndexFile format bytes.now es → HasRoom bytes.now es → MatchResult result (λ index. index ≡ es) (λ fault. fault ≡ Memory) }
     {
-        let entries = read(alloc, bytes, format)?;
+        let entries = whole(alloc, bytes, format)?;
+        Ok(Index { entries })
+    }
+
+    /// The hash that the name of the shared file of a split index ends in: `sharedindex.HASH`, in hexadecimal digits. The file stands in
+    /// the git folder, or else beside the index. `None` is of an index that isn't split, and of one that shares nothing since its hash is
+    /// zero. The entries are read as for `from_bytes`, but for their order.
+    pub fn shared_hash(
+        alloc: Global,
+        bytes: &[u8],
+        format: ObjectFormat,
+    ) -> Result<Option<&[u8]>, IndexFault>
+        // It is the hash of the file that says the entries together with this one.
+        ensures { (shared : List ℕ) → (es : List Tracked) → (split : IsSplitIndex format bytes.now shared es) → HasRoom bytes.now split.own
+            → MatchResult result (λ hash. MatchOption hash ⊥ (λ x. x.now ≡ split.hash)) (λ fault. fault ≡ Memory) }
+    {
+        let (_entries, extensions) = read(alloc, bytes, format)?;
+        match link_among(extensions, format)? {
+            Some(link) => Ok(Some(link.hash)),
+            None => Ok(None),
+        }
+    }
+
+    /// The entries of a split index, by all bytes of the index file and of the shared file that it names.
+    ///
+    /// Both have to be whole; the shared one ends in the hash that is named, is in order, and isn't itself split.
+    pub fn from_split(
+        alloc: Global,
+        bytes: &[u8],
+        shared: &[u8],
+        format: ObjectFormat,
+    ) -> Result<Index, IndexFault>
+        // What is read is spelled so.
+        ensures found { IfOk result (λ index. IsSplitIndex format bytes.now shared.now index) }
+        // What is spelled so is read, unless memory is refused.
+        ensures only { (es : List Tracked) → (split : IsSplitIndex format bytes.now shared.now es) → HasRoom bytes.now split.own → HasRoom shared.now split.shared
+            → MatchResult result (λ index. index ≡ es) (λ fault. fault ≡ Memory) }
+    {
+        let (own, extensions) = read(alloc, bytes, format)?;
+        let Some(link) = link_among(extensions, format)? else {
+            return Err(IndexFault::NotSplit);
+        };
+        let shared = shared_entries(alloc, shared, link.hash, format)?;
+        let entries = joined(alloc, shared, own, link.bitmaps)?;
+        if !is_ordered(&entries) {
+            return Err(IndexFault::Order);
+        }
         Ok(Index { entries })
     }
 

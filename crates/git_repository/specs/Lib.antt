@@ -5,6 +5,7 @@ pub mod Folders
 pub mod Formats
 pub mod GitFolders
 pub mod Naming
+pub mod Nested
 pub mod Private
 pub mod Safety
 pub mod Search

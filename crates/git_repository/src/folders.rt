@@ -3,10 +3,10 @@ ghost use Rattle.std.specs.Prelude.{◌≡◌, IfOk, Ok, option_map};
 ghost use Rattle.std.specs.Vec.{vec_items};
 ghost use Rattle.git_repository.specs.Answers.{Gives, found_with};
 ghost use Rattle.git_repository.specs.Environments.{environment_with};
-ghost use Rattle.git_repository.specs.Folders.{counts, file_path, folders_of, folders_with, found_work_tree, is_own, settings_with, work_tree_of};
+ghost use Rattle.git_repository.specs.Folders.{configured_work_tree, counts, file_path, folders_of, folders_with, found_work_tree, is_own, settings_with, work_tree_of};
 
 use crate::environment::Environment;
-use crate::fault::FindFault;
+use crate::fault::{FindFault, Wrong};
 use crate::file_system::FileSystem;
 use crate::found::{Found, FoundBy};
 use crate::git_folder::{common_folder, real_path_of};
@@ -121,7 +121,22 @@ pub fn work_tree_of<S: FileSystem>(
     let Some(told) = settings.work_tree else {
         return found_work_tree(alloc, found);
     };
-    let path = told_from(alloc, &found.git_folder, told)?;
+    configured_work_tree(alloc, source, &found.git_folder, told)
+}
+
+/// The work tree that `core.worktree` tells.
+fn configured_work_tree<S: FileSystem>(
+    alloc: Global,
+    source: &S,
+    folder: &[u8],
+    told: &[u8],
+) -> Result<Option<Vec<u8>>, FindFault<Vec<u8>>>
+    ensures { Gives (S.is_known source.now) (λ path. option_map vec_items path) result (configured_work_tree (S.tree source.now) folder.now told.now) }
+{
+    if told.is_empty() {
+        return Err(FindFault::At(Wrong::LeadsNowhere, Vec::new(alloc)));
+    }
+    let path = told_from(alloc, folder, told)?;
     Ok(Some(real_path_of(source, path)?))
 }
 

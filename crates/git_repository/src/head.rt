@@ -81,7 +81,7 @@ fn names_commit(text: &[u8]) -> bool
 }
 
 /// How many hexadecimal digits stand in front of a text.
-fn digit_count(text: &[u8]) -> usize
+pub fn digit_count(text: &[u8]) -> usize
     ensures value { result ≡ prefix_len is_ascii_hexdigit text.now }
     ensures within { result ≤ length text.now }
 {

@@ -110,9 +110,13 @@ fn is_folder(by: FoundBy) -> bool
     }
 }
 
-/// The name of the git folder.
+/// How Git tells the git folder in the folder in which it works, the top of the work tree where the current one lies below it: this is then
+/// `top`, and else the current folder.
+///
+/// # Errors
+/// [`FindFault::At`] where a path leads nowhere, and [`FindFault::Memory`].
 #[tactic(auto, unfolding(crate::specs::Naming::git_name))]
-fn git_name<S: FileSystem>(
+pub fn git_name<S: FileSystem>(
     alloc: Global,
     source: &S,
     words: &Environment<&[u8]>,

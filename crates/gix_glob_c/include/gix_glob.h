@@ -2,7 +2,7 @@
  *
  * Parse a line once, match it against paths, and let the last match of a list decide. Nothing is allocated, nothing is kept
  * after a call, and there is no state: calls may run in any threads at once, as long as no other thread writes what they read.
- * For who would rather have the rules of files kept and asked by four calls, gix_glob_rules.h stands over this header.
+ * For who would rather have the rules of files kept and asked by five calls, gix_glob_rules.h stands over this header.
  *
  * What a call asks of its caller, and can't check. These are all rules; no call has one of its own:
  *  1. A struct is what its initialiser, its function `.._of` or a call wrote, or a copy of that. So no pointer in it is NULL, also

@@ -1,4 +1,4 @@
-/* The rules of ignore files, kept and asked: four calls over gix_glob.h, for who allocates.
+/* The rules of ignore files, kept and asked: five calls over gix_glob.h, for who allocates.
  *
  *     struct gix_glob_rules *rules = gix_glob_rules_new(NULL);
  *     gix_glob_rules_add_file(rules, gix_glob_string(""), gix_glob_string("*.o\n"));
@@ -15,6 +15,8 @@
 #define GIX_GLOB_RULES_H
 
 #include "gix_glob.h"
+#include <errno.h>
+#include <stdio.h>
 #include <stdlib.h>
 #include <string.h>
 
@@ -238,7 +240,7 @@ static inline struct gix_glob_rules *gix_glob_rules_new(const struct gix_glob_ru
 }
 
 /* Reads all lines of a file, and prepares them. */
-static inline bool gix_glob_rules_read(const struct gix_glob_rules *rules, struct gix_glob_rules_file *file, size_t base_len)
+static inline bool gix_glob_rules_read_lines(const struct gix_glob_rules *rules, struct gix_glob_rules_file *file, size_t base_len)
 {
     struct gix_glob_lines lines = gix_glob_lines_of(file->bytes + base_len, file->size - 1 - base_len);
     const struct gix_glob_pattern blank = GIX_GLOB_PATTERN_INIT;
@@ -254,6 +256,8 @@ static inline bool gix_glob_rules_read(const struct gix_glob_rules *rules, struc
                                                            : gix_glob_parse_ignore_line_as_git(&lines, &file->patterns[file->count]);
         file->numbers[file->count] = lines.number;
     }
+    if (!file->count)
+        return true;
     file->list = gix_glob_list_of(file->patterns, file->count, gix_glob_text_of(file->bytes, base_len));
     file->block_size = gix_glob_prepared_size(file->count);
     if (file->block_size == GIX_GLOB_NONE || !(file->block = (uint64_t *)gix_glob_rules_resize(rules, NULL, 0, file->block_size))) {
@@ -380,13 +384,39 @@ static inline bool gix_glob_rules_add_file(struct gix_glob_rules *rules, struct 
             file->bytes[base_len - 1] = '/';
         memcpy(file->bytes + base_len, bytes.bytes, bytes.len);
         file->bytes[file->size - 1] = 0;
-        if (gix_glob_rules_read(rules, file, base_len) && (!file->count || gix_glob_rules_put(rules, file))) {
+        if (gix_glob_rules_read_lines(rules, file, base_len) && (!file->count || gix_glob_rules_put(rules, file))) {
             rules->files[rules->file_count++] = file;
             return true;
         }
     }
     gix_glob_rules_free_file(rules, file);
     return false;
+}
+
+/* The same of a file by its name. A file that is missing, or is a directory, is added as one without lines.
+ *   name  the file, as fopen takes it
+ * Answers whether it was added. Where it can't be read it isn't, all is as it was, and errno tells the reason. */
+static inline bool gix_glob_rules_read_file(struct gix_glob_rules *rules, struct gix_glob_text folder, const char *name)
+{
+    FILE *file = fopen(name, "rb");
+    bool is_read = !file && (errno == ENOENT || errno == ENOTDIR), is_added;
+    uint8_t *bytes = NULL, *grown;
+    size_t len = 0, room = 0, count = 1;
+    int reason;
+    while (file && count && (grown = (uint8_t *)gix_glob_rules_grown(rules, bytes, len, &room, 1))) {
+        bytes = grown;
+        count = fread(bytes + len, 1, room - len, file);
+        len += count;
+    }
+    if (file)
+        is_read = !count && (!ferror(file) || errno == EISDIR);
+    is_added = is_read && gix_glob_rules_add_file(rules, folder, gix_glob_text_of(bytes, len));
+    reason = errno;
+    gix_glob_rules_resize(rules, bytes, room, 0);
+    if (file)
+        fclose(file);
+    errno = reason;
+    return is_added;
 }
 
 /* What the rules say of a path: as gix_glob_decide_in_tree answers for the lists of all files.

@@ -124,6 +124,9 @@ pub(crate) fn last_match_under(
         (λ last. AnswersAt (entry_list list.now) path.now.bytes path.now.is_dir rules last
         × ((m : ℕ) → AnswersAt (entry_list list.now) path.now.bytes path.now.is_dir rules m → m ≤ last)) }
 {
+    if list.base.is_empty() {
+        return last_of_all(list, path, rules);
+    }
     if !is_folder(list.base) {
         return None;
     }

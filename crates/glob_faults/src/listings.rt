@@ -1,5 +1,6 @@
 //! Listings of trees in memory: which paths are written, and how many folders are asked for their names.
 use crate::compare::same;
+use git_index::{Index, IndexFault, ObjectFormat};
 use gix_glob::pattern::Case;
 use gix_glob::search::pattern::List;
 use gix_glob::search::{Pattern as _, Watched};
@@ -11,6 +12,8 @@ use std::process::Abort;
 use std::test::Fail;
 use told_paths::{Quoting, Standpoint};
 use tree_answers::Form;
+use tree_commands::files::choosing::{Chosen, Folders};
+use tree_commands::files::mark::Mark;
 use tree_commands::files::source::{EntryKind, FileSource, FolderNames};
 use tree_commands::files::{Listing, run_files};
 
@@ -130,12 +133,59 @@ const TREE: Tree = &[
     (b".gitignore", Thing::File(b"ignored/\n")),
 ];
 
-/// A question: where the listing begins, what is to be written, and how many folders are asked for their names.
-type Question = (&'static [u8], &'static [u8], usize);
+/// The entries of an index: the mode of each, and its path.
+type Entries = &'static [(u32, &'static [u8])];
+
+/// The index that tracks them.
+fn index_of(alloc: Global, entries: Entries) -> Result<Index, IndexFault> {
+    let mut bytes = Vec::new(alloc);
+    bytes.extend_from_slice(b"DIRC\0\0\0\x02")?;
+    bytes.extend_from_slice(&(entries.len() as u32).to_be_bytes())?;
+    for (mode, path) in entries {
+        push_entry(&mut bytes, *mode, path)?;
+    }
+    // no checksum, as where Git was told to leave it out
+    bytes.extend_from_slice(&[0; 20])?;
+    Index::from_bytes(alloc, &bytes, ObjectFormat::Sha1)
+}
+
+/// Appends an entry, with as many zeros behind its path as make its length a multiple of eight, and one at least.
+fn push_entry(bytes: &mut Vec<u8>, mode: u32, path: &[u8]) -> Result<(), AllocError> {
+    bytes.extend_from_slice(&[0; 24])?;
+    bytes.extend_from_slice(&mode.to_be_bytes())?;
+    bytes.extend_from_slice(&[0; 32])?;
+    bytes.extend_from_slice(&(path.len() as u16).to_be_bytes())?;
+    bytes.extend_from_slice(path)?;
+    let zeros = [0; 8];
+    let count = 8 - (path.len() % 8 + 6) % 8;
+    bytes.extend_from_slice(&zeros[..count])
+}
+
+/// A question: what is listed, what is to be written, and how many folders are asked for their names.
+#[derive(Clone, Copy, Drop)]
+struct Question {
+    told: &'static [u8],
+    chosen: Chosen,
+    folders: Folders,
+    mark: Mark,
+    tracked: Entries,
+    wanted: &'static [u8],
+    asked: usize,
+}
+
+/// What isn't ignored, where nothing is tracked, and each folder is gone into.
+const PLAIN: Question = Question {
+    told: b".",
+    chosen: Chosen::Unignored,
+    folders: Folders::Entered,
+    mark: Mark::Bare,
+    tracked: &[],
+    wanted: b"",
+    asked: 0,
+};
 
 /// Asks a question, the row of this number.
 fn ask(rt: &(impl Abort + AllocGlobal), question: Question, row: usize) -> Result<(), Fail> {
-    let (told, wanted, asked) = question;
     let alloc = rt.alloc();
     let mut source = InMemory {
         alloc,
@@ -150,26 +200,150 @@ fn ask(rt: &(impl Abort + AllocGlobal), question: Question, row: usize) -> Resul
     let listing = Listing {
         standpoint,
         form: Form::Lines(Quoting::Full),
+        mark: question.mark,
+        chosen: question.chosen,
+        folders: question.folders,
         fronts: Vec::new(alloc),
         case: Case::Sensitive,
     };
     let mut writer = Watched::new(Vec::new(alloc));
-    let run = run_files(alloc, listing, &mut source, told, &mut writer);
+    let tracked = index_of(alloc, question.tracked)?;
+    let run = run_files(
+        alloc,
+        listing,
+        &tracked,
+        &mut source,
+        question.told,
+        &mut writer,
+    );
     let text = writer.into_inner();
     same(rt, run.is_ok(), "whether it is listed to the end", row);
-    same(rt, text.as_slice() == wanted, "what is listed", row);
-    same(rt, source.asked == asked, "how many folders are asked", row);
+    same(
+        rt,
+        text.as_slice() == question.wanted,
+        "what is listed",
+        row,
+    );
+    same(
+        rt,
+        source.asked == question.asked,
+        "how many folders are asked",
+        row,
+    );
     Ok(())
 }
 
 #[test]
 fn files_are_listed(rt: HostRuntime) -> Result<(), Fail> {
     let rows: [Question; 5] = [
-        (b".", b".gitignore\na\nb.c\nb/.gitignore\nb/z\nown/\ny\n", 3),
-        (b"b", b"b/.gitignore\nb/z\n", 1),
-        (b"ignored", b"", 0),
-        (b"own/x", b"", 1),
-        (b"a/", b"", 0),
+        Question {
+            told: b".",
+            wanted: b".gitignore\na\nb.c\nb/.gitignore\nb/z\nown/\ny\n",
+            asked: 3,
+            ..PLAIN
+        },
+        Question {
+            told: b"b",
+            wanted: b"b/.gitignore\nb/z\n",
+            asked: 1,
+            ..PLAIN
+        },
+        Question {
+            told: b"ignored",
+            wanted: b"",
+            asked: 0,
+            ..PLAIN
+        },
+        Question {
+            told: b"own/x",
+            wanted: b"",
+            asked: 1,
+            ..PLAIN
+        },
+        Question {
+            told: b"a/",
+            wanted: b"",
+            asked: 0,
+            ..PLAIN
+        },
+    ];
+    for (row, question) in rows.into_iter().enumerate() {
+        ask(&rt, question, row)?;
+    }
+    Ok(())
+}
+
+/// A file that stands in the tree, and one that doesn't.
+const TRACKED: Entries = &[(0o100_644, b"a"), (0o100_644, b"b/q")];
+
+/// And a submodule, and a file in a repository of its own.
+const IN_REPOSITORIES: Entries = &[
+    (0o100_644, b"a"),
+    (0o100_644, b"b/q"),
+    (0o160_000, b"ignored"),
+    (0o100_644, b"own/q"),
+];
+
+#[test]
+fn files_are_listed_beside_an_index(rt: HostRuntime) -> Result<(), Fail> {
+    let rows: [Question; 8] = [
+        Question {
+            tracked: TRACKED,
+            wanted: b".gitignore\nb.c\nb/.gitignore\nb/z\nown/\ny\n",
+            asked: 3,
+            ..PLAIN
+        },
+        Question {
+            tracked: TRACKED,
+            chosen: Chosen::All,
+            wanted: b".gitignore\nb.c\nb/.gitignore\nb/y\nb/z\nignored/x\nown/\ny\n",
+            asked: 4,
+            ..PLAIN
+        },
+        Question {
+            tracked: TRACKED,
+            chosen: Chosen::Ignored,
+            wanted: b"b/y\nignored/x\n",
+            asked: 4,
+            ..PLAIN
+        },
+        Question {
+            tracked: TRACKED,
+            folders: Folders::Named,
+            wanted: b".gitignore\nb.c\nb/.gitignore\nb/z\nown/\ny\n",
+            asked: 2,
+            ..PLAIN
+        },
+        Question {
+            tracked: TRACKED,
+            chosen: Chosen::All,
+            folders: Folders::Named,
+            wanted: b".gitignore\nb.c\nb/.gitignore\nb/y\nb/z\nignored/\nown/\ny\n",
+            asked: 2,
+            ..PLAIN
+        },
+        Question {
+            tracked: TRACKED,
+            chosen: Chosen::Ignored,
+            folders: Folders::NamedIfIgnored,
+            mark: Mark::Ignored,
+            wanted: b"!! b/y\n!! ignored/\n",
+            asked: 3,
+            ..PLAIN
+        },
+        Question {
+            tracked: IN_REPOSITORIES,
+            wanted: b".gitignore\nb.c\nb/.gitignore\nb/z\nown/x\ny\n",
+            asked: 3,
+            ..PLAIN
+        },
+        Question {
+            tracked: IN_REPOSITORIES,
+            chosen: Chosen::All,
+            wanted: b".gitignore\nb.c\nb/.gitignore\nb/y\nb/z\nown/x\ny\n",
+            asked: 3,
+            ..PLAIN
+        },
     ];
     for (row, question) in rows.into_iter().enumerate() {
         ask(&rt, question, row)?;

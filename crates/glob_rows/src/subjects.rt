@@ -49,7 +49,7 @@ impl Subject {
 }
 
 /// All files of rows, in the order in which they are asked: the name of each, how many fields are the answer, and what is asked.
-pub(crate) const FILES: [(&str, usize, Subject); 59] = [
+pub(crate) const FILES: [(&str, usize, Subject); 60] = [
     ("matching", 1, Subject::Pattern(PatternSubject::Matching)),
     ("starts", 1, Subject::Pattern(PatternSubject::Starts)),
     ("attempts", 1, Subject::Pattern(PatternSubject::Attempts)),
@@ -88,6 +88,7 @@ pub(crate) const FILES: [(&str, usize, Subject); 59] = [
     ("trees", 1, Subject::Command(CommandSubject::Decided)),
     ("trees_told", 1, Subject::Command(CommandSubject::Told)),
     ("git_told", 1, Subject::Command(CommandSubject::GitTold)),
+    ("pathspecs", 2, Subject::Command(CommandSubject::Pathspecs)),
     ("trees_asked", 2, Subject::Tree(TreeSubject::Asked)),
     (
         "ignore_runs",

@@ -1,2 +1,5 @@
+pub mod FrontLemmas
+pub mod InputLemmas
+pub mod ListingLemmas
 pub mod OperandLemmas
 pub mod ResultLemmas

@@ -1,5 +1,4 @@
 pub mod Answers
-pub mod IndexHead
 pub mod Places
 pub mod Running
 pub mod Tracked

@@ -1,12 +1,14 @@
 -- Where a command stands: by the paths of the top and of the current folder, without the slash at their front, and by the words.
-use Rattle.std.specs.Prelude.{◌≡◌, ℕ, true, List, [], ◌∷◌, Some, is_some, option_map, string_bytes, codes}
+use Rattle.std.specs.Prelude.{◌≡◌, ℕ, Bool, true, false, not, ◌&&◌, List, [], ◌∷◌, Option, None, Some, is_some, option_map, string_bytes, codes}
 use Rattle.std.specs.Option.{option_copied, option_or, unwrap_or}
 use Rattle.git_repository.specs.declared.environment.Environment.{Environment}
 use Rattle.std.specs.Vec.{vec_items}
 use Rattle.gix_glob.specs.Bytes.{slash}
 use Rattle.core_settings.specs.Values.{last_value}
 use Rattle.git_config.specs.Configuration.{Seen}
+use Rattle.git_config.specs.Numbers.{boolean_of}
 use Rattle.git_repository.specs.GitFolders.{told_from}
+use Rattle.opened_repository.specs.Opening.{is_relative}
 use Rattle.opened_repository.specs.declared.opened.Opened.{Opened}
 use Rattle.told_paths.specs.declared.standpoint.Standpoint.{Standpoint}
 use Rattle.told_paths.specs.Paths.{left_below}
@@ -15,6 +17,19 @@ use Rattle.globtree.specs.declared.tracked.IndexFile.{IndexFile}
 use Rattle.globtree.specs.declared.work_tree.WorkTree.{WorkTree}
 use Rattle.globtree.specs.Running.{quoting_by}
 use Rattle.globtree.specs.Tracked.{format_by}
+
+-- a path that is told from a folder
+abbrev pub is_relative_file : Option (List ℕ) → Bool
+is_relative_file None = false
+is_relative_file (Some path) = is_relative path
+
+-- a git folder is told and no work tree, and the value of `GIT_IMPLICIT_WORK_TREE` isn't true
+abbrev pub denies : Option (List ℕ) → Bool
+denies None = false
+denies (Some text) = not (unwrap_or (boolean_of (Some text)) false)
+
+abbrev pub denies_work_tree : Environment (List ℕ) → Option (List ℕ) → Bool
+denies_work_tree words implicit = (is_some words.git_dir && not (is_some words.work_tree)) && denies implicit
 
 -- from the current folder where it lies in the work tree, and else from the top
 pub record StandsIn (top here : List ℕ) (standpoint : Standpoint) : Type 0 where
@@ -50,5 +65,6 @@ pub record IsTreeOf (standpoint : Standpoint) (current : List ℕ) (opened : Ope
   pub attributes : option_map vec_items tree.attributes ≡ opened.core.attributes
   pub own_excludes : opened.exclude_name ≡ Some (string_bytes tree.own_excludes)
   pub own_attributes : string_bytes tree.own_attributes ≡ told_from current opened.attributes_file
+  pub git_folder : option_map vec_items tree.git_folder ≡ Some (told_from current opened.git_folder)
   pub index : option_map (λ (index : IndexFile). string_bytes index.name) tree.index ≡ Some (told_from current opened.index_file)
   pub format : option_map (λ (index : IndexFile). index.format) tree.index ≡ Some (format_by (last_value (codes "extensions.objectformat") opened.config))

@@ -1,11 +1,19 @@
 -- What the program ends with, and what is asked of it.
-use Rattle.std.specs.Prelude.{◌≡◌, ◌⊎◌, ℕ, Bool, if◌then◌else◌}
+use Rattle.std.specs.Prelude.{◌≡◌, ◌⊎◌, ◌||◌, ℕ, Bool, if◌then◌else◌}
 use Rattle.told_paths.specs.declared.quoting.Quoting.{Quoting}
 use Rattle.told_paths.specs.declared.quoting.Quoting.TheVariants.{AsciiOnly, Full}
 use Rattle.tree_answers.specs.declared.form.Form.{Form}
 use Rattle.tree_answers.specs.declared.form.Form.TheVariants.{Lines, Records}
 use Rattle.tree_commands.specs.declared.check_ignore.flags.IgnoreFlags.{IgnoreFlags}
+use Rattle.tree_commands.specs.declared.files.choosing.Chosen.{Chosen}
+use Rattle.tree_commands.specs.declared.files.choosing.Chosen.TheVariants as choices
+use Rattle.tree_commands.specs.declared.files.choosing.Folders.{Folders}
+use Rattle.tree_commands.specs.declared.files.choosing.Folders.TheVariants as folders
+use Rattle.config_answers.specs.declared.origin.Manner.{Manner}
 use Rattle.tree_words.specs.declared.check_ignore.CheckIgnoreFlags.{CheckIgnoreFlags}
+use Rattle.tree_words.specs.declared.config.ConfigFlags.{ConfigFlags}
+use Rattle.tree_words.specs.declared.files.FilesFlags.{FilesFlags}
+use Rattle.tree_words.specs.Files.{are_usual}
 
 -- all is answered; or something is, and no path is ignored, or not all could be listed
 abbrev pub IsAnswered : ℕ → Type 0
@@ -30,3 +38,16 @@ form_by is_nul quoting = if is_nul then Records else Lines quoting
 -- what is written about paths, by the options of `check-ignore`
 abbrev pub asked_by_flags : CheckIgnoreFlags → Quoting → IgnoreFlags
 asked_by_flags flags quoting = record { form = form_by flags.nul quoting; verbose = flags.verbose; non_matching = flags.non_matching; quiet = flags.quiet }
+
+-- which of the files that are found are listed, by the options of `files`: without options those that aren't ignored, and each where no
+-- pattern counts
+abbrev pub chosen_by : FilesFlags → Chosen
+chosen_by flags = if flags.ignored then choices.Ignored else (if flags.exclude_standard || are_usual flags then choices.Unignored else choices.All)
+
+-- how folders are told that have no tracked path
+abbrev pub folders_by : FilesFlags → Folders
+folders_by flags = if flags.directory then folders.Named else folders.Entered
+
+-- how entries of a configuration are shown, by the options of `config`
+abbrev pub manner_by : ConfigFlags → Manner
+manner_by flags = record { nul = flags.nul; origin = flags.show_origin }

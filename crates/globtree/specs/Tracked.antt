@@ -6,10 +6,12 @@ use Rattle.git_index.specs.declared.checksum.ObjectFormat.{ObjectFormat}
 use Rattle.git_index.specs.declared.checksum.ObjectFormat.TheVariants.{Sha1, Sha256}
 use Rattle.git_index.specs.Entries.{Tracked}
 use Rattle.git_index.specs.Format.{IsIndexFile}
+use Rattle.git_index.specs.Split.{IsSplitIndex}
 
--- nothing is tracked, or what an index file says
+-- nothing is tracked, or what an index file says, alone or with the file that it shares entries with
 abbrev pub IsOfIndex : List Tracked → Type 0
-IsOfIndex tracked = (tracked ≡ []) ⊎ ((format : ObjectFormat) × (bytes : List ℕ) × IsIndexFile format bytes tracked)
+IsOfIndex tracked =
+    (tracked ≡ []) ⊎ ((format : ObjectFormat) × (bytes : List ℕ) × (IsIndexFile format bytes tracked ⊎ ((shared : List ℕ) × IsSplitIndex format bytes shared tracked)))
 
 -- the digest that names objects, by the value of `extensions.objectFormat`
 abbrev pub format_by : Option (Option (List ℕ)) → ObjectFormat

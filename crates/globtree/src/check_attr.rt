@@ -11,7 +11,8 @@ ghost use Rattle.globtree.specs.Running.{IsAnswered, IsRefused, form_by};
 use crate::check_ignore::bytes_of;
 use crate::fronts::case_of;
 use crate::outer_attributes::{OuterAttributes, outer_attributes};
-use crate::running::{ANSWERED, WRONG_WORDS, tell_usage};
+use crate::running::{ANSWERED, WRONG_WORDS};
+use crate::wrong_words::tell_misuse;
 use anyhow::{Context, Result};
 use gix_glob::search::Watched;
 use glob_attributes::is_name;
@@ -25,17 +26,10 @@ use tree_commands::check_attr::{
 };
 use tree_files::{AttributeFiles, CheckFault, tell_line};
 use tree_words::check_attr::CheckAttrFlags;
-use tree_words::{Options, operands_of};
+use tree_words::{CommandName, Options, operands_of};
 
 /// What the command ends with where a name is none that an attribute can have.
 const NO_NAME: u8 = 255;
-
-const USAGE: &str = "\
-usage: globtree [OPTION..] check-attr [-z] -a [--] PATH..
-       globtree [OPTION..] check-attr [-z] ATTR [--] PATH..
-       globtree [OPTION..] check-attr [-z] ATTR.. -- PATH..
-       globtree [OPTION..] check-attr [-z] --stdin [-a | ATTR..]
-";
 
 /// Tells which state attributes have for paths, by the words behind `check-attr`.
 pub(crate) fn check_attr<R: Files + Env + Eprint + AllocGlobal, I: Read, O: Write>(
@@ -58,12 +52,12 @@ pub(crate) fn check_attr<R: Files + Env + Eprint + AllocGlobal, I: Read, O: Writ
     let count = match flags.names_first(operands.words.len(), operands.before) {
         Ok(count) => count,
         Err(misuse) => {
-            tell_usage(rt, misuse.message(), USAGE);
+            tell_misuse(rt, CommandName::CheckAttr, misuse.message());
             return Ok(WRONG_WORDS);
         }
     };
     let (names, paths) = operands.words.split_at(count);
-    let outer = outer_attributes(rt, alloc, options)?;
+    let (outer, indexed) = outer_attributes(rt, alloc, options)?;
     if let Some(name) = wrong_name(names) {
         tell_line(
             rt,
@@ -74,7 +68,7 @@ pub(crate) fn check_attr<R: Files + Env + Eprint + AllocGlobal, I: Read, O: Writ
     }
     let asked_names = bytes_of(alloc, names)?;
     let question = question_of(&outer, &asked_names, options, flags);
-    let source = AttributeFiles::new(rt, alloc);
+    let source = AttributeFiles::new(rt, alloc, &indexed);
     if flags.stdin {
         answer_input(alloc, &question, source, input, output)?;
         return Ok(ANSWERED);

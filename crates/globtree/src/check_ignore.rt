@@ -1,13 +1,15 @@
 //! The command `check-ignore`.
-ghost use Rattle.std.specs.Prelude.{◌≡◌, ℕ, List, IfOk, false, if◌then◌else◌, map, string_bytes};
+ghost use Rattle.std.specs.Prelude.{◌≡◌, ℕ, List, IfOk, None, false, if◌then◌else◌, map, string_bytes};
 ghost use Rattle.std.specs.Borrow.{Bor};
 ghost use Rattle.gix_glob.specs.Watched.{has_failed, inner};
+ghost use Rattle.tree_commands.specs.CheckIgnore.{question_of};
 ghost use Rattle.globtree.specs.Answers.{AnswersIgnore, ReadsIgnore, TellsIgnore};
 ghost use Rattle.globtree.specs.Running.{IsAnswered, asked_by_flags};
 
-use crate::fronts::{case_of, fronts_of, tree_behind};
+use crate::fronts::{Fronts, case_of, fronts_of, tree_behind};
+use crate::index_use::IndexUse;
+use crate::pathspec_settings::{refuse_settings, refuse_settings_for};
 use crate::running::ANSWERED;
-use crate::signs::IndexUse;
 use anyhow::{Context, Result, bail};
 use gix_glob::search::Watched;
 use record_streams::RecordFault;
@@ -15,6 +17,7 @@ use std::alloc::{AllocError, Global};
 use std::io::{Read, Write};
 use std::rt::{Env, Files};
 use told_paths::{Quoting, Standpoint};
+use tracked_paths::TrackedPaths;
 use tree_answers::Form;
 use tree_commands::check_ignore::{
     IgnoreFault, IgnoreFlags, IgnoreSources, check_ignore_paths, run_check_ignore,
@@ -46,21 +49,31 @@ pub(crate) fn check_ignore<R: Files + Env + Eprint + AllocGlobal, I: Read, O: Wr
         bail!("{message}");
     }
     let fronts = fronts_of(rt, alloc, options, index_by(flags))?;
-    let case = case_of(options, fronts.folds);
-    let tree = tree_behind(rt, alloc, fronts.lists, case)?;
+    let Fronts {
+        standpoint,
+        lists,
+        folds,
+        quoting,
+        tracked,
+        indexed,
+        ..
+    } = fronts;
+    let case = case_of(options, folds);
+    let tree = tree_behind(rt, alloc, lists, &indexed, case)?;
     let kinds = FileKinds::new(rt, alloc);
-    let tracked = fronts.tracked;
+    let tracked = TrackedPaths::new(tracked);
     let sources = IgnoreSources {
         tree,
         kinds,
         tracked,
     };
-    let standpoint = fronts.standpoint;
-    let asked = asked_by_flags(flags, fronts.quoting);
+    let asked = asked_by_flags(flags, quoting);
     if flags.stdin {
+        refuse_settings_for(rt, alloc, input)?;
         let is_any = answer_input(alloc, &standpoint, asked, sources, input, output)?;
         return Ok(status_of(is_any));
     }
+    refuse_settings(rt, alloc)?;
     let paths = bytes_of(alloc, &paths)?;
     let is_any = answer_paths(alloc, &standpoint, asked, sources, &paths, output)?;
     Ok(status_of(is_any))
@@ -84,7 +97,7 @@ fn answer_input<R: Files + Eprint, I: Read, O: Write>(
 ) -> Result<bool>
     requires readable { has_failed input.old ≡ false }
     requires writable { has_failed output.old ≡ false }
-    ensures { IfOk result (λ is_any. ReadsIgnore standpoint.now sources.entry.tracked sources.entry.tree.rules asked is_any (I.remaining (inner input.old)) (I.remaining (inner input.new)) (O.contents (inner output.old)) (O.contents (inner output.new))) }
+    ensures { IfOk result (λ is_any. ReadsIgnore (question_of standpoint.now asked sources.entry.tracked sources.entry.tree (λ _. None)) is_any (I.remaining (inner input.old)) (I.remaining (inner input.new)) (O.contents (inner output.old)) (O.contents (inner output.new))) }
 {
     let (_sources, outcome) = run_check_ignore(alloc, standpoint, asked, sources, input, output);
     outcome.map_err(|fault| told_fault(alloc, fault))
@@ -100,14 +113,17 @@ fn answer_paths<R: Files + Eprint, O: Write>(
     output: &mut Watched<O>,
 ) -> Result<bool>
     requires { has_failed output.old ≡ false }
-    ensures { IfOk result (λ is_any. TellsIgnore standpoint.now sources.entry.tracked sources.entry.tree.rules asked (map (λ (path : Bor (List ℕ)). path.now) paths.now) is_any (O.contents (inner output.old)) (O.contents (inner output.new))) }
+    ensures { IfOk result (λ is_any. TellsIgnore (question_of standpoint.now asked sources.entry.tracked sources.entry.tree (λ _. None)) (map (λ (path : Bor (List ℕ)). path.now) paths.now) is_any (O.contents (inner output.old)) (O.contents (inner output.new))) }
 {
     let (_sources, outcome) = check_ignore_paths(alloc, standpoint, asked, sources, paths, output);
     outcome.map_err(|fault| told_fault(alloc, fault))
 }
 
 /// A fault as it is told.
-fn told_fault(alloc: Global, fault: RecordFault<IgnoreFault<CheckFault>>) -> anyhow::Error {
+pub(crate) fn told_fault(
+    alloc: Global,
+    fault: RecordFault<IgnoreFault<CheckFault>>,
+) -> anyhow::Error {
     match fault {
         RecordFault::Answer(fault) => CheckFault::of_ignore(alloc, fault).into(),
         fault => fault.into(),

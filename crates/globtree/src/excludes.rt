@@ -1,4 +1,8 @@
 //! Files of excludes, which count before those of all folders.
+ghost use Rattle.std.specs.Prelude.{IfOk};
+ghost use Rattle.gix_glob.specs.EntryLists.{entry_list_of};
+ghost use Rattle.globtree.specs.Answers.{IsOfSomeFile};
+
 use anyhow::{Context, Result, bail};
 use gix_glob::search::pattern::List;
 use glob_lines::IgnoreLines;
@@ -12,7 +16,9 @@ pub(crate) fn named_excludes<R: Files>(
     rt: &R,
     alloc: Global,
     name: &str,
-) -> Result<List<IgnoreLines>> {
+) -> Result<List<IgnoreLines>>
+    ensures { IfOk result (λ list. IsOfSomeFile (entry_list_of (λ _. tt) list)) }
+{
     let mut bytes = Vec::new(alloc);
     let source = String::from_str(alloc, name)?;
     named_list(rt, alloc, source, &mut bytes, BY_GIT)
@@ -25,7 +31,9 @@ pub(crate) fn excludes<R: Files + Eprint>(
     rt: &R,
     alloc: Global,
     file: String,
-) -> Result<List<IgnoreLines>> {
+) -> Result<List<IgnoreLines>>
+    ensures { IfOk result (λ list. IsOfSomeFile (entry_list_of (λ _. tt) list)) }
+{
     if fs::metadata(rt, file.as_str()).is_ok_and(|found| found.is_dir()) {
         bail!("cannot use {file} as an exclude file");
     }

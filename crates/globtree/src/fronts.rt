@@ -1,24 +1,27 @@
 //! The lists of patterns that count before those of all folders, and the tree that they begin.
-ghost use Rattle.std.specs.Prelude.{◌≡◌, ◌≢◌, [], IfOk};
+ghost use Rattle.std.specs.Prelude.{◌≡◌, ◌≢◌, ◌&&◌, ◌∷◌, [], IfOk, IfSome, length, map, not, option_map};
+ghost use Rattle.std.specs.Vec.{vec_items};
+ghost use Rattle.gix_glob.specs.EntryLists.{entry_list_of};
 ghost use Rattle.glob_lists.specs.Rules.{by_git};
-ghost use Rattle.globtree.specs.Answers.{case_by};
+ghost use Rattle.globtree.specs.Answers.{AreFronts, IsOfSomeFile, case_by};
+ghost use Rattle.globtree.specs.Places.{is_relative_file};
 ghost use Rattle.globtree.specs.Tracked.{IsOfIndex};
 
 use crate::excludes::{excludes, named_excludes};
+use crate::index_use::{IndexUse, Taken, take_from_index};
 use crate::moving::go_to_folders;
-use crate::signs::{IndexUse, tracked_after_signs};
 use crate::work_tree::{WorkTree, work_tree};
 use anyhow::{Context, Result};
+use git_index::Index;
 use gix_glob::pattern::Case;
 use gix_glob::search::pattern::List;
 use glob_lines::IgnoreLines;
 use glob_lists::{PreparedList, Rules};
 use glob_trees::Tree;
-use std::alloc::Global;
+use std::alloc::{AllocError, Global};
 use std::rt::{Env, Files};
 use told_paths::{Quoting, Standpoint};
-use tracked_paths::TrackedPaths;
-use tree_files::{FolderFiles, path_text};
+use tree_files::{FolderFiles, IndexedFiles, path_text};
 use tree_words::Options;
 
 /// About how many bytes are kept of folders and their patterns.
@@ -31,12 +34,18 @@ pub(crate) struct Fronts {
     pub(crate) standpoint: Standpoint,
     /// The lists before those of all folders, the weakest first.
     pub(crate) lists: Vec<PreparedList<IgnoreLines>>,
+    /// Whether Git, to list files, tells the usual file of excludes from another folder.
+    pub(crate) excludes_are_elsewhere: bool,
     /// Whether the configuration says that the case of letters doesn't count.
     pub(crate) folds: bool,
     /// Which names stand in quotes.
     pub(crate) quoting: Quoting,
     /// The paths that the index tracks, where it is read.
-    pub(crate) tracked: TrackedPaths,
+    pub(crate) tracked: Index,
+    /// The folders whose ignore file Git takes from the index if the work tree hasn't it.
+    pub(crate) indexed: IndexedFiles,
+    /// The git folder of the repository, where there is one.
+    pub(crate) git_folder: Option<Vec<u8>>,
 }
 
 /// Goes to the top of the work tree, and reads the files that count before those of all folders.
@@ -47,50 +56,93 @@ pub(crate) fn fronts_of<R: Files + Env + Eprint + AllocGlobal>(
     index: IndexUse,
 ) -> Result<Fronts>
     ensures tracked { IfOk result (λ fronts. IsOfIndex fronts.tracked) }
+    ensures before { IfOk result (λ fronts. AreFronts (length fronts.lists.items) (map (entry_list_of (λ _. tt)) fronts.lists.items)) }
     ensures unread { IfOk result (λ fronts. index ≢ IndexUse.Paths → fronts.tracked ≡ []) }
 {
     go_to_folders(rt, alloc, options)?;
-    let named = match options.excludes {
-        Some(name) => Some(named_excludes(rt, alloc, name)?),
-        None => None,
-    };
+    let named = excludes_by_option(rt, alloc, options)?;
     let tree = work_tree(rt, alloc, options)?;
-    let tracked = tracked_after_signs(rt, alloc, &tree, index)?;
+    let Taken { tracked, indexed } = take_from_index(rt, alloc, &tree.index, index)?;
     let WorkTree {
         standpoint,
         folds,
         quoting,
         excludes: file,
         own_excludes,
+        git_folder,
         ..
     } = tree;
-    let outer = match named {
-        Some(list) => list,
-        None => usual_excludes(rt, alloc, file)?,
-    };
-    let mut lists = Vec::new(alloc);
-    lists.push(PreparedList::new(alloc, outer))?;
+    let excludes_are_elsewhere = named.is_none() && is_elsewhere(&standpoint, &file);
+    let outer = outer_excludes(rt, alloc, named, file)?;
     let own = excludes(rt, alloc, own_excludes)?;
-    lists.push(PreparedList::new(alloc, own))?;
+    let lists = both(alloc, outer, own)?;
     Ok(Fronts {
         standpoint,
         lists,
+        excludes_are_elsewhere,
         folds,
         quoting,
         tracked,
+        indexed,
+        git_folder,
     })
 }
 
-/// The list of the file of excludes for all repositories, where there is one.
-fn usual_excludes<R: Files + Eprint>(
+/// Whether Git, to list files, tells the file of excludes from another folder: a relative path, outside of the work tree.
+fn is_elsewhere(standpoint: &Standpoint, file: &Option<Vec<u8>>) -> bool
+    ensures { result ≡ (not standpoint.now.is_inside && is_relative_file (option_map vec_items file.now)) }
+{
+    match file {
+        Some(path) => !standpoint.is_inside && !path.is_empty() && !path.starts_with(b"/"),
+        None => false,
+    }
+}
+
+/// The list of the file of excludes that an option names, where one does.
+fn excludes_by_option<R: Files>(
     rt: &R,
     alloc: Global,
+    options: Options<'_>,
+) -> Result<Option<List<IgnoreLines>>>
+    ensures { IfOk result (λ named. IfSome named (λ list. IsOfSomeFile (entry_list_of (λ _. tt) list))) }
+{
+    match options.excludes {
+        Some(name) => Ok(Some(named_excludes(rt, alloc, name)?)),
+        None => Ok(None),
+    }
+}
+
+/// The list that is named, or else that of the file of excludes for all repositories, where there is one.
+fn outer_excludes<R: Files + Eprint>(
+    rt: &R,
+    alloc: Global,
+    named: Option<List<IgnoreLines>>,
     file: Option<Vec<u8>>,
-) -> Result<List<IgnoreLines>> {
+) -> Result<List<IgnoreLines>>
+    requires { IfSome named (λ list. IsOfSomeFile (entry_list_of (λ _. tt) list)) }
+    ensures { IfOk result (λ list. IsOfSomeFile (entry_list_of (λ _. tt) list)) }
+{
+    if let Some(list) = named {
+        return Ok(list);
+    }
     match file {
         Some(file) => excludes(rt, alloc, path_text(alloc, &file)?),
         None => Ok(List::empty(alloc)),
     }
+}
+
+/// Both lists, prepared, in this order.
+fn both(
+    alloc: Global,
+    outer: List<IgnoreLines>,
+    own: List<IgnoreLines>,
+) -> Result<Vec<PreparedList<IgnoreLines>>, AllocError>
+    ensures { IfOk result (λ lists. lists.items ≡ outer ∷ own ∷ []) }
+{
+    let mut lists = Vec::with_capacity(alloc, 2)?;
+    lists.push(PreparedList::new(alloc, outer))?;
+    lists.push(PreparedList::new(alloc, own))?;
+    Ok(lists)
 }
 
 /// The tree whose folders' files stand behind these lists.
@@ -98,11 +150,14 @@ pub(crate) fn tree_behind<'a, R: Files + Eprint>(
     rt: &'a R,
     alloc: Global,
     lists: Vec<PreparedList<IgnoreLines>>,
+    indexed: &'a IndexedFiles,
     case: Case,
 ) -> Result<Tree<IgnoreLines, FolderFiles<'a, R>>>
-    ensures { IfOk result (λ tree. tree.rules ≡ by_git case) }
+    ensures rules { IfOk result (λ tree. tree.rules ≡ by_git case) }
+    ensures count { IfOk result (λ tree. tree.front_count ≡ length lists.items) }
+    ensures before { IfOk result (λ tree. tree.lists ≡ lists.items) }
 {
-    let source = FolderFiles::new(rt, alloc);
+    let source = FolderFiles::new(rt, alloc, indexed);
     let mut tree = Tree::new(alloc, source, lists, Rules::by_git(case)).context(
         "the bases of lists",
     )?;

@@ -1,66 +1,197 @@
 //! The command `files`.
-ghost use Rattle.std.specs.Prelude.{IfOk};
+ghost use Rattle.std.specs.Prelude.{◌≡◌, ◌||◌, IfOk, MatchBool, OnOk, length, map};
+ghost use Rattle.gix_glob.specs.EntryLists.{entry_list_of};
 ghost use Rattle.gix_glob.specs.Watched.{inner};
-ghost use Rattle.globtree.specs.Answers.{AnswersFiles};
-ghost use Rattle.globtree.specs.Running.{IsAnswered};
+ghost use Rattle.glob_lists.specs.Rules.{by_git};
+ghost use Rattle.tree_commands.specs.declared.files.mark.Mark.TheVariants as marks;
+ghost use Rattle.globtree.specs.Answers.{AnswersFiles, AreFronts, ListsFound, ListsIgnored, ListsTracked, case_by};
+ghost use Rattle.tree_words.specs.Files.{are_usual, lists_tracked};
+ghost use Rattle.globtree.specs.Running.{IsAnswered, chosen_by, folders_by, form_by};
 
-use crate::fronts::{case_of, fronts_of};
+use crate::fronts::{Fronts, case_of, fronts_of, tree_behind};
+use crate::index_use::IndexUse;
+use crate::list_tracked::{list_tracked, list_tracked_ignored};
+use crate::listing::{copies_of, run_listing};
 use crate::running::ANSWERED;
-use crate::signs::IndexUse;
-use anyhow::{Context, Result};
+use anyhow::{Result, bail};
 use gix_glob::search::Watched;
-use std::alloc::Global;
+use std::alloc::{AllocError, Global};
 use std::io::Write;
-use std::rt::{Env, Files};
-use told_paths::LeadFault;
+use std::rt::{Clock, Env, Files};
+use told_paths::Standpoint;
 use tree_answers::Form;
-use tree_commands::files::fault::FilesFault;
-use tree_commands::files::{Listing, run_files};
-use tree_files::{CheckFault, TreeFiles};
+use tree_commands::files::Listing;
+use tree_commands::files::choosing::{Chosen, Folders};
+use tree_commands::files::mark::Mark;
 use tree_words::Options;
 use tree_words::files::FilesFlags;
 
-/// What the command ends with where something couldn't be read.
-const NOT_ALL_LISTED: u8 = 1;
-
-/// Lists the files below a folder that aren't ignored.
-pub(crate) fn list_files<R: Files + Env + Eprint + AllocGlobal + Clone + Drop, O: Write>(
+/// Lists files below a folder.
+pub(crate) fn list_files<R: Files + Env + Clock + Eprint + AllocGlobal + Clone + Drop, O: Write>(
     rt: &R,
     alloc: Global,
     options: Options<'_>,
     flags: FilesFlags,
     folder: &str,
+    shows_progress: bool,
     output: &mut Watched<O>,
 ) -> Result<u8>
     ensures status { IfOk result IsAnswered }
-    ensures answered { IfOk result (λ _. AnswersFiles flags (O.contents (inner output.old)) (O.contents (inner output.new))) }
+    ensures answered { IfOk result (λ _. AnswersFiles options.entry flags folder.now (O.contents (inner output.old)) (O.contents (inner output.new))) }
 {
-    let fronts = fronts_of(rt, alloc, options, IndexUse::Listing)?;
-    let listing = Listing {
-        standpoint: fronts.standpoint,
-        form: Form::ended_by(flags.nul, fronts.quoting),
-        fronts: fronts.lists,
-        case: case_of(options, fronts.folds),
-    };
-    let mut source = TreeFiles::new(rt, alloc)?;
-    match run_files(alloc, listing, &mut source, folder.as_bytes(), output) {
-        Ok(()) if source.is_short() => Ok(NOT_ALL_LISTED),
-        Ok(()) => Ok(ANSWERED),
-        Err(FilesFault::Write(error)) => Err(error).context("writing"),
-        Err(FilesFault::Endless) => None.context("a tree without an end"),
-        Err(fault) => Err(fault_of(alloc, folder, fault).into()),
+    if let Some(message) = flags.disagreement() {
+        bail!("{message}");
+    }
+    if names_folders_otherwise(flags) {
+        bail!("--directory isn't known with -i, nor with --no-empty-directory");
+    }
+    let fronts = fronts_of(rt, alloc, options, index_by(flags))?;
+    if counts_patterns(flags) && fronts.excludes_are_elsewhere {
+        bail!("a relative core.excludesFile isn't read from outside of the work tree");
+    }
+    let status = list_found(
+        rt,
+        alloc,
+        options,
+        flags,
+        &fronts,
+        folder,
+        shows_progress,
+        output,
+    )?;
+    list_tracked_by(rt, alloc, options, flags, fronts, folder, output)?;
+    Ok(status)
+}
+
+/// Whether the patterns of the usual files count.
+fn counts_patterns(flags: FilesFlags) -> bool
+    ensures { result ≡ (flags.exclude_standard || are_usual flags) }
+{
+    flags.exclude_standard || flags.are_usual()
+}
+
+/// Whether folders are to be told by their names as no listing knows it.
+fn names_folders_otherwise(flags: FilesFlags) -> bool {
+    flags.others && flags.directory && (flags.ignored || flags.no_empty_directory)
+}
+
+/// What is taken from the index: which paths are tracked, unless all files are listed.
+fn index_by(flags: FilesFlags) -> IndexUse {
+    if flags.are_usual() {
+        IndexUse::Patterns
+    } else {
+        IndexUse::Paths
     }
 }
 
-/// Another fault as a path got no answer for it.
-fn fault_of(alloc: Global, folder: &str, fault: FilesFault<CheckFault>) -> CheckFault {
-    let told = folder.as_bytes();
-    match fault {
-        FilesFault::Source(fault) => fault,
-        FilesFault::Empty => CheckFault::Empty,
-        FilesFault::Outside => CheckFault::of_lead(alloc, told, LeadFault::Outside),
-        FilesFault::Base => CheckFault::Base,
-        // the last two are told otherwise
-        FilesFault::Memory | FilesFault::Endless | FilesFault::Write(_) => CheckFault::Memory,
+/// Lists the files that are found below a folder, where such are listed.
+fn list_found<R: Files + Env + Clock + Eprint + AllocGlobal + Clone + Drop, O: Write>(
+    rt: &R,
+    alloc: Global,
+    options: Options<'_>,
+    flags: FilesFlags,
+    fronts: &Fronts,
+    folder: &str,
+    shows_progress: bool,
+    output: &mut Watched<O>,
+) -> Result<u8>
+    ensures status { IfOk result IsAnswered }
+    ensures found { IfOk result (λ _. MatchBool (are_usual flags || flags.others)
+        (ListsFound marks.Bare fronts.now.standpoint (form_by flags.nul fronts.now.quoting) (O.contents (inner output.old)) (O.contents (inner output.new)))
+        (O.contents (inner output.new) ≡ O.contents (inner output.old))) }
+{
+    if !lists_found(flags) {
+        return Ok(ANSWERED);
     }
+    let listing = Listing {
+        standpoint: copy_of(&fronts.standpoint)?,
+        form: Form::ended_by(flags.nul, fronts.quoting),
+        mark: Mark::Bare,
+        chosen: chosen_by(flags),
+        folders: folders_by(flags),
+        fronts: copies_of(alloc, &fronts.lists)?,
+        case: case_of(options, fronts.folds),
+    };
+    run_listing(rt, alloc, listing, fronts, folder, shows_progress, output)
+}
+
+/// Whether files are listed that are found: with `-o`, and without options.
+fn lists_found(flags: FilesFlags) -> bool
+    ensures { result ≡ (are_usual flags || flags.others) }
+{
+    flags.are_usual() || flags.others
+}
+
+/// Which files are listed that are found: without options those that aren't ignored; else what the patterns say, where they count.
+fn chosen_by(flags: FilesFlags) -> Chosen
+    ensures { result ≡ chosen_by flags }
+{
+    if flags.ignored {
+        return Chosen::Ignored;
+    }
+    if counts_patterns(flags) {
+        return Chosen::Unignored;
+    }
+    Chosen::All
+}
+
+/// How folders are told that have no tracked path.
+fn folders_by(flags: FilesFlags) -> Folders
+    ensures { result ≡ folders_by flags }
+{
+    if flags.directory {
+        Folders::Named
+    } else {
+        Folders::Entered
+    }
+}
+
+/// Lists the tracked paths at or below a folder, where such are listed; with `-i` those that are ignored.
+fn list_tracked_by<R: Files + Env + Eprint + AllocGlobal, O: Write>(
+    rt: &R,
+    alloc: Global,
+    options: Options<'_>,
+    flags: FilesFlags,
+    fronts: Fronts,
+    folder: &str,
+    output: &mut Watched<O>,
+) -> Result<()>
+    requires { AreFronts (length fronts.lists.items) (map (entry_list_of (λ _. tt)) fronts.lists.items) }
+    ensures { OnOk result (MatchBool (lists_tracked flags)
+        (MatchBool flags.ignored
+        (ListsIgnored fronts.standpoint (by_git (case_by options.entry fronts.folds)) (form_by flags.nul fronts.quoting) fronts.tracked folder.now (O.contents (inner output.old)) (O.contents (inner output.new)))
+        (ListsTracked fronts.standpoint (form_by flags.nul fronts.quoting) fronts.tracked folder.now (O.contents (inner output.old)) (O.contents (inner output.new))))
+        (O.contents (inner output.new) ≡ O.contents (inner output.old))) }
+{
+    if !flags.lists_tracked() {
+        return Ok(());
+    }
+    if output.failed() {
+        bail!("writing");
+    }
+    let form = Form::ended_by(flags.nul, fronts.quoting);
+    let case = case_of(options, fronts.folds);
+    let Fronts {
+        standpoint,
+        lists,
+        tracked,
+        indexed,
+        ..
+    } = fronts;
+    if !flags.ignored {
+        return list_tracked(alloc, &standpoint, form, &tracked, folder, output);
+    }
+    let tree = tree_behind(rt, alloc, lists, &indexed, case)?;
+    list_tracked_ignored(rt, alloc, &standpoint, form, &tracked, tree, folder, output)
+}
+
+/// The same standpoint once more.
+fn copy_of(standpoint: &Standpoint) -> Result<Standpoint, AllocError>
+    ensures { IfOk result (λ copy. (copy.top.items ≡ standpoint.now.top.items) × (copy.here.items ≡ standpoint.now.here.items) × (copy.is_inside ≡ standpoint.now.is_inside)) }
+{
+    Ok(Standpoint {
+        top: standpoint.top.clone()?,
+        here: standpoint.here.clone()?,
+        is_inside: standpoint.is_inside,
+    })
 }

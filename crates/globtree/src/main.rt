@@ -1,25 +1,32 @@
 //! Says of the paths of a work tree what Git says: which line of which file ignores them, which files aren't ignored, and which
-//! states attributes have for paths.
+//! states attributes have for paths; which files aren't tracked; and what the configuration says.
 #![tactic(auto)]
 
 mod check_attr;
 mod check_ignore;
 mod excludes;
 mod fronts;
-mod index_head;
+mod index_use;
 mod list_files;
+mod list_tracked;
+mod listing;
 mod moving;
 mod opening;
 mod outer_attributes;
+mod pathspec_settings;
 mod places;
+mod progress;
 mod running;
-mod signs;
+mod show_config;
+mod show_status;
 mod tracked;
 mod work_tree;
+mod wrong_words;
 
 use gix_glob::search::Watched;
 use program_start::{command_line, stand_ins};
 pub use running::run_words;
+use std::io::IsTerminal;
 use std::process::ExitCode;
 
 /// Takes the words of the command line, and ends with the status that they lead to.
@@ -30,7 +37,16 @@ fn main(rt: HostRuntime) -> ExitCode {
         Ok(words) => {
             let mut input = Watched::new(rt.stdin());
             let mut output = Watched::new(rt.stdout());
-            run_words(&rt, rt.alloc(), &words, &mut input, &mut output)
+            // (what is written to a terminal shows itself how far it is)
+            let shows_progress = rt.stderr().is_terminal() && !rt.stdout().is_terminal();
+            run_words(
+                &rt,
+                rt.alloc(),
+                &words,
+                shows_progress,
+                &mut input,
+                &mut output,
+            )
         }
         Err(refused) => running::without_words(&rt, refused.kind()),
     };

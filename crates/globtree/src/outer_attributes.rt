@@ -1,14 +1,14 @@
 //! The attribute files that don't depend on a path: the system's, the user's, the top's and the repository's own.
 
+use crate::index_use::{IndexUse, Taken, take_from_index};
 use crate::moving::go_to_folders;
-use crate::signs::{IndexUse, tracked_after_signs};
 use crate::work_tree::{WorkTree, work_tree};
 use anyhow::Result;
 use std::alloc::Global;
 use std::rt::{Env, Files};
 use told_paths::{Quoting, Standpoint};
 use tree_commands::check_attr::OuterFiles;
-use tree_files::{AttributeFiles, path_text};
+use tree_files::{AttributeFiles, IndexedFiles, path_text};
 use tree_words::Options;
 
 /// The bytes of the files that are read before any path is asked for, and where paths are told from.
@@ -37,18 +37,20 @@ impl OuterAttributes {
     }
 }
 
-/// Goes to the top, and reads the files that don't depend on a path.
+/// Goes to the top, and reads the files that don't depend on a path. It answers these, and the folders whose attribute file Git takes
+/// from the index if the work tree hasn't it.
 pub(crate) fn outer_attributes<R: Files + Env + Eprint + AllocGlobal>(
     rt: &R,
     alloc: Global,
     options: Options<'_>,
-) -> Result<OuterAttributes> {
+) -> Result<(OuterAttributes, IndexedFiles)> {
     go_to_folders(rt, alloc, options)?;
-    let reader = AttributeFiles::new(rt, alloc);
+    let none = IndexedFiles::none(alloc);
+    let reader = AttributeFiles::new(rt, alloc, &none);
     let system = named_file(alloc, &reader, options.system)?;
     let named = named_file(alloc, &reader, options.attributes)?;
     let tree = work_tree(rt, alloc, options)?;
-    let _none = tracked_after_signs(rt, alloc, &tree, IndexUse::Attributes)?;
+    let Taken { indexed, .. } = take_from_index(rt, alloc, &tree.index, IndexUse::Attributes)?;
     let WorkTree {
         standpoint,
         folds,
@@ -61,9 +63,9 @@ pub(crate) fn outer_attributes<R: Files + Env + Eprint + AllocGlobal>(
         Some(bytes) => bytes,
         None => usual_file(alloc, &reader, attributes)?,
     };
-    let top = reader.top()?;
+    let top = AttributeFiles::new(rt, alloc, &indexed).top()?;
     let info = reader.file(own_attributes)?;
-    Ok(OuterAttributes {
+    let outer = OuterAttributes {
         standpoint,
         folds,
         quoting,
@@ -71,7 +73,8 @@ pub(crate) fn outer_attributes<R: Files + Env + Eprint + AllocGlobal>(
         user,
         top,
         info,
-    })
+    };
+    Ok((outer, indexed))
 }
 
 /// The bytes of a file that is named.

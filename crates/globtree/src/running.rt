@@ -9,13 +9,16 @@ ghost use Rattle.globtree.specs.Running.{IsAnswered, IsRefused, IsStatus};
 use crate::check_attr::check_attr;
 use crate::check_ignore::check_ignore;
 use crate::list_files::list_files;
+use crate::show_config::show_config;
+use crate::show_status::show_status;
+use crate::wrong_words::{tell_no_text, tell_word_fault};
 use anyhow::{Context, Result};
 use gix_glob::search::Watched;
 use std::alloc::Global;
 use std::io::{ErrorKind, Read, Write};
-use std::rt::{Env, Files};
+use std::rt::{Clock, Env, Files};
 use tree_files::tell_line;
-use tree_words::{Command, Options, asked_by};
+use tree_words::{Command, Options, WordFault, asked_by, help_of};
 
 /// What the program ends with.
 pub(crate) const ANSWERED: u8 = 0;
@@ -24,36 +27,16 @@ const FAULT: u8 = 128;
 
 pub(crate) const WRONG_WORDS: u8 = 129;
 
-const USAGE: &str = "\
-usage: globtree [OPTION..] check-ignore [-v] [-n] [-z] PATH..
-       globtree [OPTION..] check-ignore -q PATH
-       globtree [OPTION..] check-ignore [-v] [-n] [-z] --stdin
-       globtree [OPTION..] files [-z] [DIR]
-       globtree [OPTION..] check-attr [-z] -a [--] PATH..
-       globtree [OPTION..] check-attr [-z] ATTR [--] PATH..
-       globtree [OPTION..] check-attr [-z] ATTR.. -- PATH..
-       globtree [OPTION..] check-attr [-z] --stdin [-a | ATTR..]
-
-options:
-  -C DIR             go to DIR first
-  -c KEY=VALUE       a value of the configuration
-  --git-dir DIR      the git folder; else it is looked for from the current folder upward
-  --work-tree DIR    the top of the work tree of that repository
-  --top DIR          the top of the work tree, without a repository or configuration
-  --excludes FILE    a file of excludes, in place of core.excludesFile
-  --ignore-case      the case of letters doesn't count in patterns
-  --system FILE      the system's attribute file; else there is none
-  --attributes FILE  the user's attribute file, in place of core.attributesFile
-";
-
 const VERSION: &str = "globtree 0.1.0\n";
 
 /// Does what the words ask for, and answers the status to end with: 0 or 1 where all was answered, 128 after a fault, 129 where the
 /// words don't fit together, 255 where a name is none that an attribute can have. In the last two cases nothing is read or written.
-pub fn run_words<R: Files + Env + Eprint + AllocGlobal + Clone + Drop, I: Read, O: Write>(
+/// Where it `shows_progress`, how far long work is, is told on standard error.
+pub fn run_words<R: Files + Env + Clock + Eprint + AllocGlobal + Clone + Drop, I: Read, O: Write>(
     rt: &R,
     alloc: Global,
     words: &[String],
+    shows_progress: bool,
     input: &mut Watched<I>,
     output: &mut Watched<O>,
 ) -> u8
@@ -65,21 +48,23 @@ pub fn run_words<R: Files + Env + Eprint + AllocGlobal + Clone + Drop, I: Read, 
     ensures unread { IsRefused result → input.new ≡ input.old }
     ensures unwritten { IsRefused result → output.new ≡ output.old }
 {
-    let Some((options, command)) = asked_by(words) else {
-        return tell_wrong_words(rt);
+    let (options, command) = match asked_by(words) {
+        Ok(asked) => asked,
+        Err(fault) => return tell_wrong_words(rt, alloc, fault),
     };
-    match answer_command(rt, alloc, options, command, input, output) {
+    match answer_command(rt, alloc, options, command, shows_progress, input, output) {
         Ok(status) => status,
         Err(fault) => tell_fault(rt, alloc, fault),
     }
 }
 
 /// Answers a command.
-fn answer_command<R: Files + Env + Eprint + AllocGlobal + Clone + Drop, I: Read, O: Write>(
+fn answer_command<R: Files + Env + Clock + Eprint + AllocGlobal + Clone + Drop, I: Read, O: Write>(
     rt: &R,
     alloc: Global,
     options: Options<'_>,
     command: Command<'_>,
+    shows_progress: bool,
     input: &mut Watched<I>,
     output: &mut Watched<O>,
 ) -> Result<u8>
@@ -91,14 +76,22 @@ fn answer_command<R: Files + Env + Eprint + AllocGlobal + Clone + Drop, I: Read,
     ensures unwritten { IfOk result (λ status. IsRefused status → output.new ≡ output.old) }
 {
     match command {
-        Command::Help => write_text(output, USAGE),
+        Command::Help(topic) => write_text(output, help_of(topic)),
         Command::Version => write_text(output, VERSION),
         Command::CheckIgnore { flags, words } => {
             check_ignore(rt, alloc, options, flags, words, input, output)
         }
-        Command::Files { flags, folder } => list_files(rt, alloc, options, flags, folder, output),
+        Command::Files { flags, folder } => {
+            list_files(rt, alloc, options, flags, folder, shows_progress, output)
+        }
         Command::CheckAttr { flags, words } => {
             check_attr(rt, alloc, options, flags, words, input, output)
+        }
+        Command::Config { flags, words } => {
+            show_config(rt, alloc, options, flags, words, output)
+        }
+        Command::Status { flags, words } => {
+            show_status(rt, alloc, options, flags, words, shows_progress, output)
         }
     }
 }
@@ -110,7 +103,7 @@ pub(crate) fn without_words<R: Eprint>(rt: &R, refused: ErrorKind) -> u8
 {
     match refused {
         ErrorKind::OutOfMemory => tell_want_of_memory(rt),
-        _ => tell_wrong_words(rt),
+        _ => tell_bad_text(rt),
     }
 }
 
@@ -132,11 +125,19 @@ fn tell_want_of_memory<R: Eprint>(rt: &R) -> u8
     FAULT
 }
 
-/// Tells that the words are wrong, and how the program is used.
-fn tell_wrong_words<R: Eprint>(rt: &R) -> u8
+/// Tells what is wrong with the words.
+fn tell_wrong_words<R: Eprint>(rt: &R, alloc: Global, fault: WordFault<'_>) -> u8
     ensures { result ≡ 129 }
 {
-    tell_usage(rt, "wrong words", USAGE);
+    tell_word_fault(rt, alloc, fault);
+    WRONG_WORDS
+}
+
+/// Tells that a word is no text.
+fn tell_bad_text<R: Eprint>(rt: &R) -> u8
+    ensures { result ≡ 129 }
+{
+    tell_no_text(rt);
     WRONG_WORDS
 }
 
@@ -153,9 +154,4 @@ fn write_text<O: Write>(output: &mut Watched<O>, text: &str) -> Result<u8>
 /// Tells that memory was refused.
 fn tell_no_memory<R: Eprint>(rt: &R) {
     let _ = eprintln!(rt; "fatal: no memory");
-}
-
-/// Tells what is wrong with the words, and how the program is used.
-pub(crate) fn tell_usage<R: Eprint>(rt: &R, wrong: &'static str, usage: &'static str) {
-    let _ = eprint!(rt; "error: {wrong}\n{usage}");
 }

@@ -1,15 +1,14 @@
-//! The index file: which paths it tracks.
+//! The index file, and the file that it shares entries with: which paths they track.
 ghost use Rattle.std.specs.Prelude.{IfOk};
 ghost use Rattle.globtree.specs.Tracked.{IsOfIndex};
 
-use anyhow::{Context, Result, bail};
+use anyhow::{Context, Error, Result, anyhow, bail};
 use git_index::{Index, IndexFault, ObjectFormat};
 use repository_files::{Sight, Unread, open_seen};
 use std::alloc::{AllocError, Global};
 use std::fs;
 use std::io::{ErrorKind, Read};
 use std::rt::Files;
-use tracked_paths::TrackedPaths;
 
 /// The length in bytes above which an index isn't read.
 const MOST_BYTES: u64 = 1 << 30;
@@ -18,45 +17,89 @@ const MOST_BYTES: u64 = 1 << 30;
 #[derive(Drop)]
 pub(crate) struct IndexFile {
     pub(crate) name: String,
+    /// The git folder, where the shared file of a split index is looked for first.
+    pub(crate) git_folder: String,
     pub(crate) format: ObjectFormat,
 }
 
 impl IndexFile {
-    /// The paths that it tracks: none where there is no file.
-    pub(crate) fn tracked<R: Files>(&self, rt: &R, alloc: Global) -> Result<TrackedPaths>
+    /// What it says: nothing where there is no file.
+    pub(crate) fn read<R: Files>(&self, rt: &R, alloc: Global) -> Result<Index>
         ensures { IfOk result IsOfIndex }
     {
-        let Some(bytes) = self.bytes(rt, alloc)? else {
-            return Ok(TrackedPaths::none(alloc));
+        let Some(bytes) = bytes_of(rt, alloc, self.name.as_str())? else {
+            return Ok(Index::empty(alloc));
         };
         match Index::from_bytes(alloc, &bytes, self.format) {
-            Ok(index) => Ok(TrackedPaths::new(index)),
-            Err(IndexFault::Memory) => Err(AllocError.into()),
-            Err(fault) => bail!("{}: {fault}", self.name),
+            Ok(index) => Ok(index),
+            Err(IndexFault::Split) => self.read_split(rt, alloc, &bytes),
+            Err(fault) => Err(self.told(fault)),
         }
     }
 
-    /// Its bytes; `None` where there is no file.
-    fn bytes<R: Files>(&self, rt: &R, alloc: Global) -> Result<Option<Vec<u8>>> {
-        let name = self.name.as_str();
-        let seen = match fs::metadata(rt, name) {
-            Ok(found) => Sight::of(&found),
-            Err(error) if error.kind() == ErrorKind::NotFound => return Ok(None),
-            Err(error) => return Err(error).context(format_args!("'{name}'")),
+    /// What a split index, of these bytes, says together with the shared file that it names.
+    fn read_split<R: Files>(&self, rt: &R, alloc: Global, bytes: &[u8]) -> Result<Index>
+        ensures { IfOk result IsOfIndex }
+    {
+        let hash = match Index::shared_hash(alloc, bytes, self.format) {
+            Ok(Some(hash)) => hash,
+            Ok(None) => return Err(self.told(IndexFault::NotSplit)),
+            Err(fault) => return Err(self.told(fault)),
         };
-        let mut bytes = Vec::new(alloc);
-        match open_seen(rt, name, &seen) {
-            Ok(Some(opened)) => opened
-                .take(MOST_BYTES + 1)
-                .read_to_end(&mut bytes)
-                .context(format_args!("'{name}'"))?,
-            Ok(None) => 0,
-            Err(Unread::System(error)) => return Err(error).context(format_args!("'{name}'")),
-            Err(_unread) => bail!("'{name}' is no file"),
-        };
-        if bytes.len() as u64 > MOST_BYTES {
-            bail!("'{name}' has more than {MOST_BYTES} bytes");
+        let shared = self.shared(rt, alloc, hash)?;
+        match Index::from_split(alloc, bytes, &shared, self.format) {
+            Ok(index) => Ok(index),
+            Err(fault) => Err(self.told(fault)),
         }
-        Ok(Some(bytes))
     }
+
+    /// The bytes of the shared file with this hash: in the git folder, or else beside the index.
+    fn shared<R: Files>(&self, rt: &R, alloc: Global, hash: &[u8]) -> Result<Vec<u8>> {
+        let hash = hex::encode(alloc, hash)?;
+        let beside = match self.name.as_str().rsplit_once('/') {
+            Some((folder, _name)) => folder,
+            None => ".",
+        };
+        for folder in [self.git_folder.as_str(), beside] {
+            let name = format!(in alloc; "{folder}/sharedindex.{hash}")?;
+            if let Some(bytes) = bytes_of(rt, alloc, name.as_str())? {
+                return Ok(bytes);
+            }
+        }
+        bail!(
+            "{}: the shared file 'sharedindex.{hash}' isn't there",
+            self.name
+        )
+    }
+
+    /// A fault that reading it met.
+    fn told(&self, fault: IndexFault) -> Error {
+        match fault {
+            IndexFault::Memory => AllocError.into(),
+            fault => anyhow!("{}: {fault}", self.name),
+        }
+    }
+}
+
+/// The bytes of a file of an index; `None` where there is no such file.
+fn bytes_of<R: Files>(rt: &R, alloc: Global, name: &str) -> Result<Option<Vec<u8>>> {
+    let seen = match fs::metadata(rt, name) {
+        Ok(found) => Sight::of(&found),
+        Err(error) if error.kind() == ErrorKind::NotFound => return Ok(None),
+        Err(error) => return Err(error).context(format_args!("'{name}'")),
+    };
+    let mut bytes = Vec::new(alloc);
+    match open_seen(rt, name, &seen) {
+        Ok(Some(opened)) => opened
+            .take(MOST_BYTES + 1)
+            .read_to_end(&mut bytes)
+            .context(format_args!("'{name}'"))?,
+        Ok(None) => 0,
+        Err(Unread::System(error)) => return Err(error).context(format_args!("'{name}'")),
+        Err(_unread) => bail!("'{name}' is no file"),
+    };
+    if bytes.len() as u64 > MOST_BYTES {
+        bail!("'{name}' has more than {MOST_BYTES} bytes");
+    }
+    Ok(Some(bytes))
 }

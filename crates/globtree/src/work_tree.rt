@@ -41,6 +41,8 @@ pub(crate) struct WorkTree {
     pub(crate) own_excludes: String,
     /// The repository's own file of attributes.
     pub(crate) own_attributes: String,
+    /// The git folder; `None` where no repository is looked for.
+    pub(crate) git_folder: Option<Vec<u8>>,
     /// The index; `None` where no repository is looked for.
     pub(crate) index: Option<IndexFile>,
 }
@@ -69,6 +71,7 @@ fn named_tree<R: Files + Env + AllocGlobal>(rt: &R, alloc: Global, top: &str) ->
         attributes: users_file(rt, alloc, b"attributes")?,
         own_excludes: String::from_str(alloc, ".git/info/exclude")?,
         own_attributes: String::from_str(alloc, ".git/info/attributes")?,
+        git_folder: None,
         index: None,
     })
 }
@@ -108,7 +111,12 @@ fn tree_at(
     let own_excludes = opened.exclude_name.context("there is no work tree")?;
     let own_attributes = told_from(alloc, current, &opened.attributes_file)?;
     let index = told_from(alloc, current, &opened.index_file)?;
-    let format = format_of(&opened.config);
+    let git_folder = told_from(alloc, current, &opened.git_folder)?;
+    let index = IndexFile {
+        name: path_text(alloc, &index)?,
+        git_folder: path_text(alloc, &git_folder)?,
+        format: format_of(&opened.config),
+    };
     Ok(WorkTree {
         standpoint,
         folds: opened.core.ignore_case,
@@ -117,10 +125,8 @@ fn tree_at(
         attributes: opened.core.attributes,
         own_excludes: path_text(alloc, &own_excludes)?,
         own_attributes: path_text(alloc, &own_attributes)?,
-        index: Some(IndexFile {
-            name: path_text(alloc, &index)?,
-            format,
-        }),
+        git_folder: Some(git_folder),
+        index: Some(index),
     })
 }
 

@@ -11,7 +11,7 @@ use Rattle.core_settings.specs.Views as core
 use Rattle.opened_repository.specs.declared.fault.OpenFault.{OpenFault}
 use Rattle.opened_repository.specs.declared.fault.OpenFault.TheVariants.{File, Memory, Told}
 use Rattle.opened_repository.specs.declared.fault.RepositoryFault.{RepositoryFault}
-use Rattle.opened_repository.specs.declared.fault.RepositoryFault.TheVariants.{BareValue, Find, Format, Line, NoWorkTree, Number, Setting, Sources, Value}
+use Rattle.opened_repository.specs.declared.fault.RepositoryFault.TheVariants.{BareValue, Branch, Find, Format, Line, NoWorkTree, Number, RelativeFile, RelativeFolder, RemoteUrl, Setting, Sources, Value}
 
 -- what is wrong, with lists of bytes
 abbrev pub Fault : Type 0
@@ -27,6 +27,10 @@ fault_of (Number value file) = Number value.items (option_map vec_items file)
 fault_of (Value fault) = Value (core.fault_with vec_items fault)
 fault_of (Format fault) = Format (format_fault_with vec_items fault)
 fault_of NoWorkTree = NoWorkTree
+fault_of RemoteUrl = RemoteUrl
+fault_of (Branch reference) = Branch reference.items
+fault_of (RelativeFile path) = RelativeFile path.items
+fault_of (RelativeFolder path) = RelativeFolder path.items
 
 -- a value that isn't there is told as an empty one
 abbrev pub bytes_of : Option (List ℕ) → List ℕ

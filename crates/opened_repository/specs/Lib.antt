@@ -3,6 +3,7 @@ pub mod Answers
 pub mod Faults
 pub mod Heads
 pub mod Opening
+pub mod Places
 pub mod Private
 pub mod Readings
 pub mod Results

@@ -1,27 +1,31 @@
 -- Opening a repository: its stages, in Git's order. The first fault ends it.
-use Rattle.std.specs.Prelude.{ℕ, Bool, true, false, not, ◌&&◌, if◌then◌else◌, List, [], ◌∷◌, Option, Some, None, codes, option_map, Result, Ok, Err}
+use Rattle.std.specs.Prelude.{ℕ, Bool, true, false, not, ◌&&◌, ◌==◌, if◌then◌else◌, List, [], ◌∷◌, length, Option, Some, None, codes, option_map, Result, Ok, Err}
+use Rattle.std.specs.Str.{bytes_eq}
 use Rattle.git_config.specs.Configuration.{Seen, settings_of}
 use Rattle.git_repository.specs.FileTree.{FileTree}
 use Rattle.git_repository.specs.Folders.{file_path, folders_of, work_tree_of}
-use Rattle.git_repository.specs.GitFolders.{real_path_of, told_from}
-use Rattle.git_repository.specs.Naming.{exclude_name}
-use Rattle.git_repository.specs.Search.{Finds}
+use Rattle.git_repository.specs.GitFolders.{is_absolute, real_path_of, told_from}
+use Rattle.git_repository.specs.Naming.{exclude_name, git_name, lies_below}
+use Rattle.git_repository.specs.Search.{Finds, folder_of}
 use Rattle.git_repository.specs.declared.folders.Folders.{Folders}
 use Rattle.git_repository.specs.declared.folders.RepositoryFile.TheVariants as file
 use Rattle.git_repository.specs.declared.found.Found.{Found}
 use Rattle.git_repository.specs.declared.settings.Settings.{Settings}
 use Rattle.core_settings.specs.declared.fault.CoreFault.{CoreFault}
 use Rattle.core_settings.specs.declared.sources.ConfigPlaces.{ConfigPlaces}
+use Rattle.core_settings.specs.declared.sources.ConfigSource.{ConfigSource}
+use Rattle.core_settings.specs.declared.sources.ConfigSource.TheVariants as source
 use Rattle.core_settings.specs.declared.values.CoreSettings.{CoreSettings}
 use Rattle.core_settings.specs.Values.{core_of}
-use Rattle.opened_repository.specs.declared.fault.RepositoryFault.TheVariants.{NoWorkTree, Value}
+use Rattle.opened_repository.specs.declared.fault.RepositoryFault.TheVariants.{NoWorkTree, RelativeFile, RelativeFolder, Value}
 use Rattle.opened_repository.specs.declared.opened.Opened.{Opened}
 use Rattle.opened_repository.specs.declared.trusted.SafeSetting.{SafeSetting}
 use Rattle.opened_repository.specs.declared.trusted.SafeSetting.TheVariants.{BareRepository, Directory}
 use Rattle.opened_repository.specs.Alone.{OwnSettings}
 use Rattle.opened_repository.specs.Answers.{Answer, Asked, Fault, In, is, is', ◌>>=◌}
-use Rattle.opened_repository.specs.Heads.{branch_of}
-use Rattle.opened_repository.specs.Readings.{Files, Known, Reads, listed_by, nothing_known}
+use Rattle.opened_repository.specs.Heads.{head_of}
+use Rattle.opened_repository.specs.declared.head.Head.{Head}
+use Rattle.opened_repository.specs.Readings.{Files, Known, Listed, Reads, listed_by, nothing_known}
 use Rattle.opened_repository.specs.Results.{Said}
 use Rattle.opened_repository.specs.Safe.{bare_refused, paths_of, setting_for}
 
@@ -47,19 +51,62 @@ has_top tree (Some top) = tree.can_enter top
 abbrev pub top_checked : FileTree → Bool → Option (List ℕ) → Result (Unit {0}) Fault
 top_checked tree needs top = if needs && not (has_top tree top) then Err NoWorkTree else Ok tt
 
+-- ---- the folder in which Git works: the top of the work tree, where the current folder lies below it
+
+abbrev pub top_above : List ℕ → Option (List ℕ) → Option (List ℕ)
+top_above current None = None
+top_above current (Some top) = if lies_below top current then Some top else None
+
+abbrev pub work_place : List ℕ → Option (List ℕ) → List ℕ
+work_place current None = current
+work_place current (Some top) = top
+
+-- its path, which `PWD` may tell with links
+abbrev pub stands_for : FileTree → List ℕ → List ℕ → Bool
+stands_for tree place pwd = not (length pwd == 0) && elim (tree.real_path (told_from place pwd)) [ None ↦ false | Some real ↦ bytes_eq real place ]
+
+abbrev pub shown : FileTree → Option (List ℕ) → List ℕ → List ℕ
+shown tree None place = place
+shown tree (Some pwd) place = if stands_for tree place pwd then pwd else place
+
+-- From there Git would tell these: files of configuration by a relative path, and the common folder.
+abbrev pub is_relative : List ℕ → Bool
+is_relative path = not (length path == 0) && not (is_absolute path)
+
+abbrev pub first_relative : List (ConfigSource (List ℕ)) → Option (List ℕ)
+first_relative [] = None
+first_relative (source.File path ∷ sources) = if is_relative path then Some path else first_relative sources
+first_relative (source.Word key value ∷ sources) = first_relative sources
+
+abbrev pub folder_checked : Option (List ℕ) → Result (Unit {0}) Fault
+folder_checked None = Ok tt
+folder_checked (Some path) = if is_relative path then Err (RelativeFolder path) else Ok tt
+
+abbrev pub relatives_checked : List (ConfigSource (List ℕ)) → Option (List ℕ) → Option (List ℕ) → Result (Unit {0}) Fault
+relatives_checked sources common None = Ok tt
+relatives_checked sources common (Some top) = elim (first_relative sources) [ None ↦ folder_checked common | Some path ↦ Err (RelativeFile path) ]
+
 -- a path, where it counts
 abbrev pub path_if : Bool → List ℕ → Option (List ℕ)
 path_if false path = None
 path_if true path = Some path
 
+-- what is known by the paths of the git folder and by `HEAD`
+abbrev pub known_by : List ℕ → List ℕ → Head (List ℕ) → Known
+known_by real path head = record { folders = real ∷ path ∷ []; branch = head.branch; uncertain = head.uncertain }
+
+-- the files outside of the repository
+abbrev pub outer : Said → ConfigPlaces (List ℕ)
+outer said = record said.places { repository = None; work_tree = None; count = None; parameters = None }
+
+abbrev pub outer_listed : Said → Listed
+outer_listed said = listed_by (outer said) [] []
+
 module _ (Shows : Files) (said : Said) where
   -- ---- what is outside of the repository: the files, and with the words what is said of whose repositories may be taken
 
-  abbrev pub outer : ConfigPlaces (List ℕ)
-  outer = record said.places { repository = None; work_tree = None; count = None }
-
   abbrev pub Outer : Answer (List Seen)
-  Outer = Reads Shows said.around nothing_known (listed_by outer [] [])
+  Outer = Reads Shows said.around nothing_known (outer_listed said)
 
   abbrev pub trusted : ConfigPlaces (List ℕ)
   trusted = record said.places { repository = None; work_tree = None }
@@ -110,15 +157,26 @@ module _ (tree : FileTree) (Shows : Files) (said : Said) where
     work_tree = path_if own (file_path said.environment folders file.WorktreeConfig);
   }
 
-  abbrev pub KnownIn : List ℕ → Answer Known
-  KnownIn folder = do
-    real ← In (is' (real_path_of tree folder))
-    is (Ok (record { folders = real ∷ told_from said.current folder ∷ []; branch = branch_of tree folder }))
+  -- how Git tells the git folder in the folder where it works; without a top above, as if the current folder were told as the top
+  abbrev pub GitThere : Found (List ℕ) → Settings (List ℕ) → Option (List ℕ) → Answer (List ℕ)
+  GitThere found own (Some top) = In (is' (git_name tree said.environment own found said.current top))
+  GitThere found own None = In (is' (git_name tree (record said.environment { work_tree = Some said.current }) own found said.current said.current))
 
-  abbrev pub AllRead : Folders (List ℕ) → Bool → Answer (List Seen)
-  AllRead folders own = do
-    known ← KnownIn folders.git_folder
-    Reads Shows said.around known (listed_by (inner folders own) said.pairs said.words)
+  abbrev pub KnownIn : Found (List ℕ) → Settings (List ℕ) → Option (List ℕ) → Folders (List ℕ) → Answer Known
+  KnownIn found own top folders = do
+    real ← In (is' (real_path_of tree folders.git_folder))
+    name ← GitThere found own (top_above said.current top)
+    is (Ok (known_by real (told_from (folder_of (shown tree said.pwd (work_place said.current (top_above said.current top)))) name) (head_of tree folders)))
+
+  abbrev pub AllRead : Found (List ℕ) → Settings (List ℕ) → Option (List ℕ) → Folders (List ℕ) → Answer (List Seen)
+  AllRead found own top folders = do
+    known ← KnownIn found own top folders
+    Reads Shows said.around known (listed_by (inner folders own.has_worktree_config) said.pairs said.words)
+
+  abbrev pub ReadThere : Found (List ℕ) → Settings (List ℕ) → Option (List ℕ) → Folders (List ℕ) → Answer (List Seen)
+  ReadThere found own top folders = do
+    _ ← is (relatives_checked (outer_listed said).sources said.environment.common_dir (top_above said.current top))
+    AllRead found own top folders
 
   -- ---- what comes of them
 
@@ -140,7 +198,7 @@ module _ (tree : FileTree) (Shows : Files) (said : Said) where
   abbrev pub OpensFound : Found (List ℕ) → Folders (List ℕ) → Settings (List ℕ) → Answer (Opened (List ℕ) (List Seen))
   OpensFound found folders own = do
     top ← TopOf found own
-    settings ← AllRead folders own.has_worktree_config
+    settings ← ReadThere found own top folders
     _ ← is (top_checked tree said.needs_work_tree top)
     core ← is (core_told (core_of said.around said.places.config_home settings))
     name ← NameOf found own top

@@ -1,9 +1,10 @@
 -- Words that only private clauses cite.
-use Rattle.std.specs.Prelude.{Option, None, Result, Ok, Err}
+use Rattle.std.specs.Prelude.{Option, None, Result, Ok, Err, option_map}
 use Rattle.opened_repository.specs.Answers.{fault_of}
 use Rattle.opened_repository.specs.Safe.{setting_by}
 use Rattle.opened_repository.specs.declared.fault.OpenFault.{OpenFault}
 use Rattle.opened_repository.specs.declared.fault.OpenFault.TheVariants.{File, Memory, Told}
+use Rattle.opened_repository.specs.declared.head.Head.{Head}
 use Rattle.opened_repository.specs.declared.trusted.SafeSetting.{SafeSetting}
 
 -- the setting that is asked after a call
@@ -12,3 +13,7 @@ setting_asked (Ok found) = None
 setting_asked (Err Memory) = None
 setting_asked (Err (File fault)) = None
 setting_asked (Err (Told fault)) = setting_by (fault_of fault)
+
+-- what `HEAD` tells, with other bytes
+abbrev pub head_with : {A B : Type 0} → (A → B) → Head A → Head B
+head_with see head = record { branch = option_map see head.branch; uncertain = option_map see head.uncertain }

@@ -1,5 +1,6 @@
 -- What is seen of the code's values: the same with lists of bytes.
-use Rattle.std.specs.Prelude.{ℕ, Bool, List, Vec, map, option_map}
+use Rattle.std.specs.Prelude.{ℕ, Bool, List, Option, Vec, map, option_map}
+use Rattle.std.specs.Option.{option_copied}
 use Rattle.std.specs.Vec.{vec_items}
 use Rattle.std.specs.declared.alloc.Global.{Global}
 use Rattle.git_config.specs.declared.config.Config.{Config}
@@ -16,6 +17,7 @@ use Rattle.opened_repository.specs.declared.told.Told.{Told}
 -- what the process was told
 pub record Said : Type 0 where
   pub current : List ℕ
+  pub pwd : Option (List ℕ)
   pub environment : Environment (List ℕ)
   pub places : ConfigPlaces (List ℕ)
   pub pairs : List (Pair (List ℕ))
@@ -26,6 +28,7 @@ pub record Said : Type 0 where
 abbrev pub said_of : Told → Said
 said_of told = record {
   current = told.current.now;
+  pwd = option_copied told.pwd;
   environment = environment_with (λ b. b.now) told.environment;
   places = places_with (λ b. b.now) told.places;
   pairs = map (pair_with (λ b. b.now)) told.pairs.now;

@@ -1,18 +1,31 @@
 //! What the conditions of a configuration are told from.
 ghost use Rattle.std.specs.Prelude.{◌≡◌, map, option_map, IfOk};
 ghost use Rattle.std.specs.Vec.{vec_items};
-ghost use Rattle.opened_repository.specs.Readings.{IsAround, known_of, user_of};
+ghost use Rattle.opened_repository.specs.Readings.{IsAround, all_items, known_of, nothing_known, user_of};
 
 use git_config::{Surroundings, UserFolder};
 use std::alloc::{AllocError, Global};
 
 /// What is known of a repository while its configuration is read.
 #[derive(Debug, Drop)]
-pub(crate) struct KnownRepository {
+pub struct KnownRepository {
     /// The paths of the git folder; none outside a repository.
-    pub(crate) folders: Vec<Vec<u8>>,
+    pub folders: Vec<Vec<u8>>,
     /// The branch that `HEAD` names.
-    pub(crate) branch: Option<Vec<u8>>,
+    pub branch: Option<Vec<u8>>,
+    /// The reference that `HEAD` names, where the branch isn't certain: Git may refuse this reference, or follow it to another.
+    pub uncertain: Option<Vec<u8>>,
+}
+
+/// What is known outside of a repository.
+pub(crate) fn nothing_known(alloc: Global) -> KnownRepository
+    ensures { known_of result ≡ nothing_known }
+{
+    KnownRepository {
+        folders: Vec::new(alloc),
+        branch: None,
+        uncertain: None,
+    }
 }
 
 /// The surroundings of a reading: the user and the installation, and what is known of the repository.
@@ -20,9 +33,9 @@ pub(crate) fn around_of(
     alloc: Global,
     start: &Surroundings,
     known: &KnownRepository,
-    urls: Vec<Vec<u8>>,
+    urls: Option<Vec<Vec<u8>>>,
 ) -> Result<Surroundings, AllocError>
-    ensures { IfOk result (λ around. IsAround start.now (known_of known.now) (map vec_items urls.items) around) }
+    ensures { IfOk result (λ around. IsAround start.now (known_of known.now) (option_map all_items urls) around) }
 {
     Ok(Surroundings {
         home: copy_of(alloc, &start.home)?,

@@ -45,6 +45,14 @@ pub enum RepositoryFault<S, B> {
     Format(FormatFault<B>),
     /// There is no work tree, and the command needs one.
     NoWorkTree,
+    /// The URL of a remote stands in a file that is included under a condition, while a condition asks for the URLs.
+    RemoteUrl,
+    /// A condition asks for the branch, but Git may refuse this reference that `HEAD` names, or follow it to another: this isn't read.
+    Branch(B),
+    /// This file of configuration is told by a relative path, and Git works in another folder than the current one: this isn't read.
+    RelativeFile(B),
+    /// `GIT_COMMON_DIR` is this relative path, and Git works in another folder than the current one: this isn't read.
+    RelativeFolder(B),
 }
 
 /// Why a repository can't be opened. `F` is the fault of the source of its files.

@@ -1,31 +1,112 @@
-//! The branch that `HEAD` names.
-ghost use Rattle.std.specs.Prelude.{◌≡◌, ◌-◌, ◌^◌, ◌≤◌, ◌++◌, length, option_and_then, option_map, take, codes, IfOk};
-ghost use Rattle.std.specs.List.{prefix_len, suffix_len};
-ghost use Rattle.std.specs.Option.{option_copied};
+//! The branch that `HEAD` names, and whether this is certain.
+ghost use Rattle.std.specs.Prelude.{◌≡◌, ◌^◌, ◌++◌, Some, option_and_then, option_map, take, codes, IfOk};
 ghost use Rattle.std.specs.Vec.{vec_items};
-ghost use Rattle.git_repository.specs.GitFolders.{is_blank};
-ghost use Rattle.opened_repository.specs.Heads.{branch_named, branch_of, reference_at, reference_of, without_blanks, without_end};
+ghost use Rattle.git_repository.specs.Folders.{folders_with};
+ghost use Rattle.opened_repository.specs.Heads.{branch_named, head_of, is_uncertain, leads_on, naming, reference_at, reference_of};
+ghost use Rattle.opened_repository.specs.Private.{head_with};
 
-use git_repository::FileSystem;
+use crate::reference::{is_commit, may_be_refused};
+use core_settings::without_blanks;
+use git_repository::{FileSystem, Folders};
 use std::alloc::{AllocError, Global};
 
 /// So many bytes of `HEAD` are looked at.
 const HEAD_LIMIT: usize = 1 << 20;
 
-/// The branch that `HEAD` of a git folder names.
-pub(crate) fn branch_of<S: FileSystem>(
+/// So many bytes of the file of a reference are looked at: the digits of a commit, and one behind.
+const COMMIT_LIMIT: usize = 65;
+
+/// What `HEAD` tells. `B` holds bytes.
+#[derive(Drop)]
+pub(crate) struct Head<B> {
+    /// The branch that it names: what follows `refs/heads/`.
+    pub(crate) branch: Option<B>,
+    /// The reference that it names, where Git may refuse this, or may follow it to another one.
+    pub(crate) uncertain: Option<B>,
+}
+
+/// What `HEAD` of a repository with these folders tells.
+pub(crate) fn head_of<S: FileSystem>(
+    alloc: Global,
+    source: &S,
+    folders: &Folders<Vec<u8>>,
+) -> Result<Head<Vec<u8>>, AllocError>
+    ensures { IfOk result (λ head. S.is_known source.now → head_with vec_items head ≡ head_of (S.tree source.now) (folders_with vec_items folders.now)) }
+{
+    let mut path = Vec::from_slice(alloc, &folders.git_folder)?;
+    path.extend_from_slice(b"/HEAD")?;
+    match reference_at(alloc, source, &path)? {
+        Some(reference) => naming(alloc, source, folders, reference),
+        None => Ok(Head {
+            branch: None,
+            uncertain: None,
+        }),
+    }
+}
+
+/// What a `HEAD` tells that names a reference.
+fn naming<S: FileSystem>(
+    alloc: Global,
+    source: &S,
+    folders: &Folders<Vec<u8>>,
+    reference: Vec<u8>,
+) -> Result<Head<Vec<u8>>, AllocError>
+    ensures { IfOk result (λ head. S.is_known source.now → head_with vec_items head ≡ naming (S.tree source.now) (folders_with vec_items folders.now) (Some reference.items)) }
+{
+    let branch = branch_named(alloc, &reference)?;
+    let uncertain = if is_uncertain(alloc, source, folders, &reference)? {
+        Some(reference)
+    } else {
+        None
+    };
+    Ok(Head { branch, uncertain })
+}
+
+/// Whether Git may refuse a reference, or may follow it.
+fn is_uncertain<S: FileSystem>(
+    alloc: Global,
+    source: &S,
+    folders: &Folders<Vec<u8>>,
+    reference: &[u8],
+) -> Result<bool, AllocError>
+    ensures { IfOk result (λ so. S.is_known source.now → so ≡ is_uncertain (S.tree source.now) (folders_with vec_items folders.now) reference.now) }
+{
+    if may_be_refused(reference) {
+        return Ok(true);
+    }
+    if leads_on(alloc, source, &folders.common_folder, reference)? {
+        return Ok(true);
+    }
+    leads_on(alloc, source, &folders.git_folder, reference)
+}
+
+/// Whether the file of a reference in this folder is a link, or holds something else than a commit.
+fn leads_on<S: FileSystem>(
     alloc: Global,
     source: &S,
     folder: &[u8],
-) -> Result<Option<Vec<u8>>, AllocError>
-    ensures { IfOk result (λ branch. S.is_known source.now → option_map vec_items branch ≡ branch_of (S.tree source.now) folder.now) }
+    reference: &[u8],
+) -> Result<bool, AllocError>
+    ensures { IfOk result (λ so. S.is_known source.now → so ≡ leads_on (S.tree source.now) folder.now reference.now) }
+{
+    let path = told_below(alloc, folder, reference)?;
+    if source.link(&path)?.is_some() {
+        return Ok(true);
+    }
+    match source.bytes(&path, COMMIT_LIMIT)? {
+        Some(text) => Ok(!is_commit(&text)),
+        None => Ok(false),
+    }
+}
+
+/// The path of a file below a folder.
+fn told_below(alloc: Global, folder: &[u8], name: &[u8]) -> Result<Vec<u8>, AllocError>
+    ensures { IfOk result (λ path. path.items ≡ folder.now ++ (codes "/" ++ name.now)) }
 {
     let mut path = Vec::from_slice(alloc, folder)?;
-    path.extend_from_slice(b"/HEAD")?;
-    match reference_at(alloc, source, &path)? {
-        Some(reference) => branch_named(alloc, &reference),
-        None => Ok(None),
-    }
+    path.push(b'/')?;
+    path.extend_from_slice(name)?;
+    Ok(path)
 }
 
 /// The reference that the file or link at a path names.
@@ -74,55 +155,4 @@ fn branch_named(alloc: Global, reference: &[u8]) -> Result<Option<Vec<u8>>, Allo
         Some(name) => Ok(Some(Vec::from_slice(alloc, name)?)),
         None => Ok(None),
     }
-}
-
-/// A text without the blanks in front and at its end.
-fn without_blanks(text: &[u8]) -> &[u8]
-    ensures { result.now ≡ without_blanks text.now }
-{
-    without_end(&text[blank_len(text)..])
-}
-
-/// A text without the blanks at its end.
-fn without_end(text: &[u8]) -> &[u8]
-    ensures { result.now ≡ without_end text.now }
-{
-    &text[..text_end(text)]
-}
-
-/// How many blanks stand in front of a text.
-fn blank_len(text: &[u8]) -> usize
-    ensures value { result ≡ prefix_len is_blank text.now }
-    ensures within { result ≤ length text.now }
-{
-    let mut end = 0;
-    'bytes: while end < text.len() {
-        if !is_blank(text[end]) {
-            return end;
-        }
-        end += 1;
-    }
-    end
-}
-
-/// Where the blanks at the end of a text begin.
-fn text_end(text: &[u8]) -> usize
-    ensures value { result ≡ length text.now - suffix_len is_blank text.now }
-    ensures within { result ≤ length text.now }
-{
-    let mut end = text.len();
-    'bytes: while end > 0 {
-        if !is_blank(text[end - 1]) {
-            return end;
-        }
-        end -= 1;
-    }
-    end
-}
-
-/// Whether a byte is a blank.
-fn is_blank(byte: u8) -> bool
-    ensures { result ≡ is_blank byte }
-{
-    byte == b' ' || byte == b'\t' || byte == b'\n' || byte == b'\r'
 }

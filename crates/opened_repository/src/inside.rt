@@ -3,41 +3,66 @@ ghost use Rattle.std.specs.Prelude.{◌≡◌, ◌++◌, option_map, IfOk};
 ghost use Rattle.std.specs.Option.{option_copied};
 ghost use Rattle.std.specs.Vec.{vec_items};
 ghost use Rattle.core_settings.specs.Views.{seen_settings};
-ghost use Rattle.git_repository.specs.Answers.{Gives};
-ghost use Rattle.git_repository.specs.Folders.{folders_with};
+ghost use Rattle.git_repository.specs.Answers.{Gives, found_with};
+ghost use Rattle.git_repository.specs.Folders.{folders_with, settings_with};
 ghost use Rattle.git_repository.specs.GitFolders.{real_path_of, told_from};
 ghost use Rattle.opened_repository.specs.Answers.{Tells};
-ghost use Rattle.opened_repository.specs.Opening.{AllRead, KnownIn, path_if};
+ghost use Rattle.opened_repository.specs.Private.{head_with};
+ghost use Rattle.opened_repository.specs.Opening.{AllRead, GitThere, KnownIn, ReadThere, known_by, path_if};
 ghost use Rattle.opened_repository.specs.Readings.{known_of};
 ghost use Rattle.opened_repository.specs.Results.{said_of};
 
 use crate::around::KnownRepository;
 use crate::fault::OpenFault;
-use crate::head::branch_of;
+use crate::head::{Head, head_of};
+use crate::own::lent;
 use crate::reading::read;
+use crate::there::{check_relatives, folder_of, shown, top_above, work_place};
 use crate::told::Told;
 use core_settings::ConfigPlaces;
 use git_config::{Config, ConfigFiles};
-use git_repository::{FileSystem, FindFault, Folders, RepositoryFile, Wrong, file_path};
+use git_repository::{
+    Environment, FileSystem, FindFault, Folders, Found, RepositoryFile, Settings, Wrong, file_path,
+    git_name,
+};
 use std::alloc::{AllocError, Global};
 
-/// The entries of all files and words.
-pub(crate) fn read_all<S: FileSystem + ConfigFiles>(
+/// The entries of all files and words, of a repository with these folders and this top. None of the paths that tell them is relative where
+/// Git works in another folder than the current one.
+pub(crate) fn read_there<S: FileSystem + ConfigFiles>(
     alloc: Global,
     source: &S,
     told: &Told<'_>,
+    found: &Found<Vec<u8>>,
+    own: &Settings<Vec<u8>>,
+    top: &Option<Vec<u8>>,
     folders: &Folders<Vec<u8>>,
-    own: bool,
 ) -> Result<Config, OpenFault<S::Fault>>
-    ensures { Tells (S.is_known source.now) seen_settings result (AllRead (S.tree source.now) (S.shows source.now) (said_of told.now) (folders_with vec_items folders.now) own) }
+    ensures { Tells (S.is_known source.now) seen_settings result (ReadThere (S.tree source.now) (S.shows source.now) (said_of told.now) (found_with vec_items found.now) (settings_with vec_items own.now) (option_map vec_items top.now) (folders_with vec_items folders.now)) }
 {
-    let known = known_in(alloc, source, told, &folders.git_folder)?;
+    check_relatives(alloc, told, top)?;
+    read_all(alloc, source, told, found, own, top, folders)
+}
+
+/// The same, wherever Git works.
+fn read_all<S: FileSystem + ConfigFiles>(
+    alloc: Global,
+    source: &S,
+    told: &Told<'_>,
+    found: &Found<Vec<u8>>,
+    own: &Settings<Vec<u8>>,
+    top: &Option<Vec<u8>>,
+    folders: &Folders<Vec<u8>>,
+) -> Result<Config, OpenFault<S::Fault>>
+    ensures { Tells (S.is_known source.now) seen_settings result (AllRead (S.tree source.now) (S.shows source.now) (said_of told.now) (found_with vec_items found.now) (settings_with vec_items own.now) (option_map vec_items top.now) (folders_with vec_items folders.now)) }
+{
+    let known = known_in(alloc, source, told, found, own, top, folders)?;
     let environment = &told.environment;
     let config = file_path(alloc, environment, folders, RepositoryFile::Config)?;
     let worktree = file_path(alloc, environment, folders, RepositoryFile::WorktreeConfig)?;
     let places = ConfigPlaces {
         repository: Some(config.as_slice()),
-        work_tree: path_if(own, &worktree),
+        work_tree: path_if(own.has_worktree_config, &worktree),
         ..told.places
     };
     read(
@@ -58,21 +83,79 @@ fn path_if(counts: bool, path: &[u8]) -> Option<&[u8]>
     if counts { Some(path) } else { None }
 }
 
-/// What is known of the repository with a git folder.
-fn known_in<S: FileSystem + ConfigFiles>(
+/// What is known of a repository with these folders and this top.
+pub(crate) fn known_in<S: FileSystem + ConfigFiles>(
     alloc: Global,
     source: &S,
     told: &Told<'_>,
-    folder: &[u8],
+    found: &Found<Vec<u8>>,
+    own: &Settings<Vec<u8>>,
+    top: &Option<Vec<u8>>,
+    folders: &Folders<Vec<u8>>,
 ) -> Result<KnownRepository, OpenFault<S::Fault>>
-    ensures { Tells (S.is_known source.now) known_of result (KnownIn (S.tree source.now) (S.shows source.now) (said_of told.now) folder.now) }
+    ensures { Tells (S.is_known source.now) known_of result (KnownIn (S.tree source.now) (S.shows source.now) (said_of told.now) (found_with vec_items found.now) (settings_with vec_items own.now) (option_map vec_items top.now) (folders_with vec_items folders.now)) }
 {
-    let real = real_path_of(alloc, source, folder)?;
+    let real = real_path_of(alloc, source, &folders.git_folder)?;
+    let above = top_above(alloc, told.current, top)?;
+    let name = git_there(alloc, source, told, found, own, &above)?;
+    let place = shown(alloc, source, told.pwd, work_place(told.current, &above))?;
+    let path = told_from(alloc, folder_of(place), &name)?;
+    let head = head_of(alloc, source, folders)?;
+    Ok(known_by(alloc, real, path, head)?)
+}
+
+/// What is known by the paths of the git folder and by `HEAD`.
+fn known_by(
+    alloc: Global,
+    real: Vec<u8>,
+    path: Vec<u8>,
+    head: Head<Vec<u8>>,
+) -> Result<KnownRepository, AllocError>
+    ensures { IfOk result (λ known. known_of known ≡ known_by real.items path.items (head_with vec_items head)) }
+{
     let mut folders = Vec::new(alloc);
     folders.push(real)?;
-    folders.push(told_from(alloc, told.current, folder)?)?;
-    let branch = branch_of(alloc, source, folder)?;
-    Ok(KnownRepository { folders, branch })
+    folders.push(path)?;
+    Ok(KnownRepository {
+        folders,
+        branch: head.branch,
+        uncertain: head.uncertain,
+    })
+}
+
+/// How Git tells the git folder in the folder in which it works; `top` is the top above the current folder.
+fn git_there<S: FileSystem + ConfigFiles>(
+    alloc: Global,
+    source: &S,
+    told: &Told<'_>,
+    found: &Found<Vec<u8>>,
+    own: &Settings<Vec<u8>>,
+    top: &Option<Vec<u8>>,
+) -> Result<Vec<u8>, OpenFault<S::Fault>>
+    ensures { Tells (S.is_known source.now) vec_items result (GitThere (S.tree source.now) (S.shows source.now) (said_of told.now) (found_with vec_items found.now) (settings_with vec_items own.now) (option_map vec_items top.now)) }
+{
+    let current = told.current;
+    match top {
+        Some(top) => {
+            let environment = &told.environment;
+            Ok(git_name(alloc, source, environment, &lent(own), found, current, top)?)
+        }
+        None => {
+            let environment = Environment {
+                work_tree: Some(current),
+                ..told.environment
+            };
+            Ok(git_name(
+                alloc,
+                source,
+                &environment,
+                &lent(own),
+                found,
+                current,
+                current,
+            )?)
+        }
+    }
 }
 
 /// A path from the root, without links.

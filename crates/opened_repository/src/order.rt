@@ -12,7 +12,7 @@ ghost use Rattle.opened_repository.specs.Opening.{FoldersOf, NameFrom, NameOf, O
 ghost use Rattle.opened_repository.specs.Results.{opened_of, said_of};
 
 use crate::fault::{OpenFault, RepositoryFault};
-use crate::inside::{read_all, told_from};
+use crate::inside::{read_there, told_from};
 use crate::opened::Opened;
 use crate::own::{lent, read_own};
 use crate::told::Told;
@@ -57,7 +57,7 @@ fn open_found<S: FileSystem + ConfigFiles>(
     ensures { Tells (S.is_known source.now) opened_of result (OpensFound (S.tree source.now) (S.shows source.now) (said_of told.now) (found_with vec_items found) (folders_with vec_items folders) (settings_with vec_items own.now)) }
 {
     let top = work_tree(alloc, source, told, own, &found)?;
-    let config = read_all(alloc, source, told, &folders, own.has_worktree_config)?;
+    let config = read_there(alloc, source, told, &found, own, &top, &folders)?;
     check_top(source, told.needs_work_tree, &top)?;
     let core = core(alloc, told, &config)?;
     let exclude_name = name_of(alloc, source, told, &found, own, &top)?;
@@ -79,7 +79,7 @@ fn open_found<S: FileSystem + ConfigFiles>(
 }
 
 /// The folders of the repository that was found.
-fn folders<S: FileSystem + ConfigFiles>(
+pub(crate) fn folders<S: FileSystem + ConfigFiles>(
     alloc: Global,
     source: &S,
     told: &Told<'_>,
@@ -102,7 +102,7 @@ fn core<F>(
 }
 
 /// The top of the work tree.
-fn work_tree<S: FileSystem + ConfigFiles>(
+pub(crate) fn work_tree<S: FileSystem + ConfigFiles>(
     alloc: Global,
     source: &S,
     told: &Told<'_>,
@@ -156,7 +156,7 @@ fn name_of<S: FileSystem + ConfigFiles>(
 }
 
 /// How Git names the file `info/exclude` from the top of a work tree.
-fn name_from<S: FileSystem + ConfigFiles>(
+pub(crate) fn name_from<S: FileSystem + ConfigFiles>(
     alloc: Global,
     source: &S,
     told: &Told<'_>,

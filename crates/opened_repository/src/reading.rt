@@ -1,13 +1,13 @@
 //! The reading of a configuration's files and words.
-ghost use Rattle.std.specs.Prelude.{[], map, Ok};
-ghost use Rattle.std.specs.Vec.{vec_items};
+ghost use Rattle.std.specs.Prelude.{[], Some, codes, map, option_map};
 ghost use Rattle.core_settings.specs.Views.{pair_with, places_with, seen_settings, seen_sources};
 ghost use Rattle.opened_repository.specs.Answers.{Tells};
-ghost use Rattle.opened_repository.specs.Readings.{Reads, ReadsWith, known_of, listed_by, listed_of, urls_of};
+ghost use Rattle.opened_repository.specs.Readings.{Reads, ReadsAsked, ReadsUrls, ReadsWith, all_items, asks, known_of, listed_by, listed_of, nothing_known};
 
-use crate::around::{KnownRepository, around_of};
+use crate::around::{KnownRepository, around_of, nothing_known};
+use crate::asked::{asks, check_branch};
 use crate::fault::{OpenFault, RepositoryFault};
-use crate::urls::urls_of;
+use crate::urls::{check_urls, urls_of};
 use core_settings::{ConfigPlaces, ConfigSources, Pair, config_sources};
 use git_config::{Config, ConfigFiles, Surroundings};
 use std::alloc::Global;
@@ -28,7 +28,7 @@ pub(crate) fn read<F: ConfigFiles>(
     read_listed(alloc, files, start, known, listed)
 }
 
-/// The entries of what is listed. The URLs that a condition asks for stand in any file, so there may be two readings.
+/// The entries of what is listed.
 fn read_listed<F: ConfigFiles>(
     alloc: Global,
     files: &F,
@@ -38,19 +38,18 @@ fn read_listed<F: ConfigFiles>(
 ) -> Result<Config, OpenFault<F::Fault>>
     ensures { Tells (Unit {0}) seen_settings result (Reads (F.shows files.now) start.now (known_of known.now) (listed_of listed)) }
 {
-    let first = read_with(alloc, files, start, known, &listed, Vec::new(alloc))?;
+    let first = read_without(alloc, files, start, known, &listed)?;
     let ConfigSources { list, fault } = listed;
-    match fault {
-        Some(fault) => Err(OpenFault::Told(RepositoryFault::Sources(fault))),
-        None => {
-            let listed = ConfigSources { list, fault: None };
-            read_again(alloc, files, start, known, &listed, first)
-        }
+    if let Some(fault) = fault {
+        return Err(OpenFault::Told(RepositoryFault::Sources(fault)));
     }
+    check_branch(alloc, known, &first)?;
+    let listed = ConfigSources { list, fault: None };
+    read_urls(alloc, files, start, known, &listed, first)
 }
 
-/// The entries of sources, of which the first reading told these. Without URLs the second would tell the same.
-fn read_again<F: ConfigFiles>(
+/// The entries of sources, of which the first reading told these. Where a condition asks for URLs, they are looked for before.
+fn read_urls<F: ConfigFiles>(
     alloc: Global,
     files: &F,
     start: &Surroundings,
@@ -58,14 +57,54 @@ fn read_again<F: ConfigFiles>(
     listed: &ConfigSources,
     first: Config,
 ) -> Result<Config, OpenFault<F::Fault>>
-    ensures { ReadsWith (F.shows files.now) start.now (known_of known.now) (seen_sources listed.now.list) [] (Ok (seen_settings first))
-        → Tells (Unit {0}) seen_settings result (ReadsWith (F.shows files.now) start.now (known_of known.now) (seen_sources listed.now.list) (urls_of (seen_settings first))) }
+    ensures { Tells (Unit {0}) seen_settings result (ReadsUrls (F.shows files.now) start.now (known_of known.now) (seen_sources listed.now.list) (asks (codes "includeif.hasconfig:remote.*.url:") (seen_settings first)) (seen_settings first)) }
 {
-    let urls = urls_of(alloc, &first)?;
-    if urls.is_empty() {
+    if !asks(alloc, &first, b"includeif.hasconfig:remote.*.url:")? {
         return Ok(first);
     }
-    read_with(alloc, files, start, known, listed, urls)
+    read_asked(alloc, files, start, known, listed)
+}
+
+/// The entries of sources, where a condition asks for URLs, which may stand in any file.
+fn read_asked<F: ConfigFiles>(
+    alloc: Global,
+    files: &F,
+    start: &Surroundings,
+    known: &KnownRepository,
+    listed: &ConfigSources,
+) -> Result<Config, OpenFault<F::Fault>>
+    ensures { Tells (Unit {0}) seen_settings result (ReadsAsked (F.shows files.now) start.now (known_of known.now) (seen_sources listed.now.list)) }
+{
+    let looked = read_with(alloc, files, start, known, listed, None)?;
+    let free = read_free(alloc, files, start, listed)?;
+    check_urls(alloc, &looked, &free)?;
+    let urls = urls_of(alloc, &free)?;
+    read_with(alloc, files, start, known, listed, Some(urls))
+}
+
+/// The entries of sources, where no condition holds.
+fn read_free<F: ConfigFiles>(
+    alloc: Global,
+    files: &F,
+    start: &Surroundings,
+    listed: &ConfigSources,
+) -> Result<Config, OpenFault<F::Fault>>
+    ensures { Tells (Unit {0}) seen_settings result (ReadsWith (F.shows files.now) start.now nothing_known (seen_sources listed.now.list) (Some [])) }
+{
+    read_without(alloc, files, start, &nothing_known(alloc), listed)
+}
+
+/// The entries of sources, where no remote has a URL.
+fn read_without<F: ConfigFiles>(
+    alloc: Global,
+    files: &F,
+    start: &Surroundings,
+    known: &KnownRepository,
+    listed: &ConfigSources,
+) -> Result<Config, OpenFault<F::Fault>>
+    ensures { Tells (Unit {0}) seen_settings result (ReadsWith (F.shows files.now) start.now (known_of known.now) (seen_sources listed.now.list) (Some [])) }
+{
+    read_with(alloc, files, start, known, listed, Some(Vec::new(alloc)))
 }
 
 /// The entries of sources, where remotes have these URLs.
@@ -75,9 +114,9 @@ fn read_with<F: ConfigFiles>(
     start: &Surroundings,
     known: &KnownRepository,
     listed: &ConfigSources,
-    urls: Vec<Vec<u8>>,
+    urls: Option<Vec<Vec<u8>>>,
 ) -> Result<Config, OpenFault<F::Fault>>
-    ensures { Tells (Unit {0}) seen_settings result (ReadsWith (F.shows files.now) start.now (known_of known.now) (seen_sources listed.now.list) (map vec_items urls.items)) }
+    ensures { Tells (Unit {0}) seen_settings result (ReadsWith (F.shows files.now) start.now (known_of known.now) (seen_sources listed.now.list) (option_map all_items urls)) }
 {
     let around = around_of(alloc, start, known, urls)?;
     let sources = listed.as_sources(alloc)?;

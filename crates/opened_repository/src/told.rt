@@ -9,6 +9,8 @@ use git_repository::Environment;
 pub struct Told<'a> {
     /// The current folder, from the root, without links and without a slash at its end.
     pub current: &'a [u8],
+    /// `PWD`, which counts where it leads to the folder in which Git works.
+    pub pwd: Option<&'a [u8]>,
     /// The variables that say where a repository is.
     pub environment: Environment<&'a [u8]>,
     /// The variables and files that configuration is read from. `repository` and `work_tree` are passed over: they are found.

@@ -1,24 +1,23 @@
 //! The search for a repository that may be taken.
-ghost use Rattle.std.specs.Prelude.{◌≡◌, [], false, true, map};
+ghost use Rattle.std.specs.Prelude.{◌≡◌, IfOk, [], false, true, map};
 ghost use Rattle.std.specs.Vec.{vec_items};
-ghost use Rattle.core_settings.specs.Views.{seen_settings};
+ghost use Rattle.core_settings.specs.Views.{places_with, seen_settings, source_with};
 ghost use Rattle.git_repository.specs.Answers.{found_with};
 ghost use Rattle.opened_repository.specs.Answers.{Tells, fault_of};
-ghost use Rattle.opened_repository.specs.Opening.{BareAsked, FindsBy, FindsOurs, FindsTrusted, Outer, OwnerAsked, Trusted};
-ghost use Rattle.opened_repository.specs.Readings.{known_of, nothing_known};
+ghost use Rattle.opened_repository.specs.Opening.{BareAsked, FindsBy, FindsOurs, FindsTrusted, Outer, OwnerAsked, Trusted, outer, outer_listed};
 ghost use Rattle.opened_repository.specs.Private.{setting_asked};
 ghost use Rattle.opened_repository.specs.Results.{said_of};
 ghost use Rattle.opened_repository.specs.Safe.{setting_by, setting_of};
 
-use crate::around::KnownRepository;
+use crate::around::nothing_known;
 use crate::fault::{OpenFault, RepositoryFault};
 use crate::reading::read;
 use crate::safe::{is_bare_refused, safe_directories};
 use crate::told::Told;
-use core_settings::ConfigPlaces;
+use core_settings::{ConfigPlaces, ConfigSource, config_sources};
 use git_config::{Config, ConfigFiles};
 use git_repository::{FileSystem, FindFault, Found, Safety, Wrong, find};
-use std::alloc::Global;
+use std::alloc::{AllocError, Global};
 use std::rc::Rc;
 
 /// The entries of the files outside of a repository.
@@ -29,12 +28,7 @@ pub(crate) fn read_outer<F: ConfigFiles>(
 ) -> Result<Config, OpenFault<F::Fault>>
     ensures { Tells (Unit {0}) seen_settings result (Outer (F.shows files.now) (said_of told.now)) }
 {
-    let places = ConfigPlaces {
-        repository: None,
-        work_tree: None,
-        count: None,
-        ..told.places
-    };
+    let places = outer(told);
     read(
         alloc,
         files,
@@ -44,6 +38,30 @@ pub(crate) fn read_outer<F: ConfigFiles>(
         &[],
         &[],
     )
+}
+
+/// The places of the files outside of a repository.
+fn outer<'a>(told: &Told<'a>) -> ConfigPlaces<&'a [u8]>
+    ensures { places_with (λ b. b.now) result ≡ outer (said_of told.now) }
+{
+    ConfigPlaces {
+        repository: None,
+        work_tree: None,
+        count: None,
+        parameters: None,
+        ..told.places
+    }
+}
+
+/// The files outside of a repository.
+pub(crate) fn outer_sources(
+    alloc: Global,
+    told: &Told<'_>,
+) -> Result<Vec<ConfigSource<Vec<u8>>>, AllocError>
+    ensures { IfOk result (λ sources. map (source_with vec_items) sources.items ≡ (outer_listed (said_of told.now)).sources) }
+{
+    let listed = config_sources(alloc, &outer(told), &[], &[])?;
+    Ok(listed.list)
 }
 
 /// The entries of the files outside of a repository and of the words, which say whose repositories may be taken.
@@ -69,16 +87,6 @@ fn read_trusted<F: ConfigFiles>(
         told.pairs,
         told.words,
     )
-}
-
-/// What is known outside of a repository.
-fn nothing_known(alloc: Global) -> KnownRepository
-    ensures { known_of result ≡ nothing_known }
-{
-    KnownRepository {
-        folders: Vec::new(alloc),
-        branch: None,
-    }
 }
 
 /// The repository that is found where these folders are safe.
@@ -188,7 +196,11 @@ fn setting_by(fault: &RepositoryFault<Rc<Vec<u8>>, Vec<u8>>) -> Option<SafeSetti
         | RepositoryFault::Number { .. }
         | RepositoryFault::Value(_)
         | RepositoryFault::Format(_)
-        | RepositoryFault::NoWorkTree => None,
+        | RepositoryFault::NoWorkTree
+        | RepositoryFault::RemoteUrl
+        | RepositoryFault::Branch(_)
+        | RepositoryFault::RelativeFile(_)
+        | RepositoryFault::RelativeFolder(_) => None,
     }
 }
 

@@ -4,8 +4,10 @@ ghost use Rattle.std.specs.Option.{option_copied};
 ghost use Rattle.std.specs.Vec.{vec_items};
 ghost use Rattle.git_config.specs.Configuration.{seen_setting};
 ghost use Rattle.core_settings.specs.Views.{seen_settings};
-ghost use Rattle.opened_repository.specs.Readings.{is_url, url_of, urls_of};
+ghost use Rattle.opened_repository.specs.Answers.{Tells, is};
+ghost use Rattle.opened_repository.specs.Readings.{is_url, url_of, urls_checked, urls_of};
 
+use crate::fault::{OpenFault, RepositoryFault};
 use core_settings::key_of;
 use git_config::{Config, ReadSetting};
 use std::alloc::{AllocError, Global};
@@ -25,7 +27,22 @@ pub(crate) fn urls_of(alloc: Global, config: &Config) -> Result<Vec<Vec<u8>>, Al
     Ok(urls)
 }
 
-/// The URL that an entry tells.
+/// Refuses a URL in a file that is included under a condition. `looked` are the entries where each condition holds that asks for one, and
+/// `free` those where no condition holds.
+pub(crate) fn check_urls<F>(
+    alloc: Global,
+    looked: &Config,
+    free: &Config,
+) -> Result<(), OpenFault<F>>
+    ensures { Tells (Unit {0}) (λ done. done) result (is (urls_checked (seen_settings looked.now) (seen_settings free.now))) }
+{
+    if urls_of(alloc, looked)?.len() != urls_of(alloc, free)?.len() {
+        return Err(OpenFault::Told(RepositoryFault::RemoteUrl));
+    }
+    Ok(())
+}
+
+/// The URL that an entry tells; an empty one where it has no value.
 fn url_of(alloc: Global, setting: &ReadSetting) -> Result<Option<Vec<u8>>, AllocError>
     ensures { IfOk result (λ url. option_map vec_items url ≡ url_of (seen_setting setting.now)) }
 {
@@ -35,7 +52,7 @@ fn url_of(alloc: Global, setting: &ReadSetting) -> Result<Option<Vec<u8>>, Alloc
     }
     match &setting.entry.value {
         Some(url) => Ok(Some(Vec::from_slice(alloc, url)?)),
-        None => Ok(None),
+        None => Ok(Some(Vec::new(alloc))),
     }
 }
 

@@ -22,6 +22,25 @@ impl fmt::Display for RepositoryFault<Rc<Vec<u8>>, Vec<u8>> {
             RepositoryFault::NoWorkTree => {
                 write!(f, "this operation must be run in a work tree")
             }
+            RepositoryFault::RemoteUrl => write!(
+                f,
+                "remote URLs cannot be configured in file directly or indirectly included by includeIf.hasconfig:remote.*.url"
+            ),
+            RepositoryFault::Branch(reference) => write_branch(f, reference),
+            RepositoryFault::RelativeFile(path) => {
+                let path = BStr::new(path);
+                write!(
+                    f,
+                    "'{path}' is a relative path of a file of configuration, which isn't followed to the top of the work tree"
+                )
+            }
+            RepositoryFault::RelativeFolder(path) => {
+                let path = BStr::new(path);
+                write!(
+                    f,
+                    "GIT_COMMON_DIR is a relative path, '{path}', which isn't followed to the top of the work tree"
+                )
+            }
         }
     }
 }
@@ -109,6 +128,15 @@ fn write_number<W: fmt::Write>(
     write!(
         f,
         "bad numeric config value '{value}' for 'core.repositoryformatversion' in file {file}: invalid unit"
+    )
+}
+
+/// Tells of the reference that `HEAD` names.
+fn write_branch<W: fmt::Write>(f: &mut fmt::Formatter<W>, reference: &[u8]) -> fmt::Result {
+    let reference = BStr::new(reference);
+    write!(
+        f,
+        "HEAD names '{reference}', which isn't followed: no condition 'onbranch' can be answered"
     )
 }
 

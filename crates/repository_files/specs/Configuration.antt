@@ -9,6 +9,7 @@ use Rattle.core_settings.specs.declared.sources.Pair.{Pair}
 use Rattle.core_settings.specs.Sources.{pair_count}
 use Rattle.repository_files.specs.declared.configuration.ConfigurationPair.{ConfigurationPair}
 use Rattle.repository_files.specs.declared.configuration.ConfigurationVariables.{ConfigurationVariables}
+use Rattle.repository_files.specs.Users.{seen_user, users_told}
 
 -- where configuration may lie outside a repository
 abbrev pub places_of : ConfigurationVariables → ConfigPlaces (List ℕ)
@@ -22,6 +23,7 @@ places_of words = record {
   repository = None;
   work_tree = None;
   count = option_map vec_items words.count;
+  parameters = option_map vec_items words.parameters;
 }
 
 abbrev pub pair_of : ConfigurationPair → Pair (List ℕ)
@@ -44,7 +46,7 @@ pub record IsAround (known : Type 0) (tree : FileTree) (words : ConfigurationVar
   pub home : option_map vec_items around.home ≡ option_map vec_items words.home
   pub real_home : IsRealHome known tree (option_map vec_items words.home) (option_map vec_items around.real_home)
   pub installed : around.installed ≡ None
-  pub users : around.users.items ≡ []
+  pub users : known → map seen_user around.users.items ≡ users_told (tree.bytes (codes "/etc/passwd"))
   pub git_folders : around.git_folders.items ≡ []
   pub branch : around.branch ≡ None
-  pub urls : around.urls.items ≡ []
+  pub urls : around.urls ≡ None

@@ -16,8 +16,16 @@ environment_of words = record {
   across_file_systems = words.across_file_systems;
 }
 
--- whether the search goes across file systems: it isn't asked where the git folder is told, and a variable that isn't set is false
+-- none of them is set
+abbrev pub no_environment : Environment (List ℕ)
+no_environment = record { git_dir = None; work_tree = None; common_dir = None; index_file = None; object_directory = None; ceiling_directories = None; across_file_systems = false }
+
+-- what a variable says that is a boolean; one that isn't set is false
+abbrev pub said_by : Option (List ℕ) → Option Bool
+said_by None = Some false
+said_by (Some value) = boolean_of (Some value)
+
+-- whether the search goes across file systems: it isn't asked where the git folder is told
 abbrev pub across_of : Bool → Option (List ℕ) → Option Bool
 across_of true value = Some false
-across_of false None = Some false
-across_of false (Some value) = boolean_of (Some value)
+across_of false value = said_by value

@@ -26,10 +26,10 @@ impl<'a, R: Files> ConfigFiles for DiskFiles<'a, R> {
 
     fn find(&self, path: &[u8]) -> Result<Option<FoundFile<Vec<u8>>>, ConfigFileFault> {
         count(&self.asked)?;
-        let Ok(name) = str::from_utf8(path) else {
-            return Ok(None);
-        };
         let alloc = self.alloc;
+        let Ok(name) = str::from_utf8(path) else {
+            return wrong(alloc, WrongFile::Unnamed, path);
+        };
         let bytes = match read_front(self.rt, alloc, name, MOST_BYTES + 1) {
             Ok(bytes) if bytes.len() > MOST_BYTES => return wrong(alloc, WrongFile::TooLarge, path),
             Ok(bytes) => bytes,

@@ -5,6 +5,7 @@ ghost use Rattle.std.specs.Vec.{vec_items};
 ghost use Rattle.core_settings.specs.Views.{pair_with, places_with};
 ghost use Rattle.repository_files.specs.Configuration.{IsAround, IsRealHome, most_pairs, pair_of, pairs_of, places_of};
 
+use crate::users::users;
 use crate::variables::variable;
 use core_settings::{ConfigPlaces, Pair, pair_count};
 use git_config::Surroundings;
@@ -39,6 +40,8 @@ pub struct ConfigurationVariables {
     pub global: Option<Vec<u8>>,
     /// `GIT_CONFIG_COUNT`.
     pub count: Option<Vec<u8>>,
+    /// `GIT_CONFIG_PARAMETERS`.
+    pub parameters: Option<Vec<u8>>,
     /// The pairs from number 0 on, up to the first that has no key, and no more than `count` tells.
     pub pairs: Vec<ConfigurationPair>,
 }
@@ -60,6 +63,7 @@ impl ConfigurationVariables {
             system: variable(rt, alloc, "GIT_CONFIG_SYSTEM")?,
             global: variable(rt, alloc, "GIT_CONFIG_GLOBAL")?,
             count,
+            parameters: variable(rt, alloc, "GIT_CONFIG_PARAMETERS")?,
             pairs,
         })
     }
@@ -78,6 +82,7 @@ impl ConfigurationVariables {
             repository: None,
             work_tree: None,
             count: self.count.as_deref(),
+            parameters: self.parameters.as_deref(),
         }
     }
 
@@ -95,8 +100,8 @@ impl ConfigurationVariables {
         Ok(pairs)
     }
 
-    /// What paths and conditions of a configuration are told from outside a repository: the home folder. Of the installation and of other
-    /// users nothing is known.
+    /// What paths and conditions of a configuration are told from outside a repository: the home folder, and those of the users whom
+    /// `/etc/passwd` names. Of the installation nothing is known.
     ///
     /// # Errors
     /// Only where memory was refused.
@@ -111,10 +116,10 @@ impl ConfigurationVariables {
             home: copy_of(alloc, self.home.as_deref())?,
             real_home: real_home(files, self.home.as_deref())?,
             installed: None,
-            users: Vec::new(alloc),
+            users: users(alloc, files)?,
             git_folders: Vec::new(alloc),
             branch: None,
-            urls: Vec::new(alloc),
+            urls: None,
         })
     }
 }

@@ -3,11 +3,10 @@ ghost use Rattle.std.specs.Prelude.{◌≡◌, ◌↔◌, IsErr, IfOk, None, Som
 ghost use Rattle.std.specs.Option.{option_copied};
 ghost use Rattle.std.specs.Vec.{vec_items};
 ghost use Rattle.git_repository.specs.Environments.{environment_with};
-ghost use Rattle.repository_files.specs.Variables.{across_of, environment_of};
+ghost use Rattle.repository_files.specs.Variables.{across_of, environment_of, no_environment};
 
 use crate::fault::VariableFault;
-use crate::variables::variable;
-use git_config::boolean;
+use crate::variables::{said_by, variable};
 use git_repository::Environment;
 use std::alloc::Global;
 use std::rt::Env;
@@ -30,6 +29,10 @@ pub struct RepositoryVariables {
     pub object_directory: Option<Vec<u8>>,
     /// `GIT_CEILING_DIRECTORIES`.
     pub ceiling_directories: Option<Vec<u8>>,
+    /// `PWD`.
+    pub pwd: Option<Vec<u8>>,
+    /// `GIT_IMPLICIT_WORK_TREE`.
+    pub implicit_work_tree: Option<Vec<u8>>,
     /// Whether `GIT_DISCOVERY_ACROSS_FILESYSTEM` is true. Git doesn't look at it where `GIT_DIR` is set.
     pub across_file_systems: bool,
 }
@@ -53,8 +56,27 @@ impl RepositoryVariables {
             index_file: variable(rt, alloc, "GIT_INDEX_FILE")?,
             object_directory: variable(rt, alloc, "GIT_OBJECT_DIRECTORY")?,
             ceiling_directories: variable(rt, alloc, "GIT_CEILING_DIRECTORIES")?,
+            pwd: variable(rt, alloc, "PWD")?,
+            implicit_work_tree: variable(rt, alloc, "GIT_IMPLICIT_WORK_TREE")?,
             across_file_systems,
         })
+    }
+
+    /// None of them is set.
+    pub fn none() -> RepositoryVariables
+        ensures { environment_of result ≡ no_environment }
+    {
+        RepositoryVariables {
+            git_dir: None,
+            work_tree: None,
+            common_dir: None,
+            index_file: None,
+            object_directory: None,
+            ceiling_directories: None,
+            pwd: None,
+            implicit_work_tree: None,
+            across_file_systems: false,
+        }
     }
 
     /// The same, as `git_repository` takes it.
@@ -77,8 +99,8 @@ impl RepositoryVariables {
 fn across_of(has_git_dir: bool, value: Option<&[u8]>) -> Option<bool>
     ensures { result ≡ across_of has_git_dir (option_copied value.entry) }
 {
-    if has_git_dir || value.is_none() {
+    if has_git_dir {
         return Some(false);
     }
-    boolean(value)
+    said_by(value)
 }

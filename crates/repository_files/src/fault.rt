@@ -19,6 +19,8 @@ pub enum WrongFile {
     TooLarge,
     /// The system's words, as `Permission denied`.
     Refused(String),
+    /// The path is no UTF-8, so that the kit can't open it.
+    Unnamed,
 }
 
 /// Why a file of a configuration isn't read.
@@ -67,6 +69,7 @@ fn words_of(wrong: &WrongFile) -> &str {
         WrongFile::Replaced => "another file took its place",
         WrongFile::TooLarge => "it has more than 100 MiB",
         WrongFile::Refused(text) => text.as_str(),
+        WrongFile::Unnamed => "its name is no UTF-8",
     }
 }
 

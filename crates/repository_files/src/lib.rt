@@ -13,6 +13,7 @@ mod sight;
 #[cfg(test)]
 mod tests;
 mod user;
+mod users;
 mod variables;
 
 pub use configuration::{ConfigurationPair, ConfigurationVariables};
@@ -22,4 +23,4 @@ pub use fault::{ConfigFileFault, VariableFault, WrongFile};
 pub use reading::{Unread, open_seen};
 pub use sight::Sight;
 pub use user::User;
-pub use variables::variable;
+pub use variables::{is_true, variable};

@@ -1,5 +1,10 @@
-//! A variable of the environment, by its bytes.
+//! A variable of the environment, by its bytes or as a boolean.
+ghost use Rattle.std.specs.Prelude.{◌≡◌};
+ghost use Rattle.std.specs.Option.{option_copied};
+ghost use Rattle.repository_files.specs.Variables.{said_by};
 
+use crate::fault::VariableFault;
+use git_config::boolean;
 use std::alloc::{AllocError, Global};
 use std::env::FillError;
 use std::rt::Env;
@@ -26,4 +31,26 @@ pub fn variable<R: Env>(rt: &R, alloc: Global, name: &str) -> Result<Option<Vec<
         }
     }
     Err(AllocError)
+}
+
+/// Whether a variable is true; one that isn't set is false.
+///
+/// # Errors
+/// [`VariableFault::NoBoolean`] where it is no boolean, and [`VariableFault::Memory`].
+pub fn is_true<R: Env>(rt: &R, alloc: Global, name: &'static str) -> Result<bool, VariableFault> {
+    let value = variable(rt, alloc, name)?;
+    match said_by(value.as_deref()) {
+        Some(said) => Ok(said),
+        None => Err(VariableFault::NoBoolean(name, value.unwrap_or(Vec::new(alloc)))),
+    }
+}
+
+/// What a value says, where a variable has one; `None` where it is no boolean.
+pub(crate) fn said_by(value: Option<&[u8]>) -> Option<bool>
+    ensures { result ≡ said_by (option_copied value.entry) }
+{
+    if value.is_none() {
+        return Some(false);
+    }
+    boolean(value)
 }

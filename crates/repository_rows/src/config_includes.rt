@@ -67,16 +67,16 @@ fn text_read(
     }
 }
 
-/// The URLs of remotes that are read; none where there is a fault.
+/// The URLs of remotes that are read; `None` where there is a fault.
 fn urls_read(
     alloc: Global,
     files: &Files<'_>,
     around: &Surroundings,
     sources: &[Source<'_>],
-) -> Result<Vec<Vec<u8>>, RowFault> {
+) -> Result<Option<Vec<Vec<u8>>>, RowFault> {
     match Config::read(alloc, files, around, sources) {
-        Ok(config) => Ok(urls_of(alloc, &config)?),
-        Err(ReadFault::Setting(_)) => Ok(Vec::new(alloc)),
+        Ok(config) => Ok(Some(urls_of(alloc, &config)?)),
+        Err(ReadFault::Setting(_)) => Ok(None),
         Err(ReadFault::Memory | ReadFault::File(_)) => Err(RowFault::Memory),
     }
 }
@@ -102,7 +102,7 @@ pub(crate) fn around_home(alloc: Global, home: Option<&[u8]>) -> Result<Surround
         users: Vec::new(alloc),
         git_folders: Vec::new(alloc),
         branch: None,
-        urls: Vec::new(alloc),
+        urls: None,
     })
 }
 

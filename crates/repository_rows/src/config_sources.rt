@@ -44,6 +44,7 @@ fn places_of<'a>(
         repository,
         work_tree,
         count: value_of(variables, b"GIT_CONFIG_COUNT"),
+        parameters: value_of(variables, b"GIT_CONFIG_PARAMETERS"),
     }
 }
 

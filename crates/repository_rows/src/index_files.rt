@@ -4,14 +4,20 @@ use git_index::{Entry, Index, IndexFault, Kind, ObjectFormat};
 use row_texts::{Answer, Question, RowFault};
 use std::alloc::{AllocError, Global};
 
-/// What an index file says: a line for each entry, or the fault.
+/// What an index file says, or a split one and the file that it shares entries with: a line for each entry, or the fault.
 pub(crate) fn index_files(
     alloc: Global,
     question: &Question,
     answer: &mut Answer,
 ) -> Result<(), RowFault> {
     let format = format_of(question)?;
-    match Index::from_bytes(alloc, question.bytes(1)?, format) {
+    let bytes = question.bytes(1)?;
+    let index = if question.rest(2).is_empty() {
+        Index::from_bytes(alloc, bytes, format)
+    } else {
+        Index::from_split(alloc, bytes, question.bytes(2)?, format)
+    };
+    match index {
         Ok(index) => push_lines(alloc, index.entries(), answer),
         Err(IndexFault::Memory) => Err(RowFault::Memory),
         Err(fault) => answer.push_shown(alloc, &fault),

@@ -42,8 +42,8 @@ fn step<'a>(front: &'a [u8], depth: usize, part: &[u8]) -> (&'a [u8], usize)
     (folder_of(front), 0)
 }
 
-/// The folder of a path.
-fn folder_of(path: &[u8]) -> &[u8]
+/// The folder of a path: what stands before its last slash, and no bytes where it has none.
+pub fn folder_of(path: &[u8]) -> &[u8]
     ensures { result.now ≡ folder_of path.entry.now }
 {
     match memrchr(b'/', path) {

@@ -9,6 +9,7 @@ mod standpoint;
 mod unusual;
 mod usual;
 
+pub use fronts::folder_of;
 pub use paths::{append_seen, below_folder, enter, last_name, leave, walk};
 pub use quoting::{Quoting, append_quoted};
 pub use standpoint::{LeadFault, Standpoint};

@@ -16,12 +16,14 @@ pub mod EntryLemmas
 pub mod FindingLemmas
 pub mod IgnoreLemmas
 pub mod IgnoringLemmas
+pub mod LevelLemmas
 pub mod ListingLemmas
 pub mod ListingRuns
 pub mod ListsLemmas
 pub mod MetLemmas
 pub mod NameLemmas
 pub mod OrderLemmas
+pub mod OutcomeLemmas
 pub mod PathLemmas
 pub mod PieceLemmas
 pub mod PuttingLemmas
@@ -30,4 +32,5 @@ pub mod SourceLemmas
 pub mod StackLemmas
 pub mod StartLemmas
 pub mod TopLemmas
+pub mod TrackedLemmas
 pub mod VisitLemmas

@@ -1,5 +1,5 @@
 -- Which line decides about a told path, and what `check-ignore` writes about it.
-use Rattle.std.specs.Prelude.{◌≡◌, ◌≢◌, ◌⊎◌, ℕ, Bool, false, ◌&&◌, ◌||◌, not, if◌then◌else◌, List, [], ◌∷◌, ◌++◌, map, slice_get, take, Option, None, Some, IfSome, MatchOption, is_some}
+use Rattle.std.specs.Prelude.{◌≡◌, ◌≢◌, ◌⊎◌, ℕ, Bool, ◌&&◌, ◌||◌, not, if◌then◌else◌, List, [], ◌∷◌, ◌++◌, map, slice_get, take, Option, None, Some, IfSome, MatchOption, is_some}
 use Rattle.std.specs.List.{AllZip, list_any}
 use Rattle.std.specs.Option.{unwrap_or}
 use Rattle.git_index.specs.Entries.{Tracked}
@@ -12,13 +12,13 @@ use Rattle.glob_lists.specs.Paths.{IsPlainPath}
 use Rattle.glob_trees.specs.TreeParts.{TreeParts}
 use Rattle.glob_trees.specs.Trees.{DecidesInTree}
 use Rattle.glob_trees.specs.Ways.{AreOnTheWay, Folder}
+use Rattle.pathspecs.specs.Leading.{word_front, word_leads, word_names_folder}
+use Rattle.pathspecs.specs.Spelling.{Spelt, spelt_by}
 use Rattle.told_paths.specs.declared.standpoint.Standpoint.{Standpoint}
-use Rattle.told_paths.specs.Paths.{names_folder, parts_of}
-use Rattle.told_paths.specs.Standpoints.{led, literal_front}
 use Rattle.tracked_paths.specs.Holding.{IsHeld, LiesInSubmodule}
 use Rattle.tree_answers.specs.Lines.{Decision, line_text}
 use Rattle.tree_commands.specs.declared.check_ignore.fault.IgnoreFault.{IgnoreFault}
-use Rattle.tree_commands.specs.declared.check_ignore.fault.IgnoreFault.TheVariants.{Empty, InSubmodule, Outside}
+use Rattle.tree_commands.specs.declared.check_ignore.fault.IgnoreFault.TheVariants.{Empty, InSubmodule, Outside, Unspelt}
 use Rattle.tree_commands.specs.declared.check_ignore.flags.IgnoreFlags.{IgnoreFlags}
 use Rattle.tree_commands.specs.Tops.{DecidesForTop}
 
@@ -38,7 +38,7 @@ pub record Question : Type 0 where
 -- what is asked from a standpoint of a tree, where the kinds of paths are known so far
 abbrev pub question_of : {S T X : Type 0} → Standpoint → IgnoreFlags → List Tracked → TreeParts S T X → (List ℕ → Option Bool) → Question
 question_of standpoint flags tracked tree kind_of =
-    record { leads = led standpoint; literal = literal_front standpoint; tracked = tracked; kind_of = kind_of; front_count = tree.front_count; fronts = take tree.front_count (map (entry_list_of {V = Unit {0}} (λ _. tt)) tree.lists); rules = tree.rules; flags = flags }
+    record { leads = word_leads standpoint; literal = word_front standpoint; tracked = tracked; kind_of = kind_of; front_count = tree.front_count; fronts = take tree.front_count (map (entry_list_of {V = Unit {0}} (λ _. tt)) tree.lists); rules = tree.rules; flags = flags }
 
 -- the line at a pair of places, and none for none
 abbrev pub IsLineAt : List (EntryList (Unit {0})) → Option (ℕ × ℕ) → Option Decision → Type 0
@@ -75,7 +75,7 @@ asked_path is_told (b ∷ path) = (b ∷ path) ++ (if is_told then slash ∷ [] 
 
 -- what is asked about by a told path that leads to this one
 abbrev pub told_path : List ℕ → List ℕ → List ℕ
-told_path told path = asked_path (names_folder false (parts_of told)) path
+told_path told path = asked_path (word_names_folder told) path
 
 -- the line that decides about what is asked: none about what is no path of a repository
 abbrev pub IsLineOf : Question → (Folder → EntryList (Unit {0}) → Type 0) → List ℕ → Option Bool → Option Decision → Type 0
@@ -115,9 +115,11 @@ abbrev pub IsStatus : Question → (Folder → EntryList (Unit {0}) → Type 0) 
 IsStatus question shows is_any paths =
     (lines : List (Option Decision)) × AllZip (IsLineFor question shows) paths lines × (is_any ≡ list_any (λ line. is_some (counted question.flags.verbose line)) lines)
 
--- what a told path may get a fault for: that it leads out of the work tree or into a submodule, or has no bytes, only where it is so
+-- what a told path may get a fault for: that it leads out of the work tree or into a submodule, spells no path, or has no bytes, only
+-- where it is so
 abbrev pub Refuses : {F : Type 0} → (List ℕ → Option (List ℕ)) → List Tracked → List ℕ → IgnoreFault F → Type 0
-Refuses leads tracked told (Outside path) = (path.items ≡ told) × (leads told ≡ None)
+Refuses leads tracked told (Outside path) = (path.items ≡ told) × (spelt : Spelt) × (spelt_by told ≡ Some spelt) × (leads told ≡ None)
 Refuses leads tracked told (InSubmodule path) = (path.items ≡ told) × (way : List ℕ) × (leads told ≡ Some way) × LiesInSubmodule tracked (told_path told way)
+Refuses leads tracked told (Unspelt path) = (path.items ≡ told) × (told ≢ []) × (spelt_by told ≡ None)
 Refuses leads tracked told Empty = told ≡ []
 Refuses leads tracked told _ = Unit {0}

@@ -1,11 +1,12 @@
 -- Which files of a tree are listed, and in which order. A folder's path ends in a slash here, but for the top, which has no bytes.
-use Rattle.std.specs.Prelude.{◌≡◌, ◌≢◌, ◌⊎◌, ℕ, Bool, true, false, IsTrue, if◌then◌else◌, List, [], ◌∷◌, ◌++◌, map, Some, codes}
+use Rattle.std.specs.Prelude.{◌≡◌, ◌≢◌, ◌⊎◌, ◌==◌, ◌&&◌, ℕ, Bool, true, false, not, IsTrue, if◌then◌else◌, List, [], ◌∷◌, ◌++◌, map, Some, codes}
 use Rattle.std.specs.Char.{to_ascii_lowercase}
 use Rattle.std.specs.Cmp.Lexicographic.{slice_cmp}
-use Rattle.std.specs.List.{Contains}
+use Rattle.std.specs.List.{Contains, list_any}
 use Rattle.std.specs.Ordering.{nat_cmp}
 use Rattle.std.specs.declared.cmp.Ordering.TheVariants.{Less}
 use Rattle.std.specs.Str.{bytes_eq}
+use Rattle.git_index.specs.Entries.{HasBelow, IsSubmodule, IsTracked, Tracked}
 use Rattle.gix_glob.specs.declared.pattern.Case.{Case}
 use Rattle.gix_glob.specs.declared.pattern.Case.TheVariants.{Sensitive, Fold}
 use Rattle.gix_glob.specs.declared.search.pattern.list.List as patterns
@@ -17,21 +18,37 @@ use Rattle.glob_trees.specs.Trees.{IsAbove}
 use Rattle.glob_trees.specs.Ways.{Folder, folders_to, start_of, with_entries}
 use Rattle.told_paths.specs.declared.standpoint.Standpoint.{Standpoint}
 use Rattle.told_paths.specs.Paths.{IsLastName, is_name, names_folder, parts_of}
+use Rattle.told_paths.specs.Quoting.{is_unusual}
 use Rattle.told_paths.specs.Standpoints.{led, shown}
 use Rattle.tree_answers.specs.declared.form.Form.{Form}
+use Rattle.tree_answers.specs.declared.form.Form.TheVariants.{Lines, Records}
 use Rattle.tree_answers.specs.Lines.{behind, name_text}
+use Rattle.tree_commands.specs.declared.files.choosing.Chosen.{Chosen}
+use Rattle.tree_commands.specs.declared.files.choosing.Chosen.TheVariants.{Ignored, Unignored}
+use Rattle.tree_commands.specs.declared.files.choosing.Folders.{Folders}
+use Rattle.tree_commands.specs.declared.files.choosing.Folders.TheVariants.{Entered, Named, NamedIfIgnored}
+use Rattle.tree_commands.specs.declared.files.mark.Mark.{Mark}
+use Rattle.tree_commands.specs.declared.files.mark.Mark.TheVariants as marks
 use Rattle.tree_commands.specs.declared.files.source.EntryKind.{EntryKind}
 use Rattle.tree_commands.specs.declared.files.source.EntryKind.TheVariants as kinds
 use Rattle.tree_commands.specs.FileTrees.{FileTree}
 use Rattle.tree_commands.specs.Ignoring.{IsIgnored}
 
--- the lists that stand before those of all folders, and whether the case of letters counts
+-- what decides, beside patterns, which paths are met and listed: whether the case of letters counts, which paths are chosen, how folders are
+-- told, and what the index tracks
+pub record Terms : Type 0 where
+  pub case : Case
+  pub chosen : Chosen
+  pub folders : Folders
+  pub tracked : List Tracked
+
+-- the terms, and the lists that stand before those of all folders
 pub record Basis : Type 0 where
   pub fronts : List (EntryList (Unit {0}))
-  pub case : Case
+  pub terms : Terms
 
-abbrev pub basis_of : {T X : Type 0} → List (patterns.List T X) → Case → Basis
-basis_of fronts case = record { fronts = map (entry_list_of (λ _. tt)) fronts; case = case }
+abbrev pub basis_of : {T X : Type 0} → List (patterns.List T X) → Terms → Basis
+basis_of fronts terms = record { fronts = map (entry_list_of (λ _. tt)) fronts; terms = terms }
 
 abbrev pub is_folder : EntryKind → Bool
 is_folder kinds.Folder = true
@@ -52,39 +69,70 @@ pub record IsEntryName (case : Case) (name : List ℕ) : Type 0 where
 abbrev pub lists_to : Basis → FileTree → List ℕ → List (EntryList (Unit {0}))
 lists_to basis tree path = basis.fronts ++ with_entries (map tree.list (folders_to path))
 
--- something stands at the path that these lists don't ignore; `found` is the path, and a slash behind it where a folder stands there
-pub record IsFound (lists : List (EntryList (Unit {0}))) (case : Case) (tree : FileTree) (path found : List ℕ) : Type 0 where
+-- a folder above the path is ignored
+abbrev pub IsBelowIgnored : Basis → FileTree → List ℕ → Type 0
+IsBelowIgnored basis tree path = (folder : Folder) × IsAbove folder path × IsIgnored (lists_to basis tree folder) basis.terms.case folder true
+
+-- the path is ignored: a folder above it is, or it is by itself
+abbrev pub IsIgnoredAt : Basis → FileTree → List ℕ → Bool → Type 0
+IsIgnoredAt basis tree path is_dir = IsBelowIgnored basis tree path ⊎ IsIgnored (lists_to basis tree path) basis.terms.case path is_dir
+
+-- what is passed over, with all that lies in it: a tracked file, and the folder of a submodule
+abbrev pub IsHidden : List Tracked → List ℕ → EntryKind → Type 0
+IsHidden tracked path kinds.Folder = IsSubmodule tracked path
+IsHidden tracked path kinds.File = IsTracked tracked path
+
+-- what stands at a path is kept: these lists don't ignore it, where what isn't ignored is chosen, and it isn't passed over
+pub record IsKept (lists : List (EntryList (Unit {0}))) (terms : Terms) (path : List ℕ) (kind : EntryKind) : Type 0 where
+  pub unignored : terms.chosen ≡ Unignored → ¬ IsIgnored lists terms.case path (is_folder kind)
+  pub shown : ¬ IsHidden terms.tracked path kind
+
+-- something stands at the path that is kept; `found` is the path, and a slash behind it where a folder stands there
+pub record IsFound (lists : List (EntryList (Unit {0}))) (terms : Terms) (tree : FileTree) (path found : List ℕ) : Type 0 where
   pub kind : EntryKind
   pub there : tree.kind path ≡ Some kind
-  pub unignored : ¬ IsIgnored lists case path (is_folder kind)
+  pub kept : IsKept lists terms path kind
   pub joined : found ≡ path ++ (if is_folder kind then slash ∷ [] else [])
 
 -- what is found in a folder by one of its names
 pub record IsEntryOf (basis : Basis) (tree : FileTree) (folder : Folder) (found : List ℕ) : Type 0 where
   pub name : List ℕ
   pub among : Contains (tree.names folder) name
-  pub may : IsEntryName basis.case name
-  pub here : IsFound (lists_to basis tree (start_of folder)) basis.case tree (start_of folder ++ name) found
+  pub may : IsEntryName basis.terms.case name
+  pub here : IsFound (lists_to basis tree (start_of folder)) basis.terms tree (start_of folder ++ name) found
 
--- the paths that are met from one on: this one, and what is found in each folder that is met, and is the top or no repository of its own
+-- a folder in which no tracked path lies is told by its name, although it is no repository; `Ignores` says that it is ignored
+abbrev pub IsNamed : Folders → Chosen → Type 0 → Type 0
+IsNamed Entered chosen Ignores = ⊥
+IsNamed Named chosen Ignores = Unit {0}
+IsNamed NamedIfIgnored chosen Ignores = (chosen ≡ Ignored) × Ignores
+
+-- a folder below the top isn't gone into: no tracked path lies in it, and it is a repository of its own, or told by its name
+pub record IsShut (terms : Terms) (tree : FileTree) (folder : Folder) (Ignores : Type 0) : Type 0 where
+  pub below : folder ≢ []
+  pub free : ¬ HasBelow terms.tracked folder
+  pub why : (tree.has_git folder ≡ true) ⊎ IsNamed terms.folders terms.chosen Ignores
+
+-- the paths that are met from one on: this one, and what is found in each folder that is met and gone into
 pub data IsMet (basis : Basis) (tree : FileTree) (start : List ℕ) : List ℕ → Type 0 where
   begins : IsMet basis tree start start
-  lies : {folder found : List ℕ} → IsMet basis tree start (start_of folder) → (folder ≡ []) ⊎ (tree.has_git folder ≡ false) → IsEntryOf basis tree folder found → IsMet basis tree start found
+  lies : {folder found : List ℕ} → IsMet basis tree start (start_of folder) → ¬ IsShut basis.terms tree folder (IsIgnoredAt basis tree folder true) → IsEntryOf basis tree folder found → IsMet basis tree start found
 
--- a folder above the path at which a listing is to begin lets it pass: it has no name of a repository's files, is no repository, and isn't
--- ignored
-pub record LetsPass (basis : Basis) (tree : FileTree) (folder : Folder) : Type 0 where
-  pub other : (name : List ℕ) → IsLastName folder name → is_git basis.case name ≡ false
-  pub git : tree.has_git folder ≡ false
-  pub unignored : ¬ IsIgnored (lists_to basis tree folder) basis.case folder true
+-- a folder above the path at which a listing is to begin lets it pass: it has no name of a repository's files, is no submodule, and no
+-- repository in which no tracked path lies
+pub record LetsPass (terms : Terms) (tree : FileTree) (folder : Folder) : Type 0 where
+  pub other : (name : List ℕ) → IsLastName folder name → is_git terms.case name ≡ false
+  pub shown : ¬ IsSubmodule terms.tracked folder
+  pub entered : ¬ ((tree.has_git folder ≡ true) × (¬ HasBelow terms.tracked folder))
 
 -- a listing that is to begin at a path below the top begins at `start`; a folder has to stand there if the path is told as a folder's
 pub record BeginsBelow (basis : Basis) (tree : FileTree) (path : List ℕ) (is_told : Bool) (start : List ℕ) : Type 0 where
   pub plain : IsPlainPath path
   pub whole : ¬ EndsInSlash path
-  pub above : (folder : Folder) → IsAbove folder path → LetsPass basis tree folder
-  pub other : (name : List ℕ) → IsLastName path name → is_git basis.case name ≡ false
-  pub here : IsFound (lists_to basis tree path) basis.case tree path start
+  pub above : (folder : Folder) → IsAbove folder path → LetsPass basis.terms tree folder
+  pub unignored : basis.terms.chosen ≡ Unignored → ¬ IsBelowIgnored basis tree path
+  pub other : (name : List ℕ) → IsLastName path name → is_git basis.terms.case name ≡ false
+  pub here : IsFound (lists_to basis tree path) basis.terms tree path start
   pub as_told : is_told ≡ true → start ≢ path
 
 abbrev pub BeginsAt : Basis → FileTree → List ℕ → Bool → List ℕ → Type 0
@@ -98,14 +146,46 @@ pub record IsReached (standpoint : Standpoint) (basis : Basis) (tree : FileTree)
   pub begins : BeginsAt basis tree top (names_folder false (parts_of told)) start
   pub met : IsMet basis tree start path
 
--- the path of a file or a link, or of a folder that is a repository of its own
-abbrev pub IsLeaf : FileTree → List ℕ → Type 0
-IsLeaf tree path = (path ≢ []) × ((¬ EndsInSlash path) ⊎ ((folder : Folder) × (path ≡ start_of folder) × (tree.has_git folder ≡ true)))
+-- A path that is met is listed: that of a file or a link, or of a folder that isn't gone into, unless a tracked file has its name. It is
+-- ignored, where the ignored ones are chosen.
+pub record IsListedFile (terms : Terms) (Ignores : List ℕ → Bool → Type 0) (path : List ℕ) : Type 0 where
+  pub some : path ≢ []
+  pub whole : ¬ EndsInSlash path
+  pub chosen : terms.chosen ≡ Ignored → Ignores path false
+
+pub record IsListedFolder (terms : Terms) (tree : FileTree) (Ignores : List ℕ → Bool → Type 0) (path : List ℕ) : Type 0 where
+  pub folder : Folder
+  pub start : path ≡ start_of folder
+  pub shut : IsShut terms tree folder (Ignores folder true)
+  pub free : ¬ IsTracked terms.tracked folder
+  pub chosen : terms.chosen ≡ Ignored → Ignores folder true
+
+abbrev pub IsListedBy : Terms → FileTree → (List ℕ → Bool → Type 0) → List ℕ → Type 0
+IsListedBy terms tree Ignores path = IsListedFile terms Ignores path ⊎ IsListedFolder terms tree Ignores path
+
+abbrev pub IsListed : Basis → FileTree → List ℕ → Type 0
+IsListed basis tree path = IsListedBy basis.terms tree (IsIgnoredAt basis tree) path
 
 -- a path comes before another one, by its bytes
 abbrev pub ComesBefore : List ℕ → List ℕ → Type 0
 ComesBefore path other = slice_cmp nat_cmp path other ≡ Less
 
--- what is written of a path: as it is seen from the current folder, and a line feed or a NUL
-abbrev pub path_line : Standpoint → Form → List ℕ → List ℕ
-path_line standpoint form path = name_text form (shown standpoint path) ++ behind form 10 ∷ []
+-- what stands before a path
+abbrev pub mark_text : Mark → List ℕ
+mark_text marks.Bare = []
+mark_text marks.Untracked = codes "?? "
+mark_text marks.Ignored = codes "!! "
+
+-- behind a mark, a name in a line stands in quotes where it has a space, too
+abbrev pub spaced_name : Form → List ℕ → List ℕ
+spaced_name (Lines quoting) name = if list_any (λ b. b == 32) name && not (list_any (is_unusual quoting) name) then codes "\"" ++ (name ++ codes "\"") else name_text (Lines quoting) name
+spaced_name Records name = name
+
+abbrev pub marked_name : Mark → Form → List ℕ → List ℕ
+marked_name marks.Bare form name = name_text form name
+marked_name marks.Untracked form name = spaced_name form name
+marked_name marks.Ignored form name = spaced_name form name
+
+-- what is written of a path: the mark, the path as it is seen from the current folder, and a line feed or a NUL
+abbrev pub path_line : Mark → Standpoint → Form → List ℕ → List ℕ
+path_line mark standpoint form path = mark_text mark ++ (marked_name mark form (shown standpoint path) ++ behind form 10 ∷ [])

@@ -4,5 +4,7 @@ pub mod CheckIgnore
 pub mod Files
 pub mod FileTrees
 pub mod Ignoring
+pub mod Listings
 pub mod Private
 pub mod Tops
+pub mod TrackedFiles

@@ -167,7 +167,10 @@ fn write_answers<F: Drop, W: Write>(
 
 /// Writes a text, and flushes.
 #[tactic(auto, using(crate::proofs::lemmas::RunLemmas::flushed))]
-fn write_text<W: Write, F>(writer: &mut Watched<W>, text: &[u8]) -> Result<(), RecordFault<F>>
+pub(crate) fn write_text<W: Write, F>(
+    writer: &mut Watched<W>,
+    text: &[u8],
+) -> Result<(), RecordFault<F>>
     requires { has_failed writer.old ≡ false }
     ensures ok { OnOk result (Appends (W.contents (inner writer.old)) (W.contents (inner writer.new)) text.now) }
     ensures cut { OnErr result (AppendsFront (W.contents (inner writer.old)) (W.contents (inner writer.new)) text.now) }

@@ -1,4 +1,4 @@
-//! The command `files`: which files of a work tree aren't ignored, in order of their paths.
+//! The command `files`: which files of a work tree aren't tracked, or are ignored, in order of their paths.
 ghost use Rattle.std.specs.Prelude.{◌≡◌, ◌↔◌, ℕ, List, [], Some, None, false, AllPairs, IfErr, IfOk, IsErrOf, OnErr, OnOk, is_ok, map, option_map};
 ghost use Rattle.std.specs.Vec.{vec_items};
 ghost use Rattle.std.specs.Io.KnownBytes.{Appends};
@@ -12,28 +12,36 @@ ghost use Rattle.told_paths.specs.Paths.{names_folder, parts_of};
 ghost use Rattle.told_paths.specs.Standpoints.{led};
 ghost use Rattle.tree_commands.specs.declared.files.fault.FilesFault.TheVariants as faults;
 ghost use Rattle.tree_commands.specs.FileTrees.{FileTree, StaysKnown};
-ghost use Rattle.tree_commands.specs.Files.{ComesBefore, IsLeaf, IsMet, IsReached, path_line, basis_of};
+ghost use Rattle.tree_commands.specs.Files.{ComesBefore, IsListed, IsMet, IsReached, path_line};
+ghost use Rattle.tree_commands.specs.Listings.{asked_basis};
 ghost use Rattle.tree_commands.specs.Private.ListingFaults.{is_of_start};
-ghost use Rattle.tree_commands.specs.Private.Listing.{WritesOut, seen_lists, with_line};
+ghost use Rattle.tree_commands.specs.Private.Listing.{WritesOut, seen_lists, terms_of, with_line};
 ghost use Rattle.tree_commands.specs.Private.UnderWay.{IsUnderWay, OfKnown, WritesAll, WritesFront, beginning_of};
 
 mod asking;
+pub mod choosing;
 mod entries;
 pub mod fault;
 mod ignoring;
 mod lister;
+pub mod mark;
 mod names;
 mod pending;
 pub mod source;
 mod start;
-mod writing;
+mod terms;
+pub(crate) mod writing;
 
+use crate::files::choosing::{Chosen, Folders};
 use crate::files::entries::ListsOnWay;
 use crate::files::fault::FilesFault;
 use crate::files::ignoring::are_of_folders;
 use crate::files::lister::Lister;
+use crate::files::mark::Mark;
 use crate::files::source::FileSource;
+use crate::files::terms::Terms;
 use crate::files::writing::PathLines;
+use git_index::Index;
 use gix_glob::pattern::Case;
 use gix_glob::search::Watched;
 use glob_lines::IgnoreLines;
@@ -51,19 +59,30 @@ pub struct Listing {
     pub standpoint: Standpoint,
     /// How they are written.
     pub form: Form,
+    /// What stands before each.
+    pub mark: Mark,
+    /// Which paths are listed.
+    pub chosen: Chosen,
+    /// How folders are told in which no tracked path lies.
+    pub folders: Folders,
     /// The lists that stand before those of all folders, as of files of excludes.
     pub fronts: Vec<PreparedList<IgnoreLines>>,
     /// Whether the case of letters counts.
     pub case: Case,
 }
 
-/// Writes a line for each file of a work tree that isn't ignored, at or below a path.
+/// Writes a line for each file of a work tree that is chosen and isn't tracked, at or below a path.
 ///
-/// `told` leads from the standpoint to the path at which the listing begins: the top, a folder or a file. Where that, or a folder above it, is
-/// ignored, or has the name of a repository's files, or a folder above it is a repository of its own, nothing is listed.
+/// `told` leads from the standpoint to the path at which the listing begins: the top, a folder or a file. Where that, or a folder above it, has
+/// the name of a repository's files or is a submodule, or a folder above it is a repository of its own in which no tracked path lies, nothing is
+/// listed; nor is anything where it, or a folder above it, is ignored, and the paths that aren't ignored are chosen.
 ///
-/// Listed are files and links, and the folders of repositories of their own, with a slash at the end; these aren't entered. A folder that is
-/// ignored, or lies below one, isn't asked for its names. The paths come in the order of their bytes, each once.
+/// Listed are files and links, and, with a slash at the end, the folders that aren't gone into: those of repositories of their own in which no
+/// tracked path lies, and those that are told by their names, as `folders` of the listing says. A submodule's folder is neither. Where the paths
+/// that aren't ignored are chosen, an ignored folder isn't gone into either. What isn't gone into is asked for its names only to know whether it
+/// is a repository, and an ignored folder isn't. The paths come in the order of their bytes, each once.
+///
+/// `tracked` is the index; an empty one tracks nothing.
 ///
 /// # Errors
 /// [`FilesFault::Empty`] and [`FilesFault::Outside`] where `told` leads nowhere, [`FilesFault::Base`] where the base of a list of `fronts` is no
@@ -72,23 +91,24 @@ pub struct Listing {
 pub fn run_files<S: FileSource, W: Write>(
     alloc: Global,
     listing: Listing,
+    tracked: &Index,
     source: &mut S,
     told: &[u8],
     writer: &mut Watched<W>,
 ) -> Result<(), FilesFault<S::Fault>>
     // On success, a line was written for each path that is listed, in their order, and nothing else.
     ensures lists { OnOk result ((paths : List (List ℕ)) × AllPairs ComesBefore paths
-        × Appends (W.contents (inner writer.old)) (W.contents (inner writer.new)) (flat_map (path_line listing.standpoint listing.form) paths)
+        × Appends (W.contents (inner writer.old)) (W.contents (inner writer.new)) (flat_map (path_line listing.mark listing.standpoint listing.form) paths)
         × ((tree : FileTree) → S.shows source.old tree → (path : List ℕ) →
-        Contains paths path ↔ (IsReached listing.standpoint (basis_of listing.fronts.items listing.case) tree told.now path × IsLeaf tree path))) }
+        Contains paths path ↔ (IsReached listing.standpoint (asked_basis listing tracked.now) tree told.now path × IsListed (asked_basis listing tracked.now) tree path))) }
     // After a fault that is none of the writer's, a front of some of these lines was.
     ensures front { OnErr result (has_failed writer.new ≡ false → (paths : List (List ℕ)) × AllPairs ComesBefore paths
-        × AppendsFront (W.contents (inner writer.old)) (W.contents (inner writer.new)) (flat_map (path_line listing.standpoint listing.form) paths)
+        × AppendsFront (W.contents (inner writer.old)) (W.contents (inner writer.new)) (flat_map (path_line listing.mark listing.standpoint listing.form) paths)
         × ((tree : FileTree) → S.shows source.old tree → (path : List ℕ) →
-        Contains paths path → (IsReached listing.standpoint (basis_of listing.fronts.items listing.case) tree told.now path × IsLeaf tree path))) }
+        Contains paths path → (IsReached listing.standpoint (asked_basis listing tracked.now) tree told.now path × IsListed (asked_basis listing tracked.now) tree path))) }
     // Each folder that the source is asked for its names is reached.
     ensures asks { GivesOnly (λ folder. (tree : FileTree) → S.shows source.old tree →
-        IsReached listing.standpoint (basis_of listing.fronts.items listing.case) tree told.now (start_of folder)) (S.asked source.old) (S.asked source.new) }
+        IsReached listing.standpoint (asked_basis listing tracked.now) tree told.now (start_of folder)) (S.asked source.old) (S.asked source.new) }
     ensures stays { StaysKnown S.shows source.old source.new }
     ensures base { IsErrOf result faults.Base → ¬ BasesAreFolders (map (entry_list_of {V = Unit {0}} (λ _. tt)) listing.fronts.items) }
     ensures empty { IsErrOf result faults.Empty → told.now ≡ [] }
@@ -99,9 +119,15 @@ pub fn run_files<S: FileSource, W: Write>(
     }
     let mut path = Vec::new(alloc);
     let is_told_folder = lead(alloc, &listing.standpoint, &mut path, told)?;
-    let mut lister = Lister::new(alloc, listing.fronts, listing.case);
+    let terms = Terms {
+        case: listing.case,
+        chosen: listing.chosen,
+        folders: listing.folders,
+        tracked,
+    };
+    let mut lister = Lister::new(alloc, listing.fronts, terms);
     lister.begin(source, path, is_told_folder)?;
-    let mut lines = PathLines::new(alloc, listing.standpoint, listing.form);
+    let mut lines = PathLines::new(alloc, listing.standpoint, listing.form, listing.mark);
     write_listed(&mut lister, &mut lines, source, writer)
 }
 
@@ -127,18 +153,18 @@ fn lead<F: Drop>(
 
 /// Visits all paths that are pending, and writes the lines of those that are listed.
 fn write_listed<S: FileSource, W: Write>(
-    lister: &mut Lister,
+    lister: &mut Lister<'_>,
     lines: &mut PathLines,
     source: &mut S,
     writer: &mut Watched<W>,
 ) -> Result<(), FilesFault<S::Fault>>
     requires folders { BasesAreFolders (seen_lists lister.old.on_way.lists.items) }
-    requires under_way { IsUnderWay lister.old.on_way.case [] lister.old.pending.items (seen_lists lister.old.on_way.lists.items) }
+    requires under_way { IsUnderWay lister.old.on_way.terms.case [] lister.old.pending.items (seen_lists lister.old.on_way.lists.items) }
     requires none { lines.old.text.items ≡ [] }
-    ensures ok { OnOk result (WritesAll (path_line lines.old.standpoint lines.old.form) (S.shows source.old) lister.old.on_way.case (beginning_of lister.old) (W.contents (inner writer.old)) (W.contents (inner writer.new))) }
+    ensures ok { OnOk result (WritesAll (path_line lines.old.mark lines.old.standpoint lines.old.form) (S.shows source.old) (terms_of lister.old.on_way.terms) (beginning_of lister.old) (W.contents (inner writer.old)) (W.contents (inner writer.new))) }
     ensures front { OnErr result (has_failed writer.new ≡ false →
-        WritesFront (path_line lines.old.standpoint lines.old.form) (S.shows source.old) lister.old.on_way.case (beginning_of lister.old) (W.contents (inner writer.old)) (W.contents (inner writer.new))) }
-    ensures asks { GivesOnly (λ folder. OfKnown (S.shows source.old) lister.old.on_way.case (beginning_of lister.old)
+        WritesFront (path_line lines.old.mark lines.old.standpoint lines.old.form) (S.shows source.old) (terms_of lister.old.on_way.terms) (beginning_of lister.old) (W.contents (inner writer.old)) (W.contents (inner writer.new))) }
+    ensures asks { GivesOnly (λ folder. OfKnown (S.shows source.old) (terms_of lister.old.on_way.terms) (beginning_of lister.old)
         (λ basis tree start. IsMet basis tree start (start_of folder))) (S.asked source.old) (S.asked source.new) }
     ensures stays { StaysKnown S.shows source.old source.new }
     ensures begun { IfErr result (λ fault. is_of_start fault ≡ false) }
@@ -160,10 +186,11 @@ fn write_line<W: Write, F: Drop>(
     writer: &mut Watched<W>,
 ) -> Result<(), FilesFault<F>>
     ensures ok { OnOk result (WritesOut (W.contents (inner writer.old)) (W.contents (inner writer.new))
-        (with_line (path_line lines.old.standpoint lines.old.form) lines.old.text.items (option_map vec_items listed)) lines.new.text.items) }
+        (with_line (path_line lines.old.mark lines.old.standpoint lines.old.form) lines.old.text.items (option_map vec_items listed)) lines.new.text.items) }
     ensures kept { OnErr result (has_failed writer.new ≡ false → writer.new ≡ writer.old) }
     ensures standpoint { lines.new.standpoint ≡ lines.old.standpoint }
     ensures form { lines.new.form ≡ lines.old.form }
+    ensures mark { lines.new.mark ≡ lines.old.mark }
     ensures begun { IfErr result (λ fault. is_of_start fault ≡ false) }
 {
     let Some(path) = listed else {

@@ -6,5 +6,6 @@ mod answering;
 pub mod check_attr;
 pub mod check_ignore;
 pub mod files;
+pub mod tracked_files;
 
 pub use answering::{answer_paths, answer_records};

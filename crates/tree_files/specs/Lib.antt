@@ -1,1 +1,4 @@
+pub mod Closed
+pub mod FileLists
+pub mod Indexed
 pub mod Telling

@@ -1,6 +1,7 @@
 //! Reading attribute files: their bytes, and the lines that say nothing.
 
 use crate::fault::CheckFault;
+use crate::indexed_files::IndexedFiles;
 use crate::seen_files::{file_list, seen_file_list};
 use crate::standing::{OwnFile, Standing, file_in, own_file, path_text, what_stands};
 use crate::telling::tell_line;
@@ -13,6 +14,9 @@ use std::fs::Metadata;
 use std::rt::Files;
 use tree_commands::check_attr::AttributeFolders;
 
+/// The name of a folder's own file of attributes.
+const ATTRIBUTE_FILE: &str = ".gitattributes";
+
 /// The length in bytes from which on a file is passed over.
 const FILE_LIMIT: u64 = 104_857_600;
 
@@ -21,12 +25,13 @@ const FILE_LIMIT: u64 = 104_857_600;
 pub struct AttributeFiles<'a, R> {
     rt: &'a R,
     alloc: Global,
+    indexed: &'a IndexedFiles,
 }
 
 impl<'a, R> AttributeFiles<'a, R> {
-    /// None was read yet.
-    pub fn new(rt: &'a R, alloc: Global) -> AttributeFiles<'a, R> {
-        AttributeFiles { rt, alloc }
+    /// None was read yet. Where one of those that are in the index isn't in the work tree, its folder is a fault.
+    pub fn new(rt: &'a R, alloc: Global, indexed: &'a IndexedFiles) -> AttributeFiles<'a, R> {
+        AttributeFiles { rt, alloc, indexed }
     }
 }
 
@@ -48,8 +53,9 @@ impl<'a, R: Files + Eprint> AttributeFiles<'a, R> {
 
     /// The bytes of the file of the top.
     pub fn top(&self) -> Result<Vec<u8>, CheckFault> {
+        self.indexed.check(self.rt, b"", ATTRIBUTE_FILE)?;
         let mut bytes = Vec::new(self.alloc);
-        let file = String::from_str(self.alloc, ".gitattributes")?;
+        let file = String::from_str(self.alloc, ATTRIBUTE_FILE)?;
         self.read_own(file, &mut bytes, true)?;
         Ok(bytes)
     }
@@ -116,12 +122,13 @@ impl<'a, R: Files + Eprint> AttributeFolders for AttributeFiles<'a, R> {
     ghost shows = { λ _ _ _. Unit {0} };
 
     fn read_file(&mut self, folder: &[u8], bytes: &mut Vec<u8>) -> Result<bool, CheckFault> {
+        self.indexed.check(self.rt, folder, ATTRIBUTE_FILE)?;
         let name = path_text(self.alloc, folder)?;
         match what_stands(self.rt, self.alloc, name.as_str())? {
             Standing::Nothing | Standing::Unseen => return Ok(false),
             Standing::Folder | Standing::Link => {}
         }
-        let file = file_in(self.alloc, name.as_str(), ".gitattributes")?;
+        let file = file_in(self.alloc, name.as_str(), ATTRIBUTE_FILE)?;
         self.read_own(file, bytes, false)
     }
 }

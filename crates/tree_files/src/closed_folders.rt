@@ -1,43 +1,49 @@
 //! Folders in which nothing can be seen: none stands there, or it can't be looked at.
+ghost use Rattle.std.specs.Prelude.{◌≡◌, ◌++◌, ◌∷◌, ◌⊎◌, ◌↔◌, [], IsTrue, List, OnOk, ℕ};
+ghost use Rattle.gix_glob.specs.Bytes.{slash};
+ghost use Rattle.tree_files.specs.Closed.{HasShut, IsClosed, is_shut};
 
-use glob_trees::KnownFolders;
 use std::alloc::{AllocError, Global};
+use std::collections::BTreeSet;
+use told_paths::folder_of;
 
 /// Folders in which nothing can be seen. What lies below one isn't looked at.
 #[derive(Drop)]
 pub(crate) struct ClosedFolders {
-    /// The one that was found or asked for last, with a slash behind it; no bytes where none was.
+    alloc: Global,
+    /// The one that was found last, with a slash behind it; no bytes where none was.
     last: Vec<u8>,
-    /// Those that can't be looked at, which was told, and the folders above them.
-    known: KnownFolders,
-    /// By its place, whether a folder can't be looked at.
-    are_shut: Vec<bool>,
+    /// Those that can't be looked at, which was told.
+    shut: BTreeSet<Vec<u8>>,
 }
 
 impl ClosedFolders {
     /// None was found yet.
-    pub(crate) fn new(alloc: Global) -> ClosedFolders {
+    pub(crate) fn new(alloc: Global) -> ClosedFolders
+        ensures none { (folder : List ℕ) → ¬ IsClosed result folder }
+    {
         ClosedFolders {
+            alloc,
             last: Vec::new(alloc),
-            known: KnownFolders::new(alloc),
-            are_shut: Vec::new(alloc),
+            shut: BTreeSet::new(alloc),
         }
     }
 
-    /// Whether a folder is known to be one that can't be looked at, or to lie below a folder in which nothing can be seen.
-    pub(crate) fn contain(&mut self, folder: &[u8]) -> Result<bool, AllocError> {
+    /// Whether a folder lies below the one that was found last, or is one that can't be looked at, or lies below such a one.
+    pub(crate) fn contain(&self, folder: &[u8]) -> bool
+        ensures { IsTrue result ↔ IsClosed self.now folder.now }
+    {
         if !self.last.is_empty() && folder.starts_with(&self.last) {
-            return Ok(true);
+            return true;
         }
-        let Some(front) = self.shut_front(folder) else {
-            return Ok(false);
-        };
-        self.miss(front)?;
-        Ok(true)
+        self.has_shut(folder)
     }
 
     /// Keeps that no folder stands there.
-    pub(crate) fn miss(&mut self, folder: &[u8]) -> Result<(), AllocError> {
+    pub(crate) fn miss(&mut self, folder: &[u8]) -> Result<(), AllocError>
+        ensures last { OnOk result (self.new.last.items ≡ folder.now ++ slash ∷ []) }
+        ensures shut { self.new.shut ≡ self.old.shut }
+    {
         self.last.clear();
         self.last.extend_from_slice(folder)?;
         self.last.push(b'/')?;
@@ -45,62 +51,27 @@ impl ClosedFolders {
     }
 
     /// Keeps that a folder can't be looked at.
-    pub(crate) fn shut(&mut self, folder: &[u8]) -> Result<(), AllocError> {
+    pub(crate) fn shut(&mut self, folder: &[u8]) -> Result<(), AllocError>
+        ensures last { OnOk result (self.new.last.items ≡ folder.now ++ slash ∷ []) }
+        ensures shut { OnOk result ((other : List ℕ) → IsTrue (is_shut self.new other) ↔ (IsTrue (is_shut self.old other) ⊎ (other ≡ folder.now))) }
+    {
         self.miss(folder)?;
-        if self.known.count() == 0 {
-            self.known.add_top()?;
-            self.are_shut.push(false)?;
-        }
-        let (mut outer, mut start) = (0, 0);
-        'bytes: for (end, byte) in folder.iter().enumerate() {
-            if *byte == b'/' {
-                outer = self.place_of(outer, &folder[..end], start)?;
-                start = end + 1;
-            }
-        }
-        let place = self.place_of(outer, folder, start)?;
-        if let Some(is_shut) = self.are_shut.get_mut(place) {
-            *is_shut = true;
-        }
+        let folder = Vec::from_slice(self.alloc, folder)?;
+        self.shut.insert(folder)?;
         Ok(())
     }
 
-    /// The place of a folder in the one at a place, of whose path the name begins there. It is known then.
-    fn place_of(&mut self, outer: usize, folder: &[u8], start: usize) -> Result<usize, AllocError> {
-        let Some(name) = folder.get(start..) else {
-            return Ok(outer);
-        };
-        match self.known.place_in(outer, name) {
-            Some(place) => Ok(place),
-            None if outer < self.known.count() => {
-                self.are_shut.push(false)?;
-                self.known.add(outer, name)
+    /// Whether a folder can't be looked at, or one above it.
+    fn has_shut(&self, folder: &[u8]) -> bool
+        ensures { IsTrue result ↔ HasShut self.now folder.now }
+    {
+        let mut front = folder;
+        'fronts: while !self.shut.contains(front) {
+            if front.is_empty() {
+                return false;
             }
-            None => Ok(outer),
+            front = folder_of(front);
         }
-    }
-
-    /// The folder on the way to one, or itself, that can't be looked at.
-    fn shut_front<'f>(&self, folder: &'f [u8]) -> Option<&'f [u8]> {
-        let (mut outer, mut start) = (0, 0);
-        'bytes: for (end, byte) in folder.iter().enumerate() {
-            if *byte == b'/' {
-                outer = self.known.place_in(outer, folder.get(start..end)?)?;
-                if self.is_shut(outer) {
-                    return folder.get(..end);
-                }
-                start = end + 1;
-            }
-        }
-        let place = self.known.place_in(outer, folder.get(start..)?)?;
-        self.is_shut(place).then_some(folder)
-    }
-
-    /// Whether the folder at a place can't be looked at.
-    fn is_shut(&self, place: usize) -> bool {
-        match self.are_shut.get(place) {
-            Some(is_shut) => *is_shut,
-            None => false,
-        }
+        true
     }
 }

@@ -27,6 +27,9 @@ pub enum CheckFault {
     /// The path leads out of the work tree.
     #[error("'{0}' is outside the work tree")]
     Outside(String),
+    /// What stands behind the word's colon isn't the sign of the top.
+    #[error("'{0}' has another sign before its path than that of the top")]
+    Unspelt(String),
     /// The path leads into a submodule.
     #[error("'{0}' is in a submodule")]
     InSubmodule(String),
@@ -37,6 +40,12 @@ pub enum CheckFault {
     /// answer about a path has room for one.
     #[error("{0}")]
     Unready(String),
+    /// A file of patterns isn't in the work tree, and Git reads it from the index.
+    #[error("'{0}' is in the index alone, from which it isn't read")]
+    InIndexAlone(String),
+    /// What makes a folder a repository of its own can't be told.
+    #[error("{0}")]
+    Repository(String),
     /// A folder or a path that has to be looked at has a name that is no UTF-8 text.
     #[error("'{0}' is no UTF-8 text, so it can't be opened")]
     NotText(String),
@@ -77,6 +86,7 @@ impl CheckFault {
             IgnoreFault::Memory => CheckFault::Memory,
             IgnoreFault::Empty => CheckFault::Empty,
             IgnoreFault::Outside(told) => CheckFault::of_outside(alloc, &told),
+            IgnoreFault::Unspelt(word) => CheckFault::of_unspelt(alloc, &word),
             IgnoreFault::InSubmodule(told) => CheckFault::of_submodule(alloc, &told),
             IgnoreFault::BadlyQuoted => CheckFault::BadlyQuoted,
             IgnoreFault::Source(fault) => fault,
@@ -97,6 +107,14 @@ impl CheckFault {
     fn of_outside(alloc: Global, told: &[u8]) -> CheckFault {
         match String::from_utf8_lossy(alloc, told) {
             Ok(text) => CheckFault::Outside(text),
+            Err(_refused) => CheckFault::Memory,
+        }
+    }
+
+    /// The fault of a word that spells no path.
+    fn of_unspelt(alloc: Global, word: &[u8]) -> CheckFault {
+        match String::from_utf8_lossy(alloc, word) {
+            Ok(text) => CheckFault::Unspelt(text),
             Err(_refused) => CheckFault::Memory,
         }
     }

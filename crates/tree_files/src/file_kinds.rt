@@ -12,12 +12,26 @@ use tree_commands::check_ignore::PathKinds;
 pub struct FileKinds<'a, R> {
     rt: &'a R,
     alloc: Global,
+    refuses_links: bool,
 }
 
 impl<'a, R> FileKinds<'a, R> {
     /// Nothing was looked at yet.
     pub fn new(rt: &'a R, alloc: Global) -> FileKinds<'a, R> {
-        FileKinds { rt, alloc }
+        FileKinds {
+            rt,
+            alloc,
+            refuses_links: true,
+        }
+    }
+
+    /// The same of paths that are tracked: none is refused for a link that stands above it now.
+    pub fn of_tracked(rt: &'a R, alloc: Global) -> FileKinds<'a, R> {
+        FileKinds {
+            rt,
+            alloc,
+            refuses_links: false,
+        }
     }
 }
 
@@ -37,6 +51,9 @@ impl<'a, R: Files> PathKinds for FileKinds<'a, R> {
     }
 
     fn check_folder(&mut self, folder: &[u8]) -> Result<bool, CheckFault> {
+        if !self.refuses_links {
+            return Ok(false);
+        }
         let name = path_text(self.alloc, folder)?;
         match fs::symlink_metadata(self.rt, name.as_str()) {
             Ok(found) if found.is_symlink() => Err(CheckFault::BeyondLink(name)),

@@ -1,15 +1,19 @@
 //! What a real work tree tells `files`: the names in its folders, what stands there, and their ignore files. What can't be looked at is told.
+ghost use Rattle.std.specs.Prelude.{◌≡◌, ◌⊎◌, IfOk, MatchBool, MatchOption};
+ghost use Rattle.std.specs.Fs.{IsDir, IsFile, IsSymlink};
+ghost use Rattle.tree_commands.specs.Files.{is_folder};
 
 use crate::fault::CheckFault;
 use crate::folder_names::NameReader;
+use crate::indexed_files::IndexedFiles;
+use crate::nested::NestedRepositories;
 use crate::seen_files::seen_file_list;
-use crate::sources::{BY_GIT, FolderFiles};
+use crate::sources::{BY_GIT, FolderFiles, IGNORE_FILE};
 use crate::standing::{OwnFile, file_in, own_file};
 use crate::telling::tell_line;
 use gix_glob::search::pattern::List;
 use glob_lines::IgnoreLines;
 use glob_trees::{FolderLists, list_in_folder};
-use memchr::memrchr;
 use repository_files::Sight;
 use std::alloc::{AllocError, Global};
 use std::fmt::Display;
@@ -17,6 +21,7 @@ use std::fs::FileType;
 use std::io::ErrorKind;
 use std::rt::Files;
 use std::{fs, io};
+use told_paths::folder_of;
 use tree_commands::files::source::{EntryKind, FileSource, FolderNames};
 
 /// The folders below the one that the program stands in.
@@ -27,6 +32,7 @@ pub struct TreeFiles<'a, R: Files + Eprint> {
     reader: NameReader,
     /// The ignore files of the folders above the path at which the listing begins.
     above: FolderFiles<'a, R>,
+    nested: NestedRepositories<'a, R>,
     /// The bytes of the file of patterns that was read last.
     bytes: Vec<u8>,
     /// Whether a folder was entered: till then the path is looked at at which the listing begins, and the folders above it.
@@ -36,13 +42,19 @@ pub struct TreeFiles<'a, R: Files + Eprint> {
 }
 
 impl<'a, R: Files + Eprint> TreeFiles<'a, R> {
-    /// Nothing was looked at yet.
-    pub fn new(rt: &'a R, alloc: Global) -> Result<TreeFiles<'a, R>, AllocError> {
+    /// Nothing was looked at yet. Where an ignore file that is in the index isn't in the work tree, what lies in its folder can't be listed.
+    pub fn new(
+        rt: &'a R,
+        alloc: Global,
+        indexed: &'a IndexedFiles,
+        nested: NestedRepositories<'a, R>,
+    ) -> Result<TreeFiles<'a, R>, AllocError> {
         Ok(TreeFiles {
             rt,
             alloc,
             reader: NameReader::new(alloc)?,
-            above: FolderFiles::new(rt, alloc),
+            above: FolderFiles::new(rt, alloc, indexed),
+            nested,
             bytes: Vec::new(alloc),
             has_begun: false,
             is_short: false,
@@ -52,6 +64,15 @@ impl<'a, R: Files + Eprint> TreeFiles<'a, R> {
     /// Whether something couldn't be read.
     pub fn is_short(&self) -> bool {
         self.is_short
+    }
+
+    /// What is found in a folder of which these are the names.
+    fn found_in(&self, folder: &[u8], bytes: Vec<u8>) -> Result<FolderNames, CheckFault> {
+        let mut found = FolderNames::of_names(bytes);
+        if found.has_git && !folder.is_empty() {
+            found.has_git = self.is_repository(folder)?;
+        }
+        Ok(found)
     }
 
     /// What is found in a folder whose names can't be read: where it is a repository of its own, that is known. Else the error is told.
@@ -95,13 +116,14 @@ impl<'a, R: Files + Eprint> TreeFiles<'a, R> {
 
     /// Whether a folder is the top of a repository of its own.
     fn is_repository(&self, folder: &[u8]) -> Result<bool, CheckFault> {
-        let file = file_in(self.alloc, text_of(self.alloc, folder)?, ".git")?;
-        Ok(fs::symlink_metadata(self.rt, file.as_str()).is_ok())
+        let git = file_in(self.alloc, text_of(self.alloc, folder)?, ".git")?;
+        self.nested.has(git.as_bytes())
     }
 
     /// The list of the ignore file of a folder that was entered, without its base.
     fn own_list(&mut self, folder: &[u8]) -> Result<List<IgnoreLines>, CheckFault> {
-        let file = file_in(self.alloc, text_of(self.alloc, folder)?, ".gitignore")?;
+        self.above.check_indexed(folder)?;
+        let file = file_in(self.alloc, text_of(self.alloc, folder)?, IGNORE_FILE)?;
         let OwnFile::Found(found) = own_file(self.rt, self.alloc, file.as_str())? else {
             return Ok(List::empty(self.alloc));
         };
@@ -146,7 +168,7 @@ impl<'a, R: Files + Eprint> FileSource for TreeFiles<'a, R> {
             text_of(self.alloc, folder)?
         };
         match self.reader.read(self.rt, name) {
-            Ok(bytes) => self.with_texts(folder, FolderNames::of_names(bytes)),
+            Ok(bytes) => self.with_texts(folder, self.found_in(folder, bytes)?),
             Err(error) => self.without_names(folder, error),
         }
     }
@@ -188,7 +210,9 @@ impl<'a, R: Files + Eprint> FileSource for TreeFiles<'a, R> {
 }
 
 /// What it is that is listed, if anything.
-fn kind_of(kind: FileType) -> Option<EntryKind> {
+fn kind_of(kind: FileType) -> Option<EntryKind>
+    ensures { MatchOption result (¬ IsDir kind × ¬ IsFile kind × ¬ IsSymlink kind) (λ found. MatchBool (is_folder found) (IsDir kind) (IsFile kind ⊎ IsSymlink kind)) }
+{
     if kind.is_dir() {
         Some(EntryKind::Folder)
     } else if kind.is_file() || kind.is_symlink() {
@@ -198,16 +222,10 @@ fn kind_of(kind: FileType) -> Option<EntryKind> {
     }
 }
 
-/// The path of the folder that a path lies in.
-fn folder_of(path: &[u8]) -> &[u8] {
-    match memrchr(b'/', path) {
-        Some(at) => &path[..at],
-        None => b"",
-    }
-}
-
 /// A path as text, which is what the system is asked by.
-fn text_of(alloc: Global, path: &[u8]) -> Result<&str, CheckFault> {
+fn text_of(alloc: Global, path: &[u8]) -> Result<&str, CheckFault>
+    ensures { IfOk result (λ text. text.now ≡ path.entry.now) }
+{
     match str::from_utf8(path) {
         Ok(text) => Ok(text),
         Err(_bad) => Err(CheckFault::NotText(String::from_utf8_lossy(alloc, path)?)),

@@ -1,5 +1,10 @@
 //! Files of patterns, each opened as it was looked at: what stands under its name at the second look has to be what stood there at the
 //! first.
+ghost use Rattle.std.specs.Prelude.{◌≡◌, ◌⊎◌, ◌↔◌, [], IfOk, IfSome, IsTrue, Ok, None, Some, string_bytes};
+ghost use Rattle.std.specs.IoError.{error_kind};
+ghost use Rattle.std.specs.declared.io.ErrorKind.TheVariants as kinds;
+ghost use Rattle.gix_glob.specs.EntryLists.{entry_list_of};
+ghost use Rattle.tree_files.specs.FileLists.{IsOfFile};
 
 use crate::fault::CheckFault;
 use crate::standing::tell_unread;
@@ -22,7 +27,9 @@ pub fn named_list<T: search::Pattern, R: Files>(
     file: String,
     bytes: &mut Vec<u8>,
     parser: T,
-) -> Result<Option<List<T>>, LoadFault> {
+) -> Result<Option<List<T>>, LoadFault>
+    ensures { IfOk result (λ read. IfSome read (λ list. IsOfFile (T.meaning parser) (string_bytes file) (entry_list_of T.seen list))) }
+{
     bytes.clear();
     let seen = match fs::metadata(rt, file.as_str()) {
         Ok(found) => Sight::of(&found),
@@ -43,7 +50,9 @@ pub(crate) fn seen_list<T: search::Pattern, R: Files>(
     seen: &Sight,
     bytes: &mut Vec<u8>,
     parser: T,
-) -> Result<Option<List<T>>, LoadFault> {
+) -> Result<Option<List<T>>, LoadFault>
+    ensures { IfOk result (λ read. IfSome read (λ list. IsOfFile (T.meaning parser) (string_bytes file) (entry_list_of T.seen list))) }
+{
     bytes.clear();
     match open_seen(rt, file.as_str(), seen) {
         Ok(Some(opened)) => {
@@ -64,7 +73,9 @@ fn unread(reason: &'static str) -> LoadFault {
 }
 
 /// Why there is no list of a file that can't be opened.
-fn not_opened<L>(error: io::Error) -> Result<Option<L>, LoadFault> {
+fn not_opened<L>(error: io::Error) -> Result<Option<L>, LoadFault>
+    ensures { IfOk result (λ read. read ≡ None) }
+{
     match error.kind() {
         ErrorKind::OutOfMemory => Err(LoadFault::Memory),
         // (it was removed since)
@@ -81,7 +92,9 @@ pub fn file_list<T: search::Pattern, R: Files + Eprint>(
     file: String,
     bytes: &mut Vec<u8>,
     parser: T,
-) -> Result<List<T>, CheckFault> {
+) -> Result<List<T>, CheckFault>
+    ensures { IfOk result (λ list. IsOfFile (T.meaning parser) (string_bytes file) (entry_list_of T.seen list)) }
+{
     let name = file.clone()?;
     let list = named_list(rt, alloc, file, bytes, parser);
     list_or_told(rt, alloc, name.as_str(), list, bytes)
@@ -95,7 +108,9 @@ pub(crate) fn seen_file_list<T: search::Pattern, R: Files + Eprint>(
     seen: &Sight,
     bytes: &mut Vec<u8>,
     parser: T,
-) -> Result<List<T>, CheckFault> {
+) -> Result<List<T>, CheckFault>
+    ensures { IfOk result (λ list. IsOfFile (T.meaning parser) (string_bytes file) (entry_list_of T.seen list)) }
+{
     let name = file.clone()?;
     let list = seen_list(rt, alloc, file, seen, bytes, parser);
     list_or_told(rt, alloc, name.as_str(), list, bytes)
@@ -108,7 +123,9 @@ fn list_or_told<T: search::Pattern, R: Eprint>(
     name: &str,
     list: Result<Option<List<T>>, LoadFault>,
     bytes: &mut Vec<u8>,
-) -> Result<List<T>, CheckFault> {
+) -> Result<List<T>, CheckFault>
+    ensures { IfOk result (λ read. (list ≡ Ok (Some read)) ⊎ (read.patterns.items ≡ [])) }
+{
     match list {
         Ok(Some(list)) => Ok(list),
         Ok(None) => Ok(List::empty(alloc)),
@@ -126,6 +143,8 @@ fn list_or_told<T: search::Pattern, R: Eprint>(
 }
 
 /// Whether an error says that the same may be done the next time.
-fn is_passing(error: &io::Error) -> bool {
+fn is_passing(error: &io::Error) -> bool
+    ensures { IsTrue result ↔ ((error_kind error.now ≡ kinds.Interrupted) ⊎ (error_kind error.now ≡ kinds.WouldBlock)) }
+{
     matches!(error.kind(), ErrorKind::Interrupted | ErrorKind::WouldBlock)
 }

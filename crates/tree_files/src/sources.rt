@@ -1,7 +1,12 @@
 //! The ignore files of folders.
+ghost use Rattle.std.specs.Prelude.{IfOk, codes};
+ghost use Rattle.gix_glob.specs.EntryLists.{entry_list_of};
+ghost use Rattle.told_paths.specs.Paths.{below};
+ghost use Rattle.tree_files.specs.FileLists.{IsOfFolder, IsSpelled};
 
 use crate::closed_folders::ClosedFolders;
 use crate::fault::CheckFault;
+use crate::indexed_files::IndexedFiles;
 use crate::seen_files::seen_file_list;
 use crate::standing::{OwnFile, Standing, file_in, own_file, path_text, what_stands};
 use gix_glob::search::pattern::List;
@@ -17,6 +22,9 @@ pub const BY_GIT: IgnoreLines = IgnoreLines {
     reading: Reading::Git,
 };
 
+/// The name of a folder's own file of patterns.
+pub(crate) const IGNORE_FILE: &str = ".gitignore";
+
 /// The ignore files of the folders below the one that the program stands in.
 #[derive(Drop)]
 pub struct FolderFiles<'a, R> {
@@ -25,23 +33,32 @@ pub struct FolderFiles<'a, R> {
     /// The bytes of the file that was read last.
     bytes: Vec<u8>,
     closed: ClosedFolders,
+    indexed: &'a IndexedFiles,
 }
 
 impl<'a, R> FolderFiles<'a, R> {
-    /// None was read yet.
-    pub fn new(rt: &'a R, alloc: Global) -> FolderFiles<'a, R> {
+    /// None was read yet. Where one of those that are in the index isn't in the work tree, a list of its folder is a fault.
+    pub fn new(rt: &'a R, alloc: Global, indexed: &'a IndexedFiles) -> FolderFiles<'a, R> {
         FolderFiles {
             rt,
             alloc,
             bytes: Vec::new(alloc),
             closed: ClosedFolders::new(alloc),
+            indexed,
         }
     }
 }
 
 impl<'a, R: Files + Eprint> FolderFiles<'a, R> {
+    /// Refuses a folder whose file the index alone has.
+    pub(crate) fn check_indexed(&self, folder: &[u8]) -> Result<(), CheckFault> {
+        self.indexed.check(self.rt, folder, IGNORE_FILE)
+    }
+
     /// The list of a folder that isn't known to be missing, without its base.
-    fn own_list(&mut self, folder: &[u8]) -> Result<List<IgnoreLines>, CheckFault> {
+    fn own_list(&mut self, folder: &[u8]) -> Result<List<IgnoreLines>, CheckFault>
+        ensures { IfOk result (λ list. IsOfFolder folder.now (entry_list_of {V = Unit {0}} (λ _. tt) list)) }
+    {
         let name = path_text(self.alloc, folder)?;
         match what_stands(self.rt, self.alloc, name.as_str())? {
             Standing::Link => Err(CheckFault::BeyondLink(name)),
@@ -58,8 +75,10 @@ impl<'a, R: Files + Eprint> FolderFiles<'a, R> {
     }
 
     /// The list of the file of a folder that is there.
-    fn file_list(&mut self, folder: &[u8], name: &str) -> Result<List<IgnoreLines>, CheckFault> {
-        let file = file_in(self.alloc, name, ".gitignore")?;
+    fn file_list(&mut self, folder: &[u8], name: &str) -> Result<List<IgnoreLines>, CheckFault>
+        ensures { IfOk result (λ list. IsSpelled (below name.now (codes ".gitignore")) (entry_list_of {V = Unit {0}} (λ _. tt) list)) }
+    {
+        let file = file_in(self.alloc, name, IGNORE_FILE)?;
         match own_file(self.rt, self.alloc, file.as_str())? {
             OwnFile::Found(found) => {
                 let seen = Sight::of(&found);
@@ -77,12 +96,13 @@ impl<'a, R: Files + Eprint> FolderFiles<'a, R> {
 impl<'a, R: Files + Eprint> FolderLists<IgnoreLines> for FolderFiles<'a, R> {
     type Fault = CheckFault;
 
-    ghost shows = { λ _ _ _ _. Unit {0} };
+    ghost shows = { λ _ _. IsOfFolder };
 
     ghost gave = { λ _ _. ⊥ };
 
     fn list_of(&mut self, folder: &[u8]) -> Result<List<IgnoreLines>, CheckFault> {
-        let list = if self.closed.contain(folder)? {
+        self.check_indexed(folder)?;
+        let list = if self.closed.contain(folder) {
             List::empty(self.alloc)
         } else {
             self.own_list(folder)?

@@ -1,5 +1,7 @@
 //! What stands in the file system under a name.
-ghost use Rattle.std.specs.Prelude.{◌≡◌, IfOk, string_bytes};
+ghost use Rattle.std.specs.Prelude.{◌≡◌, ◌≢◌, ◌↔◌, IfOk, IsTrue, string_bytes};
+ghost use Rattle.std.specs.IoError.{error_kind};
+ghost use Rattle.std.specs.declared.io.ErrorKind.TheVariants as kinds;
 ghost use Rattle.told_paths.specs.Paths.{below};
 
 use crate::fault::CheckFault;
@@ -106,7 +108,9 @@ pub(crate) fn own_file<R: Files + Eprint>(
 }
 
 /// Whether an error says more than that a file isn't there.
-fn is_fault(error: &io::Error) -> bool {
+fn is_fault(error: &io::Error) -> bool
+    ensures { IsTrue result ↔ ((error_kind error.now ≢ kinds.NotFound) × (error_kind error.now ≢ kinds.NotADirectory)) }
+{
     !matches!(error.kind(), ErrorKind::NotFound | ErrorKind::NotADirectory)
 }
 

@@ -1,6 +1,11 @@
 pub mod CheckAttr
 pub mod CheckIgnore
+pub mod Config
 pub mod Files
+pub mod Help
+pub mod Names
 pub mod Operands
 pub mod Private
+pub mod Status
+pub mod WordFaults
 pub mod Words

@@ -5,8 +5,11 @@ use Rattle.std.specs.Option.{option_and_then, option_copied, option_to_list}
 use Rattle.std.specs.Str.{bytes_eq}
 use Rattle.tree_words.specs.CheckAttr as check_attr
 use Rattle.tree_words.specs.CheckIgnore as check_ignore
+use Rattle.tree_words.specs.Config as config
 use Rattle.tree_words.specs.Files as files
+use Rattle.tree_words.specs.Help.{AsksHelp}
 use Rattle.tree_words.specs.Operands.{IsOnly, flags_among}
+use Rattle.tree_words.specs.Status as status
 use Rattle.tree_words.specs.declared.command.Command.{Command}
 use Rattle.tree_words.specs.declared.command.Command.TheVariants as command
 use Rattle.tree_words.specs.declared.options.Options.{Options}
@@ -52,14 +55,19 @@ pub record HasValues (tolds : List Told) (options : Options) : Type 0 where
 -- ---- the command
 
 abbrev pub IsCommand : List (List ℕ) → Command → Type 0
-IsCommand words command.Help = (rest : List (List ℕ)) × ((words ≡ codes "--help" ∷ rest) ⊎ (words ≡ codes "-h" ∷ rest))
+IsCommand words (command.Help None) = (rest : List (List ℕ)) × ((words ≡ codes "--help" ∷ rest) ⊎ (words ≡ codes "-h" ∷ rest))
+IsCommand words (command.Help (Some name)) = AsksHelp words name
 IsCommand words command.Version = (rest : List (List ℕ)) × (words ≡ codes "--version" ∷ rest)
 IsCommand words (command.CheckIgnore flags rest) =
     (words ≡ codes "check-ignore" ∷ map string_bytes rest.now) × (flags_among check_ignore.with_name check_ignore.with_letter check_ignore.none (map string_bytes rest.now) ≡ Some flags)
 IsCommand words (command.CheckAttr flags rest) =
     (words ≡ codes "check-attr" ∷ map string_bytes rest.now) × (flags_among check_attr.with_name check_attr.with_letter check_attr.none (map string_bytes rest.now) ≡ Some flags)
+IsCommand words (command.Config flags rest) =
+    (words ≡ codes "config" ∷ map string_bytes rest.now) × (flags_among config.with_name config.with_letter config.none (map string_bytes rest.now) ≡ Some flags)
+IsCommand words (command.Status flags rest) =
+    (words ≡ codes "status" ∷ map string_bytes rest.now) × (flags_among status.with_name status.with_letter status.none (map string_bytes rest.now) ≡ Some flags)
 IsCommand words (command.Files flags folder) =
-    (rest : List (List ℕ)) × (words ≡ codes "files" ∷ rest) × (flags_among files.with_name (λ _ _. None) files.none rest ≡ Some flags) × IsOnly rest (codes ".") folder.now
+    (rest : List (List ℕ)) × (words ≡ codes "files" ∷ rest) × (flags_among files.with_name files.with_letter files.none rest ≡ Some flags) × IsOnly rest (codes ".") folder.now
 
 -- ---- both
 

@@ -1,8 +1,11 @@
 //! What the options behind a command ask for.
-ghost use Rattle.std.specs.Prelude.{◌≡◌, map, string_bytes};
+ghost use Rattle.std.specs.Prelude.{◌≡◌, None, Some, MatchResult, is_some, map, string_bytes};
 ghost use Rattle.tree_words.specs.Operands.{flags_among, with_letters, with_option};
+ghost use Rattle.tree_words.specs.Private.WordFaults.{NamesUnknown};
 
+use crate::names::CommandName;
 use crate::operands::is_option;
+use crate::word_fault::WordFault;
 
 /// What the options of a command ask for.
 pub(crate) trait CommandFlags: Copy + Drop {
@@ -24,21 +27,34 @@ pub(crate) trait CommandFlags: Copy + Drop {
 }
 
 /// The flags of a command that has `none` without options, with those of its words. Options may stand behind operands; behind `--`
-/// there is none. `None` where the command has no such option.
-pub(crate) fn flags_of<F: CommandFlags>(none: F, words: &[String]) -> Option<F>
-    ensures { result ≡ flags_among F.named F.lettered none (map string_bytes words.now) }
+/// there is none.
+///
+/// # Errors
+/// At the first option that the command hasn't.
+pub(crate) fn flags_of<'a, F: CommandFlags>(
+    command: CommandName,
+    none: F,
+    words: &'a [String],
+) -> Result<F, WordFault<'a>>
+    ensures { MatchResult result
+        (λ flags. flags_among F.named F.lettered none (map string_bytes words.now) ≡ Some flags)
+        (λ fault. (flags_among F.named F.lettered none (map string_bytes words.now) ≡ None)
+        × NamesUnknown command (λ front. is_some (flags_among F.named F.lettered none front)) (map string_bytes words.now) fault) }
 {
     let mut flags = none;
     'words: for word in words {
         let word = word.as_str();
         if word == "--" {
-            return Some(flags);
+            return Ok(flags);
         }
         if is_option(word) {
-            flags = with_option(flags, word)?;
+            let Some(more) = with_option(flags, word) else {
+                return Err(WordFault::UnknownOptionOf { command, word });
+            };
+            flags = more;
         }
     }
-    Some(flags)
+    Ok(flags)
 }
 
 /// Flags with those of a word more. `None` where the command has no such option.

@@ -1,8 +1,11 @@
 //! The operands of a command: the words behind it that are no options, and all behind `--`.
-ghost use Rattle.std.specs.Prelude.{◌≡◌, ◌≤◌, ℕ, List, IfOk, IfSome, MatchOption, length, map, string_bytes};
+ghost use Rattle.std.specs.Prelude.{◌≡◌, ◌≤◌, ℕ, List, IfOk, IfSome, MatchResult, length, map, string_bytes};
 ghost use Rattle.std.specs.Borrow.{Bor};
 ghost use Rattle.tree_words.specs.Operands.{IsOnly, dashes_at, is_option, operands_among};
+ghost use Rattle.tree_words.specs.Private.WordFaults.{NamesSecond};
 
+use crate::names::CommandName;
+use crate::word_fault::WordFault;
 use std::alloc::{AllocError, Global};
 
 /// The words that are no options.
@@ -38,9 +41,18 @@ pub fn operands_of(alloc: Global, words: &[String]) -> Result<Operands<'_>, Allo
     Ok(operands)
 }
 
-/// The only operand among the words behind a command, and `usual` where there is none; `None` where there are more.
-pub(crate) fn only_operand<'a>(words: &'a [String], usual: &'a str) -> Option<&'a str>
-    ensures { MatchOption result ((word : List ℕ) → ¬ IsOnly (map string_bytes words.now) usual.now word) (λ only. IsOnly (map string_bytes words.now) usual.now only.now) }
+/// The only operand among the words behind a command, and `usual` where there is none.
+///
+/// # Errors
+/// At the second one.
+pub(crate) fn only_operand<'a>(
+    command: CommandName,
+    words: &'a [String],
+    usual: &'a str,
+) -> Result<&'a str, WordFault<'a>>
+    ensures { MatchResult result
+        (λ only. IsOnly (map string_bytes words.now) usual.now only.now)
+        (λ fault. ((word : List ℕ) → ¬ IsOnly (map string_bytes words.now) usual.now word) × NamesSecond command (map string_bytes words.now) fault) }
 {
     let mut only = None;
     let mut is_behind = false;
@@ -50,12 +62,12 @@ pub(crate) fn only_operand<'a>(words: &'a [String], usual: &'a str) -> Option<&'
             is_behind = true;
         } else if is_behind || !is_option(word) {
             if only.is_some() {
-                return None;
+                return Err(WordFault::Surplus { command, word });
             }
             only = Some(word);
         }
     }
-    Some(only.unwrap_or(usual))
+    Ok(only.unwrap_or(usual))
 }
 
 /// Whether a word is an option: a dash stands at its front, and more behind it.

@@ -1,10 +1,11 @@
 //! The options before the command.
-ghost use Rattle.std.specs.Prelude.{◌≡◌, ℕ, true, List, IfOk, MatchOption, map, string_bytes};
+ghost use Rattle.std.specs.Prelude.{◌≡◌, ℕ, true, List, IfOk, MatchResult, map, string_bytes};
 ghost use Rattle.std.specs.Borrow.{Bor};
 ghost use Rattle.std.specs.List.{AllByRecursion, flat_map};
 ghost use Rattle.tree_words.specs.Words.{IsTold, Told, takes_value, values_among, written};
 ghost use Rattle.tree_words.specs.Private.Options.{AreTold, LacksValue, Sets};
 
+use crate::word_fault::WordFault;
 use std::alloc::{AllocError, Global};
 
 /// What is asked for before the command. Where an option stands there twice, the last one counts.
@@ -29,9 +30,14 @@ pub struct Options<'a> {
     pub attributes: Option<&'a str>,
 }
 
-/// The options before the command, and the words behind them; `None` where the value of the last one is missing.
-pub(crate) fn options_of(words: &[String]) -> Option<(Options<'_>, &[String])>
-    ensures { MatchOption result (LacksValue (map string_bytes words.now)) (λ read. AreTold (map string_bytes words.now) read.0 (map string_bytes read.1.now)) }
+/// The options before the command, and the words behind them.
+///
+/// # Errors
+/// Where the value of the last one is missing.
+pub(crate) fn options_of(words: &[String]) -> Result<(Options<'_>, &[String]), WordFault<'_>>
+    ensures { MatchResult result
+        (λ read. AreTold (map string_bytes words.now) read.0 (map string_bytes read.1.now))
+        (LacksValue (map string_bytes words.now)) }
 {
     let mut options = Options {
         words: &[],
@@ -47,7 +53,9 @@ pub(crate) fn options_of(words: &[String]) -> Option<(Options<'_>, &[String])>
     'words: while let Some((word, rest)) = left.split_first() {
         let word = word.as_str();
         if takes_value(word) {
-            let (value, behind) = rest.split_first()?;
+            let Some((value, behind)) = rest.split_first() else {
+                return Err(WordFault::NoValue { option: word });
+            };
             options = with_value(options, word, value.as_str());
             left = behind;
         } else if word == "--ignore-case" {
@@ -65,7 +73,7 @@ pub(crate) fn options_of(words: &[String]) -> Option<(Options<'_>, &[String])>
         words: before,
         ..options
     };
-    Some((options, left))
+    Ok((options, left))
 }
 
 /// The values of an option, in order, among the words before a command, as `Options::words` has them.

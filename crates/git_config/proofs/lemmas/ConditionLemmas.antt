@@ -6,7 +6,7 @@ use Rattle.std.proofs.lemmas.Bool.{false≢true}
 use Rattle.std.proofs.lemmas.List.{append_cancel_left, take-append-drop}
 use Rattle.glob_matcher.specs.Matching.{Splits}
 use Rattle.git_config.specs.declared.surroundings.Surroundings.{Surroundings}
-use Rattle.git_config.specs.Includes.{Holds}
+use Rattle.git_config.specs.Includes.{HasUrl, Holds}
 use lib.Pointwise.{bytes_decides, pointwise}
 
 -- ---- a word in front
@@ -37,9 +37,6 @@ behind_as (Some x) front text h = stripped front text h.0 ∙ ap (λ (l : List �
 -- other words stand there
 other_word : (a b : List ℕ) (n : ℕ) → pointwise nat_eq (take n a) (take n b) ≡ false → pointwise nat_eq (take n b) (take n b) ≡ true → a ≡ b → ⊥
 other_word a b n differs same e = false≢true (sym differs ∙ ap (λ (l : List ℕ). pointwise nat_eq (take n l) (take n b)) e ∙ same)
-
-abbrev pub HasUrl : Surroundings → List ℕ → Type 0
-HasUrl around told = Any (λ url. Splits url.items told (record { 0 = 1 })) around.urls.items
 
 module _ (around : Surroundings) (real : Option (List ℕ)) where
   of_url : (told : List ℕ) → Holds around real (codes "hasconfig:remote.*.url:" ++ told) → HasUrl around told

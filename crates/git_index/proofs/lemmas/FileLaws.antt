@@ -10,8 +10,8 @@ use Rattle.std.proofs.lemmas.Slice.Eq.{starts_is}
 use Rattle.git_index.specs.declared.checksum.ObjectFormat.{ObjectFormat}
 use Rattle.git_index.specs.declared.fault.IndexFault.{IndexFault}
 use Rattle.git_index.specs.declared.fault.IndexFault.TheVariants.{Cut, Signature, Version}
-use Rattle.git_index.specs.Entries.{InOrder, Tracked}
-use Rattle.git_index.specs.Format.{ArePassedOver, HasRoom, IsChecksum, IsIndexFile, hash_len}
+use Rattle.git_index.specs.Entries.{Tracked}
+use Rattle.git_index.specs.Format.{HasRoom, IsChecksum, IsFile, hash_len}
 use Rattle.git_index.specs.Private.Reading.{◌>>=◌, Finds, entries_at, header_at, number_at, room_of, skipped}
 use Rattle.git_index.proofs.lemmas.EntryLaws.{entries_again, entries_take}
 use Rattle.git_index.proofs.lemmas.Fields.{IsBytes, IsBytes-behind, IsBytes-front, IsBytes-take, bind_ok, guard_ok, number_again, number_takes, ok_is, skipped_again, wide32}
@@ -81,8 +81,8 @@ header_again version count rest low high few =
 -- what a reader found, told by what it has in hand
 pub finds_by : (format : ObjectFormat) (bytes content checksum : List ℕ) (h : ℕ) (header : Header) (room : ℕ) (es : List Tracked) (extensions : List ℕ) → h ≡ hash_len format → 12 + h ≤ length bytes
     → content ≡ take (length bytes - h) bytes → checksum ≡ drop (length bytes - h) bytes → header_at content ≡ Ok header → IsChecksum format content checksum → room ≡ room_of bytes
-    → entries_at header.0.0 h header.0.1 [] room header.1 ≡ Ok (es, extensions) → ArePassedOver extensions → InOrder es → Finds format bytes es
-finds_by format bytes content checksum h header room es extensions h_is long content_is checksum_is read checked room_is entries passed ordered =
+    → entries_at header.0.0 h header.0.1 [] room header.1 ≡ Ok (es, extensions) → Finds format bytes es extensions
+finds_by format bytes content checksum h header room es extensions h_is long content_is checksum_is read checked room_is entries =
     let c : content ≡ take (length bytes - hash_len format) bytes = content_is ∙ ap (λ (n : ℕ). take (length bytes - n) bytes) h_is in
     let s : checksum ≡ drop (length bytes - hash_len format) bytes = checksum_is ∙ ap (λ (n : ℕ). drop (length bytes - n) bytes) h_is in
     record {
@@ -90,14 +90,11 @@ finds_by format bytes content checksum h header room es extensions h_is long con
       header = header;
       header_is = subst (λ (w : List ℕ). header_at w ≡ Ok header) c read;
       checked = subst (λ (w : List ℕ). IsChecksum format w (drop (length bytes - hash_len format) bytes)) c (subst (λ (w : List ℕ). IsChecksum format content w) s checked);
-      extensions = extensions;
       entries_are = subst (λ (n : ℕ). entries_at header.0.0 n header.0.1 [] (room_of bytes) header.1 ≡ Ok (es, extensions)) h_is (subst (λ (n : ℕ). entries_at header.0.0 h header.0.1 [] n header.1 ≡ Ok (es, extensions)) room_is entries);
-      passed = passed;
-      ordered = ordered;
     }
 
-pub found_is_file : (format : ObjectFormat) (bytes : List ℕ) (es : List Tracked) → IsBytes bytes → Finds format bytes es → IsIndexFile format bytes es
-found_is_file format bytes es fits f =
+pub found_is_file : (format : ObjectFormat) (bytes : List ℕ) (es : List Tracked) (extensions : List ℕ) → IsBytes bytes → Finds format bytes es extensions → IsFile format bytes es extensions
+found_is_file format bytes es extensions fits f =
     let n = length bytes - hash_len format in
     let content = take n bytes in
     let fits_content = IsBytes-take n bytes fits in
@@ -107,50 +104,44 @@ found_is_file format bytes es fits f =
     let f0 = IsBytes-behind (codes "DIRC") (to_be_bytes w32 version ++ (to_be_bytes w32 count ++ f.header.1)) content head.joined fits_content in
     let f1 = IsBytes-behind (to_be_bytes w32 version) (to_be_bytes w32 count ++ f.header.1) (to_be_bytes w32 version ++ (to_be_bytes w32 count ++ f.header.1)) refl f0 in
     let f2 = IsBytes-behind (to_be_bytes w32 count) f.header.1 (to_be_bytes w32 count ++ f.header.1) refl f1 in
-    let t = entries_take version (hash_len format) count [] (room_of bytes) f.header.1 (es, f.extensions) f2 f.entries_are in
-    let counted : content ≡ codes "DIRC" ++ (to_be_bytes w32 version ++ (to_be_bytes w32 (length es) ++ (t.texts ++ f.extensions))) =
+    let t = entries_take version (hash_len format) count [] (room_of bytes) f.header.1 (es, extensions) f2 f.entries_are in
+    let counted : content ≡ codes "DIRC" ++ (to_be_bytes w32 version ++ (to_be_bytes w32 (length es) ++ (t.texts ++ extensions))) =
     head.joined ∙ ap (λ (w : List ℕ). codes "DIRC" ++ (to_be_bytes w32 version ++ (to_be_bytes w32 count ++ w))) t.joined
-    ∙ ap (λ (m : ℕ). codes "DIRC" ++ (to_be_bytes w32 version ++ (to_be_bytes w32 m ++ (t.texts ++ f.extensions)))) (sym t.count) in
+    ∙ ap (λ (m : ℕ). codes "DIRC" ++ (to_be_bytes w32 version ++ (to_be_bytes w32 m ++ (t.texts ++ extensions)))) (sym t.count) in
     record {
       version = version;
       known = (head.known.0, head.known.1, omega (arith, head.few, t.count));
       texts = t.texts;
       each = t.each;
-      extensions = f.extensions;
-      passed = f.passed;
       content = content;
       content_is = counted;
       checksum = drop n bytes;
       checked = (omega (arith, length-drop n bytes, f.long), f.checked);
       joined = sym (take-append-drop n bytes);
-      ordered = f.ordered;
     }
 
 content_len : (version count : ℕ) (rest content : List ℕ) → content ≡ codes "DIRC" ++ (to_be_bytes w32 version ++ (to_be_bytes w32 count ++ rest)) → 12 ≤ length content
 content_len version count rest content e =
     omega (arith, ap length e, length-append (codes "DIRC") (to_be_bytes w32 version ++ (to_be_bytes w32 count ++ rest)), length-append (to_be_bytes w32 version) (to_be_bytes w32 count ++ rest), length-append (to_be_bytes w32 count) rest, wide32.len version, wide32.len count)
 
-pub file_is_found : (format : ObjectFormat) (bytes : List ℕ) (es : List Tracked) → IsBytes bytes → IsIndexFile format bytes es → HasRoom bytes es → Finds format bytes es
-file_is_found format bytes es fits f room =
+pub file_is_found : (format : ObjectFormat) (bytes : List ℕ) (es : List Tracked) (extensions : List ℕ) → IsBytes bytes → IsFile format bytes es extensions → HasRoom bytes es → Finds format bytes es extensions
+file_is_found format bytes es extensions fits f room =
     let h = hash_len format in
     let len : length bytes ≡ length f.content + h = omega (arith, ap length f.joined, length-append f.content f.checksum, f.checked.0) in
     let n : length f.content ≡ length bytes - h = omega (arith, len) in
     let content_is : take (length bytes - h) bytes ≡ f.content = ap (take (length bytes - h)) f.joined ∙ take_at f.content f.checksum (length bytes - h) n in
     let checksum_is : drop (length bytes - h) bytes ≡ f.checksum = ap (drop (length bytes - h)) f.joined ∙ drop_at f.content f.checksum (length bytes - h) n in
     let content_fits = IsBytes-front f.content f.checksum bytes f.joined fits in
-    let rest = f.texts ++ f.extensions in
+    let rest = f.texts ++ extensions in
     let f0 = IsBytes-behind (codes "DIRC") (to_be_bytes w32 f.version ++ (to_be_bytes w32 (length es) ++ rest)) f.content f.content_is content_fits in
     let f1 = IsBytes-behind (to_be_bytes w32 f.version) (to_be_bytes w32 (length es) ++ rest) (to_be_bytes w32 f.version ++ (to_be_bytes w32 (length es) ++ rest)) refl f0 in
     let f2 = IsBytes-behind (to_be_bytes w32 (length es)) rest (to_be_bytes w32 (length es) ++ rest) refl f1 in
-    let texts_fit = IsBytes-front f.texts f.extensions rest refl f2 in
+    let texts_fit = IsBytes-front f.texts extensions rest refl f2 in
     let long = content_len f.version (length es) rest f.content f.content_is in
     record {
       long = omega (arith, len, long);
       header = ((f.version, length es), rest);
       header_is = ap header_at (content_is ∙ f.content_is) ∙ header_again f.version (length es) rest f.known.0 f.known.1 f.known.2;
       checked = rw (content_is, checksum_is) f.checked.1;
-      extensions = f.extensions;
-      entries_are = entries_again f.version h [] es (room_of bytes) f.texts f.extensions texts_fit f.each room;
-      passed = f.passed;
-      ordered = f.ordered;
+      entries_are = entries_again f.version h [] es (room_of bytes) f.texts extensions texts_fit f.each room;
     }

@@ -1,14 +1,15 @@
 -- Reading from left to right, with the first fault that is met: what the functions below the public calls answer.
-use Rattle.std.specs.Prelude.{◌≡◌, ◌⊎◌, ℕ, zero, suc, ◌+◌, ◌-◌, ◌*◌, ◌/◌, ◌%◌, ◌^◌, ◌≤◌, Bool, true, false, ◌==◌, ◌&&◌, ◌||◌, nat_lt, nat_eq, if◌then◌else◌, List, [], ◌∷◌, ◌++◌, length, take, drop, Result, Ok, Err, codes, min}
+use Rattle.std.specs.Prelude.{◌≡◌, ◌⊎◌, ℕ, zero, suc, ◌+◌, ◌-◌, ◌*◌, ◌/◌, ◌%◌, ◌^◌, ◌<◌, ◌≤◌, Bool, true, false, ◌==◌, ◌&&◌, ◌||◌, nat_lt, nat_eq, nat_le, not, if◌then◌else◌, List, [], ◌∷◌, ◌++◌, length, take, drop, Option, None, Some, Result, Ok, Err, codes, min, count_by}
 use Rattle.std.specs.List.{list_all, starts_with}
-use Rattle.std.specs.Int.{Width, w16, w32, byte_len, from_be_bytes}
+use Rattle.std.specs.Int.{Width, w16, w32, w64, byte_len, from_be_bytes}
 use Rattle.git_index.specs.declared.checksum.ObjectFormat.{ObjectFormat}
 use Rattle.git_index.specs.declared.entry.Kind.{Kind}
 use Rattle.git_index.specs.declared.entry.Kind.TheVariants.{File, Executable, Link, Submodule}
 use Rattle.git_index.specs.declared.fault.IndexFault.{IndexFault}
-use Rattle.git_index.specs.declared.fault.IndexFault.TheVariants.{Memory, Signature, Version, Cut, Mode, Flags, Path, PathsTooLong, Extension, Sparse, Split}
-use Rattle.git_index.specs.Entries.{Tracked, InOrder}
-use Rattle.git_index.specs.Format.{hash_len, IsChecksum, ArePassedOver}
+use Rattle.git_index.specs.declared.fault.IndexFault.TheVariants.{Memory, Signature, Version, Cut, Mode, Flags, Path, PathsTooLong, Extension, Sparse, Link as LinkFault, Position, Replacements}
+use Rattle.git_index.specs.Entries.{Tracked}
+use Rattle.git_index.specs.Format.{hash_len, ArePassedOver, IsChecksum, extension_text}
+use Rattle.git_index.specs.Split.{bits_of, due_after, named, put_in, replaced_by, unmarked}
 
 infixl 10 ◌>>=◌
 abbrev pub ◌>>=◌ : {A B : Type 0} → Result A IndexFault → (A → Result B IndexFault) → Result B IndexFault
@@ -24,6 +25,9 @@ Gives view (Err e) read = (e ≡ Memory) ⊎ (read ≡ Err e)
 
 abbrev pub skipped : ℕ → List ℕ → Result (List ℕ) IndexFault
 skipped n bytes = if nat_lt (length bytes) n then Err Cut else Ok (drop n bytes)
+
+abbrev pub front_at : ℕ → List ℕ → Result (List ℕ × List ℕ) IndexFault
+front_at n bytes = if nat_lt (length bytes) n then Err Cut else Ok (take n bytes, drop n bytes)
 
 abbrev pub number_at : Width → List ℕ → Result (ℕ × List ℕ) IndexFault
 number_at w bytes = if nat_lt (length bytes) (byte_len w) then Err Cut else Ok (from_be_bytes w (take (byte_len w) bytes), drop (byte_len w) bytes)
@@ -132,21 +136,89 @@ unfoldable pub extension_at : List ℕ → Result (List ℕ) IndexFault
 extension_at bytes = do
   name ← number_at w32 bytes
   len ← number_at w32 name.1
-  if name.0 == 0x6C696E6B then Err Split
-      else if name.0 == 0x73646972 then Err Sparse
+  if name.0 == 0x73646972 then Err Sparse
       else if nat_lt name.0 0x41000000 || nat_lt 0x5AFFFFFF name.0 then Err (Extension name.0)
       else skipped len.0 len.1
+
+-- where passing over extensions stops: a link, or too few bytes for one
+abbrev pub Ends : List ℕ → Type 0
+Ends bytes = (length bytes < 8) ⊎ (starts_with nat_eq bytes (codes "link") ≡ true)
+
+-- the hash and the bitmaps of a link, and the bytes behind
+unfoldable pub link_at : ℕ → List ℕ → Result ((List ℕ × List ℕ) × List ℕ) IndexFault
+link_at hash bytes = do
+  a ← skipped 4 bytes
+  len ← number_at w32 a
+  content ← front_at len.0 len.1
+  if nat_lt (length content.0) hash then Err LinkFault else Ok ((take hash content.0, drop hash content.0), content.1)
+
+-- what stands where passing over extensions stops: no link, or a hash and bitmaps, and too few bytes for an extension at the end
+abbrev pub StopsWith : ℕ → Option (List ℕ × List ℕ) → List ℕ → Type 0
+StopsWith hash None stop = length stop < 8
+StopsWith hash (Some x) stop =
+    (few : List ℕ) × (behind : List ℕ) × ArePassedOver behind few × (length few < 8) × (length x.0 ≡ hash) × (length (x.0 ++ x.1) < 2 ^ 32) × (stop ≡ extension_text (codes "link", x.0 ++ x.1) ++ behind)
 
 abbrev pub room_of : List ℕ → ℕ
 room_of bytes = min (16 * length bytes) (2 ^ 64 - 1)
 
 -- what is found at each stage where the entries are read
-pub record Finds (format : ObjectFormat) (bytes : List ℕ) (entries : List Tracked) : Type 0 where
+pub record Finds (format : ObjectFormat) (bytes : List ℕ) (entries : List Tracked) (extensions : List ℕ) : Type 0 where
   pub long : 12 + hash_len format ≤ length bytes
   pub header : (ℕ × ℕ) × List ℕ
   pub header_is : header_at (take (length bytes - hash_len format) bytes) ≡ Ok header
   pub checked : IsChecksum format (take (length bytes - hash_len format) bytes) (drop (length bytes - hash_len format) bytes)
-  pub extensions : List ℕ
   pub entries_are : entries_at header.0.0 (hash_len format) header.0.1 [] (room_of bytes) header.1 ≡ Ok (entries, extensions)
-  pub passed : ArePassedOver extensions
-  pub ordered : InOrder entries
+
+-- ---- bitmaps
+
+-- bits about so many entries, put behind others: those past the last entry are passed over, and have to be false
+unfoldable pub pushed : ℕ → List Bool → List Bool → Result (List Bool) IndexFault
+pushed count marks [] = Ok marks
+pushed count marks (bit ∷ bits) =
+    if nat_lt (length marks) count then pushed count (marks ++ bit ∷ []) bits
+    else if bit then Err Position
+    else pushed count marks bits
+
+-- so many words
+unfoldable pub words_at : ℕ → ℕ → ℕ → List Bool → List ℕ → Result (List Bool × List ℕ) IndexFault
+words_at count zero zero marks bytes = Ok (marks, bytes)
+words_at count zero (suc due) marks bytes = Err LinkFault
+words_at count (suc n) due marks bytes = do
+  word ← number_at w64 bytes
+  more ← pushed count marks (bits_of due word.0)
+  words_at count n (due_after due word.0) more word.1
+
+unfoldable pub marks_at : ℕ → List ℕ → Result (List Bool × List ℕ) IndexFault
+marks_at count bytes = do
+  a ← skipped 4 bytes
+  n ← number_at w32 a
+  marks ← words_at count n.0 0 [] n.1
+  rest ← skipped 4 marks.1
+  Ok (marks.0, rest)
+
+-- the first mark, and the others: behind the last one none is set
+unfoldable pub next_of : List Bool → Bool × List Bool
+next_of [] = (false, [])
+next_of (mark ∷ marks) = (mark, marks)
+
+-- an entry, replaced by the next new one if it is marked, and the new ones that are left
+unfoldable pub renewed_at : Bool → Tracked → List Tracked → Tracked × List Tracked
+renewed_at true e (n ∷ new) = (named e.path n, new)
+renewed_at mark e new = (e, new)
+
+-- the entries that have a path
+unfoldable pub named_in : List Tracked → List Tracked
+named_in [] = []
+named_in (e ∷ entries) = if length e.path == 0 then named_in entries else e ∷ named_in entries
+
+-- the first entries, so many, have no path, and each of the others has one
+unfoldable pub are_replacements : List Tracked → ℕ → Bool
+are_replacements own count = nat_le count (length own) && (list_all (λ e. length e.path == 0) (take count own) && list_all (λ e. not (length e.path == 0)) (drop count own))
+
+-- the shared entries and an index's own, joined by two bitmaps
+unfoldable pub joined_at : List Tracked → List Tracked → List ℕ → Result (List Tracked) IndexFault
+joined_at shared own bitmaps = do
+  deleted ← marks_at (length shared) bitmaps
+  replaced ← marks_at (length shared) deleted.1
+  if length replaced.1 == 0 then (if are_replacements own (count_by (λ mark. mark) replaced.0) then Ok (put_in (unmarked (replaced_by shared replaced.0 (take (count_by (λ mark. mark) replaced.0) own)) deleted.0) (named_in own)) else Err Replacements)
+      else Err LinkFault

@@ -1,8 +1,6 @@
 -- The line was read, and has no other reading.
 use Rattle.std.proofs.Common.{None, refl}
 use Rattle.glob_lists.proofs.lemmas.Deciding.Answering.{AnswersUnder-tested}
-use Rattle.glob_lists.specs.declared.rules.Reading.TheVariants.{Crate}
-use Rattle.gix_glob_c.specs.Parts.{rules_of}
 use Rattle.gix_glob_c.proofs.gix_glob_matches_path.Goals as goal
 
 pub returns-clause-exact : goal.returns-clause-exact

@@ -1,10 +1,10 @@
 -- A list that C hands over, under its base.
-use Rattle.std.proofs.Common.{◌≡◌, ⊎_elim, inl, inr, ℕ, ◌<◌, ◌≤◌, Bool, true, false, List, [], ◌∷◌, length, map, option_map, Option, None, Some, refl, sym, ap, subst, ◌∙◌, slice_index_or, arith}
+use Rattle.std.proofs.Common.{◌≡◌, ⊎_elim, ℕ, ◌<◌, ◌≤◌, Bool, true, false, List, [], ◌∷◌, length, map, option_map, Option, None, Some, refl, sym, ap, subst, ◌∙◌, slice_index_or, arith}
 use Rattle.std.specs.Prelude.{slice_get}
 use Rattle.std.proofs.lemmas.Bool.{cases_Bool}
 use Rattle.std.proofs.lemmas.Option.{same_Some, slice_get-get_or, slice_get-map, slice_get_within}
 use Rattle.glob_lists.specs.declared.rules.Rules.{Rules}
-use Rattle.gix_glob.specs.Stripping.{NothingLeft, Rest}
+use Rattle.gix_glob.specs.Stripping.{NothingLeft, Rest, folding_by}
 use Rattle.gix_glob.specs.Entries.{Entry}
 use Rattle.gix_glob.specs.EntryLists.{EntryList}
 use Rattle.gix_glob.proofs.lemmas.Elements.{slice_get-map_within}
@@ -133,6 +133,12 @@ module _ (list : GlobList) (path rest : List ℕ) (is_dir : Bool) (rules : Rules
         (λ (level : (0 ≡ 0) × (m ≤ k)). level.1)
         (h.last 0 m (PairAnswers-yes (list_of list.patterns.now ∷ []) rest is_dir rules 0 m (list_of list.patterns.now) refl (whole m answers))),
   )
+
+-- an empty base leaves the path as it is
+pub last_of_whole : (list : GlobList) (path : List ℕ) (is_dir : Bool) (rules : Rules) (found : Option ℕ) → list.base.now ≡ []
+    → Decides (list_of list.patterns.now ∷ []) path is_dir rules (option_map (λ (index : ℕ). (0, index)) found) → LastOf (entry_list list) path is_dir rules found
+last_of_whole list path is_dir rules found empty =
+    last_under list path path is_dir rules (ap names_folder empty) (record { front = []; joined = refl; same = sym (ap (folding_by rules.case) empty) }) found
 
 -- what decides in a stack of one list, by the answer for that list
 pub Decides-by_list : (list : GlobList) (path : List ℕ) (is_dir : Bool) (rules : Rules) (found : Option ℕ) → LastOf (entry_list list) path is_dir rules found

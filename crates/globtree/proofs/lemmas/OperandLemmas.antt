@@ -1,5 +1,5 @@
 -- Words that are cut in two, seen as other values.
-use Rattle.std.proofs.Common.{◌≡◌, ℕ, List, Option, Result, Ok, ap, sym, subst, ◌∙◌, drop, length, map, take}
+use Rattle.std.proofs.Common.{◌≡◌, ℕ, List, Option, Result, Ok, ap, sym, ◌∙◌, drop, length, map, take}
 use Rattle.std.proofs.lemmas.List.{drop-map, length-map, take-map}
 use Rattle.tree_words.specs.CheckAttr.{names_first}
 use Rattle.tree_words.specs.declared.check_attr.CheckAttrFlags.{CheckAttrFlags}

@@ -1,7 +1,6 @@
 -- What a reader tells is a reading.
-use Rattle.std.proofs.Common.{◌≡◌, ℕ, List, [], ◌∷◌, Result, Ok, Err, length, map, refl, arith}
+use Rattle.std.proofs.Common.{◌≡◌, ℕ, List, Option, Result, Ok, Err, map, refl}
 use Rattle.std.specs.Prelude.{Vec}
-use Rattle.std.specs.Vec.{vec_items}
 use Rattle.std.specs.declared.alloc.Global.{Global}
 use Rattle.std.specs.declared.rc.Rc.{Rc}
 use Rattle.git_config.specs.declared.config.Config.{Config}
@@ -17,7 +16,7 @@ use Rattle.opened_repository.specs.Answers.{Tells}
 use Rattle.opened_repository.specs.Faults.{of_read}
 use Rattle.opened_repository.specs.Readings.{Files, IsAround, Known, ReadsWith}
 
-module _ (Shows : Files) (start : Surroundings) (known : Known) (listed : List (ConfigSource (List ℕ))) (urls : List (List ℕ)) (around : Surroundings) (says : IsAround start known urls around) (sources : List Source) (are : map seen_source sources ≡ listed) where
+module _ (Shows : Files) (start : Surroundings) (known : Known) (listed : List (ConfigSource (List ℕ))) (urls : Option (List (List ℕ))) (around : Surroundings) (says : IsAround start known urls around) (sources : List Source) (are : map seen_source sources ≡ listed) where
   pub reads_of : (config : Config) → FromSources Shows around 1 sources (Ok (map seen_setting config.settings.items)) → ReadsWith Shows start known listed urls (Ok (seen_settings config))
   reads_of config reads = record { around = around; says = says; sources = sources; are = are; read = Ok (map seen_setting config.settings.items); reads = reads; gives = refl }
 
@@ -27,8 +26,3 @@ module _ (Shows : Files) (start : Surroundings) (known : Known) (listed : List (
   reads_wrong read.Memory tells = tt
   reads_wrong (read.File fault) tells = tt
   reads_wrong (read.Setting wrong) tells = λ k. record { around = around; says = says; sources = sources; are = are; read = Err (seen_fault wrong); reads = tells wrong refl; gives = refl }
-
--- no URL was found
-pub no_urls : (found : List (Vec ℕ Global)) (urls : List (List ℕ)) → map vec_items found ≡ urls → length found ≡ 0 → [] ≡ urls
-no_urls [] urls is none = is
-no_urls (url ∷ found) urls is none = absurd (omega (arith, none))

@@ -180,7 +180,7 @@ fn settings_of<S: ConfigFiles>(
         users: Vec::new(alloc),
         git_folders: Vec::new(alloc),
         branch: None,
-        urls: Vec::new(alloc),
+        urls: None,
     };
     match Config::read(alloc, files, &around, &[Source::File(path)]) {
         Ok(config) => values_of(alloc, &config),

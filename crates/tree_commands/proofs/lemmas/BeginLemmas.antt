@@ -1,6 +1,6 @@
 -- Where a listing begins, and what it reaches from there.
 use Rattle.std.proofs.Common.{◌≡◌, ◌≢◌, ◌⊎◌, inl, inr, ⊎_elim, ℕ, Bool, true, false, List, [], ◌∷◌, ◌++◌, length, take, refl, sym, ap, subst, ◌∙◌, append-nil, arith}
-use Rattle.std.specs.Prelude.{◌↔◌, AllPairs, Option, None, Some, if◌then◌else◌}
+use Rattle.std.specs.Prelude.{◌↔◌, AllPairs, IsTrue, MatchBool, Option, None, Some, if◌then◌else◌}
 use Rattle.std.specs.List.{Contains}
 use Rattle.std.proofs.lemmas.List.{take_all}
 use Rattle.std.proofs.lemmas.List.Elements.{All-from_recursion}
@@ -14,18 +14,19 @@ use Rattle.glob_trees.specs.Ways.{Folder, start_of}
 use Rattle.told_paths.specs.declared.standpoint.Standpoint.{Standpoint}
 use Rattle.told_paths.specs.Paths.{names_folder, parts_of}
 use Rattle.told_paths.specs.Standpoints.{led}
+use Rattle.tree_commands.specs.declared.files.choosing.Chosen.{Chosen}
+use Rattle.tree_commands.specs.declared.files.choosing.Chosen.TheVariants.{All, Ignored, Unignored}
 use Rattle.tree_commands.specs.declared.files.pending.Pending.{Pending}
 use Rattle.tree_commands.specs.declared.files.source.EntryKind.{EntryKind}
 use Rattle.tree_commands.specs.declared.files.source.EntryKind.TheVariants as kinds
 use Rattle.tree_commands.specs.FileTrees.{FileTree}
-use Rattle.tree_commands.specs.Files.{Basis, BeginsAt, BeginsBelow, ComesBefore, IsLeaf, IsMet, IsReached, begins, is_folder, lists_to}
+use Rattle.tree_commands.specs.Files.{Basis, BeginsAt, BeginsBelow, ComesBefore, IsBelowIgnored, IsHidden, IsListed, IsMet, IsReached, begins, is_folder, lists_to}
 use Rattle.tree_commands.specs.Ignoring.{IsIgnored}
-use Rattle.tree_commands.specs.Private.Listing.{AreAscending, AreOpen, Begins, BeginsSomewhere, IsClear, MayVisit, PutsListsTo, StandsAtStart, lists_before, path_of}
+use Rattle.tree_commands.specs.Private.Listing.{AreAscending, Begins, BeginsSomewhere, IsClear, IsLevel, LeavesOut, MayVisit, PutsLists, PutsListsTo, Stands, StandsAtStart, path_of}
 use Rattle.tree_commands.specs.Private.UnderWay.{IsHalfway, OfKnown, WritesAll, WritesFront}
 use Rattle.tree_commands.proofs.lemmas.AmongLemmas.{among_contained, contains_among}
-use Rattle.tree_commands.proofs.lemmas.ListsLemmas.{lists_before_some}
 use Rattle.tree_commands.proofs.lemmas.MetLemmas.{MeetsFirst, meets_first}
-use Rattle.tree_commands.proofs.lemmas.PathLemmas.{marked_start, may_visit_file, may_visit_folder, may_visit_top, some_append, start_ends}
+use Rattle.tree_commands.proofs.lemmas.PathLemmas.{mark_of, may_visit_file, may_visit_folder, may_visit_top, one_mark, some_append}
 
 -- ---- order
 
@@ -47,18 +48,16 @@ module _ (basis : Basis) (tree : FileTree) where
       (λ (first : MeetsFirst basis tree (slash ∷ []) path). absurd (slash_is_no_start first.folder first.is_start))
       (meets_first basis tree met)
 
-  leaf_is_more : (path : List ℕ) → IsLeaf tree path → path ≢ slash ∷ []
-  leaf_is_more path leaf is = ⊎_elim
-      (λ (file : ¬ EndsInSlash path). file (record { front = []; joined = is }))
-      (λ (git : (folder : Folder) × (path ≡ start_of folder) × (tree.has_git folder ≡ true)). slash_is_no_start git.0 (sym is ∙ git.1))
-      leaf.1
+  listed_is_more : (path : List ℕ) → IsListed basis tree path → path ≢ slash ∷ []
+  listed_is_more path (inl file) is = file.whole (record { front = []; joined = is })
+  listed_is_more path (inr at) is = slash_is_no_start at.folder (sym is ∙ at.start)
 
   nothing_to_list : (lists : List (EntryList (Unit {0}))) → IsHalfway basis tree (slash ∷ []) [] [] lists
   nothing_to_list lists = record {
     sound = λ path never. absurd never;
     met = λ next never. absurd never;
     standing = λ next never. absurd never;
-    complete = λ path met leaf. absurd (leaf_is_more path leaf (slash_meets_itself path met));
+    complete = λ path met leaf. absurd (listed_is_more path leaf (slash_meets_itself path met));
   }
 
 -- ---- what is pending at the beginning
@@ -93,7 +92,7 @@ module _ (standpoint : Standpoint) (basis : Basis) (told top : List ℕ) (is_tol
         sound = λ path never. absurd never;
         met = λ other among. ⊎_elim (λ (is : some.next ≡ other). subst (λ (n : Pending). IsMet basis tree (path_of some.next) (path_of n)) is begins) (λ (never : ⊥). absurd never) among;
         standing = λ other among. ⊎_elim
-            (λ (is : some.next ≡ other). subst (λ (n : Pending). (folder : Folder) → path_of n ≡ start_of folder → take n.list_count lists ≡ lists_before basis tree folder) is (some.standing tree known))
+            (λ (is : some.next ≡ other). subst (λ (n : Pending). Stands basis tree lists n) is (some.standing tree known))
             (λ (never : ⊥). absurd never)
             among;
         complete = λ path met leaf. inr (some.next, inl refl, met);
@@ -113,21 +112,21 @@ module _ (standpoint : Standpoint) (basis : Basis) (told top : List ℕ) (is_tol
     starts pending (inr some) = subst (λ ps. Starts standpoint basis tree told ps lists) (sym some.one) (starts_somewhere pending some)
 
   module _ (pending : List Pending) (at : Begins Known basis top is_told lists pending) (line : List ℕ → List ℕ) (Now : FileTree → Type 0) (stays : (tree : FileTree) → Known tree → Now tree) (old new : Option (List ℕ)) where
-    pub all_is_listed : (all : WritesAll line Now basis.case (record { pending = pending; lists = lists }) old new) → (tree : FileTree) → Known tree → (path : List ℕ) → Contains all.listed path ↔ (IsReached standpoint basis tree told path × IsLeaf tree path)
+    pub all_is_listed : (all : WritesAll line Now basis.terms (record { pending = pending; lists = lists }) old new) → (tree : FileTree) → Known tree → (path : List ℕ) → Contains all.listed path ↔ (IsReached standpoint basis tree told path × IsListed basis tree path)
     all_is_listed all tree known path =
         let from = starts tree known pending at in
         let exact = all.exact tree (stays tree known) basis refl from.start from.halfway path in (
-          (λ there. let it = exact.0 (among_contained all.listed path there) in (from.reached path (leaf_is_more basis tree path it.1) it.0, it.1)),
+          (λ there. let it = exact.0 (among_contained all.listed path there) in (from.reached path (listed_is_more basis tree path it.1) it.0, it.1)),
           (λ it. contains_among all.listed path (exact.1 (from.met path it.0, it.1))),
         )
 
-    pub some_is_listed : (front : WritesFront line Now basis.case (record { pending = pending; lists = lists }) old new) → (tree : FileTree) → Known tree → (path : List ℕ) → Contains front.listed path → (IsReached standpoint basis tree told path × IsLeaf tree path)
+    pub some_is_listed : (front : WritesFront line Now basis.terms (record { pending = pending; lists = lists }) old new) → (tree : FileTree) → Known tree → (path : List ℕ) → Contains front.listed path → (IsReached standpoint basis tree told path × IsListed basis tree path)
     some_is_listed front tree known path there =
         let from = starts tree known pending at in
         let it = front.sound tree (stays tree known) basis refl from.start from.halfway path (among_contained front.listed path there) in
-        (from.reached path (leaf_is_more basis tree path it.1) it.0, it.1)
+        (from.reached path (listed_is_more basis tree path it.1) it.0, it.1)
 
-    pub folder_is_reached : (folder : Folder) → OfKnown Now basis.case (record { pending = pending; lists = lists }) (λ given there start. IsMet given there start (start_of folder)) → (tree : FileTree) → Known tree → IsReached standpoint basis tree told (start_of folder)
+    pub folder_is_reached : (folder : Folder) → OfKnown Now basis.terms (record { pending = pending; lists = lists }) (λ given there start. IsMet given there start (start_of folder)) → (tree : FileTree) → Known tree → IsReached standpoint basis tree told (start_of folder)
     folder_is_reached folder met tree known =
         let from = starts tree known pending at in
         from.reached (start_of folder) (λ is. slash_is_no_start folder (sym is)) (met tree (stays tree known) basis refl from.start from.halfway)
@@ -140,20 +139,22 @@ module _ (Known : FileTree → Type 0) (basis : Basis) (is_told : Bool) (lists :
   begins_top pending next one is count are = inr (record {
     next = next;
     one = one;
-    may = subst (MayVisit basis.case) (sym is) (may_visit_top basis.case);
+    may = subst (MayVisit basis.terms.case) (sym is) (may_visit_top basis.terms.case);
     count = omega (arith, count);
     begins = λ tree known. inl (refl, is);
     only = λ tree known start at. ⊎_elim
         (λ (there : ([] ≡ []) × (start ≡ [])). there.1 ∙ sym is)
         (λ (below : BeginsBelow basis tree [] is_told start). absurd (below.plain.some refl))
         at;
-    standing = λ tree known folder same.
-        (take_all next.list_count lists (omega (arith, count)) ∙ are ∙ sym (ap (lists_before basis tree) (top_of folder (sym same ∙ is))));
+    standing = λ tree known. record {
+      top = λ none. take_all next.list_count lists (omega (arith, count)) ∙ are;
+      level = λ path is_dir marked. absurd (marked.0 (front_empty path (mark_of is_dir) (sym marked.2 ∙ is)));
+    };
   })
     where
-      top_of : (folder : Folder) → start_of folder ≡ [] → folder ≡ []
-      top_of [] none = refl
-      top_of (b ∷ folder) none = absurd (cc)
+      front_empty : (front mark : List ℕ) → front ++ mark ≡ [] → front ≡ []
+      front_empty [] mark none = refl
+      front_empty (b ∷ front) mark none = absurd (cc)
 
   module _ (path : List ℕ) (some : path ≢ []) where
     -- below the top, where it can't begin
@@ -166,15 +167,23 @@ module _ (Known : FileTree → Type 0) (basis : Basis) (is_told : Bool) (lists :
           at,
     )
 
-    module _ (plain : IsPlainPath path) (whole : ¬ EndsInSlash path) (kind : EntryKind) (next : Pending) (is : path_of next ≡ path ++ (if is_folder kind then slash ∷ [] else [])) (count : next.list_count ≡ length lists)
-        (there : (tree : FileTree) → Known tree → StandsAtStart tree path is_told (Some kind)) (clear : (tree : FileTree) → Known tree → IsClear basis.case tree path)
-        (open_way : (tree : FileTree) → Known tree → (lists ≡ lists_to basis tree path) × AreOpen basis tree path) (unignored : ¬ IsIgnored lists basis.case path (is_folder kind)) where
+    module _ (plain : IsPlainPath path) (whole : ¬ EndsInSlash path) (kind : EntryKind) (shown : ¬ IsHidden basis.terms.tracked path kind) (next : Pending) (is : path_of next ≡ path ++ (if is_folder kind then slash ∷ [] else [])) (count : next.list_count ≡ length lists)
+        (there : (tree : FileTree) → Known tree → StandsAtStart tree path is_told (Some kind)) (clear : (tree : FileTree) → Known tree → IsClear basis.terms tree path)
+        (puts : (tree : FileTree) → Known tree → PutsListsTo basis tree path lists next.is_below) (kept : ¬ LeavesOut basis.terms lists path (is_folder kind) next.is_below) where
       stands : (tree : FileTree) → Known tree → (tree.kind path ≡ Some kind) × (is_told ≡ true → is_folder kind ≡ true)
       stands tree known = let at = there tree known in at.there kind refl
 
-      may_by_kind : (k : EntryKind) (found : List ℕ) → found ≡ path ++ (if is_folder k then slash ∷ [] else []) → MayVisit basis.case found
-      may_by_kind kinds.Folder found joined = subst (MayVisit basis.case) (sym joined) (may_visit_folder basis.case path plain whole)
-      may_by_kind kinds.File found joined = subst (MayVisit basis.case) (sym (joined ∙ append-nil path)) (may_visit_file basis.case path some whole)
+      -- where what isn't ignored is chosen, no folder above is ignored, and the lists are those to the path
+      open_way : (tree : FileTree) → Known tree → basis.terms.chosen ≡ Unignored → (lists ≡ lists_to basis tree path) × (¬ IsBelowIgnored basis tree path)
+      open_way tree known told = by_flag next.is_below refl (subst (λ (c : Chosen). PutsLists c basis tree path lists next.is_below) told (puts tree known))
+        where
+          by_flag : (b : Bool) → next.is_below ≡ b → MatchBool b (IsBelowIgnored basis tree path) ((lists ≡ lists_to basis tree path) × (¬ IsBelowIgnored basis tree path)) → (lists ≡ lists_to basis tree path) × (¬ IsBelowIgnored basis tree path)
+          by_flag true same tells = absurd (kept (told, inl same))
+          by_flag false same tells = tells
+
+      may_by_kind : (k : EntryKind) (found : List ℕ) → found ≡ path ++ (if is_folder k then slash ∷ [] else []) → MayVisit basis.terms.case found
+      may_by_kind kinds.Folder found joined = subst (MayVisit basis.terms.case) (sym joined) (may_visit_folder basis.terms.case path plain whole)
+      may_by_kind kinds.File found joined = subst (MayVisit basis.terms.case) (sym (joined ∙ append-nil path)) (may_visit_file basis.terms.case path plain whole)
 
       -- a folder's path isn't its start
       longer : (k : EntryKind) → is_folder k ≡ true → (path ++ (if is_folder k then slash ∷ [] else [])) ≢ path
@@ -185,13 +194,16 @@ module _ (Known : FileTree → Type 0) (basis : Basis) (is_told : Bool) (lists :
       below tree known = record {
         plain = plain;
         whole = whole;
-        above = λ folder above. (let passed = clear tree known in let it = passed.above folder above in
-            record { other = it.other; git = it.git; unignored = (let way = open_way tree known in way.1 folder above) });
+        above = λ folder above. (let passed = clear tree known in passed.above folder above);
+        unignored = λ told. (let way = open_way tree known told in way.1);
         other = (let passed = clear tree known in passed.other);
         here = record {
           kind = kind;
           there = (let at = stands tree known in at.0);
-          unignored = (let way = open_way tree known in subst (λ (l : List (EntryList (Unit {0}))). ¬ IsIgnored l basis.case path (is_folder kind)) way.0 unignored);
+          kept = record {
+            unignored = λ told. (let way = open_way tree known told in subst (λ (l : List (EntryList (Unit {0}))). ¬ IsIgnored l basis.terms.case path (is_folder kind)) way.0 (λ ignored. kept (told, inr ignored)));
+            shown = shown;
+          };
           joined = is;
         };
         as_told = λ told. (let at = stands tree known in λ same. longer kind (at.1 told) (sym is ∙ same));
@@ -203,13 +215,24 @@ module _ (Known : FileTree → Type 0) (basis : Basis) (is_told : Bool) (lists :
           let same : it.here.kind ≡ kind = same_Some it.here.kind kind (sym it.here.there ∙ at.0) in
           it.here.joined ∙ ap (λ k. path ++ (if is_folder k then slash ∷ [] else [])) same ∙ sym is
 
-      standing_by_kind : (tree : FileTree) → Known tree → (k : EntryKind) (found : List ℕ) (folder : Folder) → found ≡ path ++ (if is_folder k then slash ∷ [] else []) → found ≡ start_of folder → lists_to basis tree path ≡ lists_before basis tree folder
-      standing_by_kind tree known kinds.Folder found folder joined start =
-          let same : folder ≡ path = marked_start path folder (sym joined ∙ start) in
-          ap (lists_to basis tree) (sym same) ∙ sym (lists_before_some basis tree folder (λ none. some (sym same ∙ none)))
-      standing_by_kind tree known kinds.File found folder joined start =
-          let bare : found ≡ path = joined ∙ append-nil path in
-          absurd (whole (subst EndsInSlash (sym start ∙ bare) (start_ends folder (λ none. some (sym bare ∙ start ∙ none)))))
+      level_by : (tree : FileTree) (chosen : Chosen) → basis.terms.chosen ≡ chosen → Known tree → PutsLists chosen basis tree path lists next.is_below → IsLevel chosen basis tree lists next.is_below path
+      level_by tree All told known tells = tt
+      level_by tree Ignored told known tells = tells
+      level_by tree Unignored told known tells = let way = open_way tree known told in way.0
+
+      standing : (tree : FileTree) → Known tree → Stands basis tree lists next
+      standing tree known = record {
+        top = λ none. absurd (path_some path (mark_of (is_folder kind)) some (sym is ∙ none));
+        level = λ other is_dir marked.
+            let same : other ≡ path = one_mark other path is_dir (is_folder kind) marked.1 whole (sym marked.2 ∙ is) in
+            subst (λ (p : List ℕ). IsLevel basis.terms.chosen basis tree (take next.list_count lists) next.is_below p) (sym same)
+            (subst (λ (ls : List (EntryList (Unit {0}))). IsLevel basis.terms.chosen basis tree ls next.is_below path) (sym (take_all next.list_count lists (omega (arith, count))))
+            (level_by tree basis.terms.chosen refl known (puts tree known)));
+      }
+        where
+          path_some : (front mark : List ℕ) → front ≢ [] → front ++ mark ≢ []
+          path_some [] mark not_empty none = not_empty refl
+          path_some (b ∷ front) mark not_empty none = absurd (cc)
 
       pub begins_somewhere : (pending : List Pending) → pending ≡ next ∷ [] → Begins Known basis path is_told lists pending
       begins_somewhere pending one = inr (record {
@@ -222,39 +245,31 @@ module _ (Known : FileTree → Type 0) (basis : Basis) (is_told : Bool) (lists :
             (λ (top : (path ≡ []) × (start ≡ [])). absurd (some top.0))
             (λ (it : BeginsBelow basis tree path is_told start). one_start tree known start it)
             at;
-        standing = λ tree known folder start.
-            (take_all next.list_count lists (omega (arith, count)) ∙ (let way = open_way tree known in way.0) ∙ standing_by_kind tree known kind (path_of next) folder is start);
+        standing = standing;
       })
 
 -- ---- where it begins nowhere
 
 module _ (basis : Basis) (tree : FileTree) (path : List ℕ) (is_told : Bool) (start : List ℕ) (it : BeginsBelow basis tree path is_told start) where
-  pub begins_clear : IsClear basis.case tree path
-  begins_clear = record {
-    above = λ folder above. (let passes = it.above folder above in record { other = passes.other; git = passes.git });
-    other = it.other;
-  }
-
-  pub begins_open : AreOpen basis tree path
-  begins_open = λ folder above. (let passes = it.above folder above in passes.unignored)
+  pub begins_clear : IsClear basis.terms tree path
+  begins_clear = record { above = it.above; other = it.other }
 
   pub begins_at_something : ¬ StandsAtStart tree path is_told None
   begins_at_something at =
       let no_folder = at.none refl it.here.kind it.here.there in
       it.as_told no_folder.0 (it.here.joined ∙ ap (λ b. path ++ (if b then slash ∷ [] else [])) no_folder.1 ∙ append-nil path)
 
-  pub begins_unignored : (lists : List (EntryList (Unit {0}))) (kind : EntryKind) → lists ≡ lists_to basis tree path → tree.kind path ≡ Some kind → ¬ IsIgnored lists basis.case path (is_folder kind)
-  begins_unignored lists kind are there ignored =
-      let same : kind ≡ it.here.kind = same_Some kind it.here.kind (sym there ∙ it.here.there) in
-      it.here.unignored (subst (λ k. IsIgnored (lists_to basis tree path) basis.case path (is_folder k)) same (subst (λ (l : List (EntryList (Unit {0}))). IsIgnored l basis.case path (is_folder kind)) are ignored))
+  -- what is left out begins nowhere
+  pub begins_kept : (lists : List (EntryList (Unit {0}))) (kind : EntryKind) (is_below : Bool) → PutsListsTo basis tree path lists is_below → tree.kind path ≡ Some kind → ¬ LeavesOut basis.terms lists path (is_folder kind) is_below
+  begins_kept lists kind is_below puts there out = by_flag is_below refl (subst (λ (c : Chosen). PutsLists c basis tree path lists is_below) out.0 puts)
+    where
+      same : kind ≡ it.here.kind
+      same = same_Some kind it.here.kind (sym there ∙ it.here.there)
 
--- ---- the way to it
-
-module _ (basis : Basis) (tree : FileTree) (path : List ℕ) (lists : List (EntryList (Unit {0}))) where
-  pub way_is_open : (is_open : Bool) → is_open ≡ true → PutsListsTo basis tree path lists is_open → (lists ≡ lists_to basis tree path) × AreOpen basis tree path
-  way_is_open true is puts = puts
-  way_is_open false is puts = absurd (false≢true is)
-
-  pub way_is_not_open : (is_open : Bool) → is_open ≡ false → PutsListsTo basis tree path lists is_open → ¬ AreOpen basis tree path
-  way_is_not_open true is puts = absurd (false≢true (sym is))
-  way_is_not_open false is puts = puts
+      by_flag : (b : Bool) → is_below ≡ b → MatchBool b (IsBelowIgnored basis tree path) ((lists ≡ lists_to basis tree path) × (¬ IsBelowIgnored basis tree path)) → ⊥
+      by_flag true is tells = it.unignored out.0 tells
+      by_flag false is tells = ⊎_elim
+          (λ (below : IsTrue is_below). false≢true (sym is ∙ below))
+          (λ (ignored : IsIgnored lists basis.terms.case path (is_folder kind)).
+          it.here.kept.unignored out.0 (subst (λ k. IsIgnored (lists_to basis tree path) basis.terms.case path (is_folder k)) same (subst (λ (l : List (EntryList (Unit {0}))). IsIgnored l basis.terms.case path (is_folder kind)) tells.0 ignored)))
+          out.1

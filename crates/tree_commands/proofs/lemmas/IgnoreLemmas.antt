@@ -1,24 +1,25 @@
 -- The line that decides about a told path, and what is kept account of, as what the source shows grows.
-use Rattle.std.proofs.Common.{◌≡◌, ◌⊎◌, inl, inr, ◌≢◌, ℕ, ◌≤◌, Bool, true, false, ◌||◌, List, [], ◌∷◌, ◌++◌, map, take, Option, None, Some, IfNone, IfOk, IfSome, IsTrue, ◌↔◌, Result, Ok, Err, IsErr, refl, sym, ap, subst, ◌∙◌, if◌then◌else◌, length, append-nil, length-append, arith}
+use Rattle.std.proofs.Common.{◌≡◌, ◌⊎◌, inl, inr, ◌≢◌, ℕ, ◌≤◌, ◌==◌, Bool, true, false, ◌||◌, List, [], ◌∷◌, ◌++◌, map, take, Option, None, Some, IfNone, IfOk, IfSome, IsTrue, ◌↔◌, Result, Ok, Err, IsErr, refl, sym, ap, subst, ◌∙◌, if◌then◌else◌, length, append-nil, length-append, arith}
 use Rattle.std.specs.Borrow.{Bor}
 use Rattle.std.specs.Prelude.{is_some, slice_get}
 use Rattle.std.specs.List.{list_any}
-use Rattle.std.proofs.lemmas.Bool.{false≢true}
+use Rattle.std.proofs.lemmas.Bool.{eqb-true, false≢true}
 use Rattle.std.proofs.Math.Seq.{take-append_seam, take-length}
 use Rattle.std.proofs.lemmas.List.{take-map}
 use Rattle.std.proofs.lemmas.List.Folds.{list_any-append}
 use Rattle.std.proofs.lemmas.Result.{IfOk-weaker}
 use Rattle.git_index.specs.Entries.{Tracked}
 use Rattle.glob_lists.specs.declared.rules.Rules.{Rules}
-use Rattle.gix_glob.specs.Bytes.{slash}
+use Rattle.gix_glob.specs.Bytes.{HasByte, slash}
 use Rattle.gix_glob.specs.EntryLists.{EntryList, entry_list_of}
 use Rattle.glob_lists.specs.Paths.{IsPlainPath}
 use Rattle.glob_trees.specs.TreeParts.{HasMappingAt, TreeParts}
 use Rattle.glob_trees.specs.Ways.{AreOnTheWay, Folder, IsListOf}
 use Rattle.record_streams.specs.Records.{Adds, GrowsBy, StaysAllowed, answered_by}
+use Rattle.pathspecs.specs.Leading.{word_front, word_leads}
 use Rattle.told_paths.specs.declared.standpoint.Standpoint.{Standpoint}
-use Rattle.told_paths.specs.Paths.{names_folder, parts_of}
-use Rattle.told_paths.specs.Standpoints.{led, literal_front}
+use Rattle.told_paths.specs.Paths.{parts_of, walk}
+use Rattle.told_paths.specs.Standpoints.{is_absolute, led}
 use Rattle.tracked_paths.specs.Holding.{IsHeld, LiesIn, LiesInSubmodule}
 use Rattle.tree_answers.specs.Lines.{Decision}
 use Rattle.tree_commands.specs.declared.check_ignore.flags.IgnoreFlags.{IgnoreFlags}
@@ -32,6 +33,22 @@ use Rattle.tree_commands.specs.Private.Finding.{Finds, FindsIn, FindsTold, IsFou
 use Rattle.tree_answers.proofs.lemmas.RecordLemmas.{AllZip-append}
 use Rattle.tree_commands.proofs.lemmas.AnswerLemmas.{AllZip-weaker}
 use Rattle.tree_commands.proofs.lemmas.FindingLemmas.{stands_for_top, stands_there}
+
+-- ---- what leads where it is told
+
+relative_told : (told : List ℕ) → ¬ HasByte told 0 slash → is_absolute told ≡ false
+relative_told [] none = refl
+relative_told (b ∷ told) none = by_first (slash == b) refl
+  where
+    by_first : (is : Bool) → (slash == b) ≡ is → is_absolute (b ∷ told) ≡ false
+    by_first true is = absurd (none (record { inside = omega arith; is = sym (eqb-true _ _ is) }))
+    by_first false is = rw is refl
+
+-- from the top a path leads where it is told
+pub led_here : (standpoint : Standpoint) (told : List ℕ) → standpoint.is_inside ≡ true → standpoint.here.items ≡ [] → ¬ HasByte told 0 slash → walk [] (parts_of told) ≡ Some told → led standpoint told ≡ Some told
+led_here standpoint told inside here relative way =
+    let from_here = relative_told told relative in
+    rw inside (rw here (rw from_here (rw way refl)))
 
 -- ---- what is shown stays shown
 
@@ -134,7 +151,7 @@ module _ {S T X : Type 0} (shows : S → Folder → EntryList (Unit {0}) → Typ
 
   abbrev asks : ℕ → List (EntryList (Unit {0})) → Rules → (List ℕ → Option Bool) → Standpoint → IgnoreFlags → List Tracked → Question
   asks count fronts rules kind_of standpoint flags tracked =
-      record { leads = led standpoint; literal = literal_front standpoint; tracked = tracked; kind_of = kind_of; front_count = count; fronts = fronts; rules = rules; flags = flags }
+      record { leads = word_leads standpoint; literal = word_front standpoint; tracked = tracked; kind_of = kind_of; front_count = count; fronts = fronts; rules = rules; flags = flags }
 
   pub question_kept : (standpoint : Standpoint) (flags : IgnoreFlags) (tracked : List Tracked) (before after : List ℕ → Option Bool) → after ≡ before
       → question_of standpoint flags tracked new after ≡ question_of standpoint flags tracked old before
@@ -216,7 +233,7 @@ module _ {S T X : Type 0} (shows : S → Folder → EntryList (Unit {0}) → Typ
     path = finds.path;
     leads = finds.led;
     outside = finds.outside;
-    decided = in_here (literal_front standpoint told) (told_path told finds.path) (kind_of finds.path) there finds.found;
+    decided = in_here (word_front standpoint told) (told_path told finds.path) (kind_of finds.path) there finds.found;
   }
 
   -- the line at the pair that was found is the line for the told path

@@ -1,24 +1,26 @@
 -- A listing under way: what was listed, and what is pending.
-use Rattle.std.proofs.Common.{◌≡◌, ◌≢◌, ◌⊎◌, inl, inr, ⊎_elim, ℕ, ◌≤◌, List, [], ◌∷◌, ◌++◌, length, take, map, refl, sym, ap, subst, ◌∙◌, append_assoc, append-nil, length-append, arith}
-use Rattle.std.specs.Prelude.{if◌then◌else◌}
+use Rattle.std.proofs.Common.{◌≡◌, ◌≢◌, ◌⊎◌, inl, inr, ⊎_elim, ℕ, ◌≤◌, true, List, [], ◌∷◌, ◌++◌, length, take, map, refl, sym, ap, subst, ◌∙◌, append_assoc, append-nil, length-append, arith}
+use Rattle.std.specs.Prelude.{Bool}
 use Rattle.std.specs.List.{AllByRecursion}
 use Rattle.std.proofs.lemmas.List.{length-take-le, take-append-le, take-take, take_all}
 use Rattle.gix_glob.specs.declared.pattern.Case.{Case}
 use Rattle.gix_glob.specs.Bytes.{EndsInSlash, slash}
 use Rattle.gix_glob.specs.EntryLists.{EntryList}
 use Rattle.glob_trees.specs.Ways.{Folder, start_of, unless_empty}
+use Rattle.tree_commands.specs.declared.files.choosing.Chosen.{Chosen}
+use Rattle.tree_commands.specs.declared.files.choosing.Chosen.TheVariants.{Unignored}
 use Rattle.tree_commands.specs.declared.files.pending.Pending.{Pending}
-use Rattle.tree_commands.specs.declared.files.source.EntryKind.{EntryKind}
-use Rattle.tree_commands.specs.declared.files.source.EntryKind.TheVariants as kinds
 use Rattle.tree_commands.specs.FileTrees.{FileTree}
-use Rattle.tree_commands.specs.Files.{ComesBefore, IsEntryName, IsEntryOf, IsFound, IsLeaf, IsMet, Basis, is_folder, lies, lists_to}
-use Rattle.tree_commands.specs.Private.Listing.{Among, AreAscending, AreDescending, EndsInName, Enters, LeadsOn, MayVisit, lists_before, path_of}
+use Rattle.tree_commands.specs.Files.{Basis, ComesBefore, IsEntryOf, IsFound, IsListed, IsMet, Terms, is_folder, lies, lists_to}
+use Rattle.tree_commands.specs.Ignoring.{IsIgnored}
+use Rattle.tree_commands.specs.Private.Listing.{Among, AreAscending, AreDescending, EndsInName, Enters, FlagsFolder, IsLevel, LeadsOn, MayVisit, Stands, path_of, reads_list}
 use Rattle.tree_commands.specs.Private.UnderWay.{Above, IsHalfway, IsStack, IsUnderWay, Precedes, count_of}
 use Rattle.tree_commands.proofs.lemmas.AmongLemmas.{all_of, among_cases, among_contained, among_last, among_left, among_map, among_mapped, among_right, contains_among, of_all}
-use Rattle.tree_commands.proofs.lemmas.ListsLemmas.{lists_before_some, lists_in, lists_of_entry}
-use Rattle.tree_commands.proofs.lemmas.MetLemmas.{IsOpen, leaf_meets_itself, meets_entry}
+use Rattle.tree_commands.proofs.lemmas.LevelLemmas.{level_before, level_of_entry}
+use Rattle.tree_commands.proofs.lemmas.ListsLemmas.{lists_in}
+use Rattle.tree_commands.proofs.lemmas.MetLemmas.{IsEndOf, IsOpen, end_meets_itself, ends_listed, meets_entry}
 use Rattle.tree_commands.proofs.lemmas.OrderLemmas.{IsMark, comes_before_below, comes_before_more}
-use Rattle.tree_commands.proofs.lemmas.PathLemmas.{entry_unended, marked_start, may_visit_entry, name_is_some, some_append, start_ends}
+use Rattle.tree_commands.proofs.lemmas.PathLemmas.{entry_unended, mark_of, may_visit_entry, name_is_some, one_mark, some_append, start_ends}
 use Rattle.tree_commands.proofs.lemmas.StackLemmas.{stack_append, stack_front, stack_top}
 
 -- ---- order
@@ -71,18 +73,18 @@ batch_is_stack case start count (first ∷ batch) each counts descending = (
 
 -- ---- whatever the tree is
 
-module _ (case : Case) (listed : List (List ℕ)) (pending : List Pending) (next : Pending) (lists : List (EntryList (Unit {0}))) (under : IsUnderWay case listed (pending ++ next ∷ []) lists) where
+module _ (terms : Terms) (listed : List (List ℕ)) (pending : List Pending) (next : Pending) (lists : List (EntryList (Unit {0}))) (under : IsUnderWay terms.case listed (pending ++ next ∷ []) lists) where
   waits : (other : Pending) → Among pending other → Among (pending ++ next ∷ []) other
   waits other among = among_left pending (next ∷ []) other among
 
   is_next : Among (pending ++ next ∷ []) next
   is_next = among_last pending next
 
-  pub may_next : MayVisit case (path_of next)
+  pub may_next : MayVisit terms.case (path_of next)
   may_next = under.may next is_next
 
   -- the next path was listed
-  pub under_way_listed : IsUnderWay case (listed ++ path_of next ∷ []) pending lists
+  pub under_way_listed : IsUnderWay terms.case (listed ++ path_of next ∷ []) pending lists
   under_way_listed = record {
     may = λ other among. under.may other (waits other among);
     counts = λ other among. under.counts other (waits other among);
@@ -97,12 +99,25 @@ module _ (case : Case) (listed : List (List ℕ)) (pending : List Pending) (next
     ordered = ascending_push listed (path_of next) under.ordered (λ path old. under.behind path next old is_next);
   }
 
+  -- or it was passed over
+  pub under_way_passed : IsUnderWay terms.case listed pending lists
+  under_way_passed = record {
+    may = λ other among. under.may other (waits other among);
+    counts = λ other among. under.counts other (waits other among);
+    stacked = stack_front path_of count_of pending (next ∷ []) under.stacked;
+    behind = λ path other before among. under.behind path other before (waits other among);
+    ordered = under.ordered;
+  }
+
+  pub count_next : next.list_count ≤ length lists
+  count_next = under.counts next is_next
+
   -- or its folder was entered
-  module _ (folder : Folder) (is_start : path_of next ≡ start_of folder) (Known : FileTree → Type 0) (new_lists : List (EntryList (Unit {0}))) (new : List Pending) (enters : Enters Known case folder next.list_count lists new_lists pending new) where
+  module _ (folder : Folder) (is_start : path_of next ≡ start_of folder) (Known : FileTree → Type 0) (is_ignored : Bool) (new_lists : List (EntryList (Unit {0}))) (new : List Pending) (enters : Enters Known terms folder next.list_count is_ignored lists new_lists pending new) where
     -- what is found in it
-    ends : (found : Pending) → Among enters.puts.batch found → EndsInName case (start_of folder) (path_of found)
+    ends : (found : Pending) → Among enters.puts.batch found → EndsInName terms.case (start_of folder) (path_of found)
     ends found among =
-        of_all (EndsInName case (start_of folder)) enters.paths enters.each (path_of found) (let same = enters.puts.same (path_of found) in same.1 (among_map path_of enters.puts.batch found among))
+        of_all (EndsInName terms.case (start_of folder)) enters.paths enters.each (path_of found) (let same = enters.puts.same (path_of found) in same.1 (among_map path_of enters.puts.batch found among))
 
     level : (found : Pending) → Among enters.puts.batch found → found.list_count ≡ length new_lists
     level found among = of_all (λ other. other.list_count ≡ length new_lists) enters.puts.batch enters.puts.counts found among
@@ -135,18 +150,18 @@ module _ (case : Case) (listed : List (List ℕ)) (pending : List Pending) (next
           };
         }
 
-    under_way_joined : IsUnderWay case listed (pending ++ enters.puts.batch) new_lists
+    under_way_joined : IsUnderWay terms.case listed (pending ++ enters.puts.batch) new_lists
     under_way_joined = record {
       may = λ other among. ⊎_elim
           (λ (old : Among pending other). under.may other (waits other old))
-          (λ (found : Among enters.puts.batch other). may_visit_entry case (start_of folder) (path_of other) (let may = under.may next is_next in subst (LeadsOn case) is_start (may.plain folder is_start)) (ends other found))
+          (λ (found : Among enters.puts.batch other). may_visit_entry terms.case (start_of folder) (path_of other) (let may = under.may next is_next in subst (LeadsOn terms.case) is_start (may.plain folder is_start)) (ends other found))
           (among_cases pending enters.puts.batch other among);
       counts = λ other among. ⊎_elim
           (λ (old : Among pending other). let above = stack_top path_of count_of pending next under.stacked other old in omega (arith, above.counts, long))
           (λ (found : Among enters.puts.batch other). omega (arith, level other found))
           (among_cases pending enters.puts.batch other among);
       stacked = stack_append path_of count_of pending enters.puts.batch (stack_front path_of count_of pending (next ∷ []) under.stacked)
-          (batch_is_stack case (start_of folder) (length new_lists) enters.puts.batch ends enters.puts.counts enters.puts.descending) above_old;
+          (batch_is_stack terms.case (start_of folder) (length new_lists) enters.puts.batch ends enters.puts.counts enters.puts.descending) above_old;
       behind = λ path other old among. ⊎_elim
           (λ (waiting : Among pending other). under.behind path other old (waits other waiting))
           (λ (found : Among enters.puts.batch other). let rest = goes_on other found in
@@ -155,31 +170,39 @@ module _ (case : Case) (listed : List (List ℕ)) (pending : List Pending) (next
       ordered = under.ordered;
     }
 
-    pub under_way_entered : IsUnderWay case listed new new_lists
-    under_way_entered = subst (λ all. IsUnderWay case listed all new_lists) (sym enters.puts.joined) under_way_joined
+    pub under_way_entered : IsUnderWay terms.case listed new new_lists
+    under_way_entered = subst (λ all. IsUnderWay terms.case listed all new_lists) (sym enters.puts.joined) under_way_joined
 
 -- ---- of a tree
 
--- the lists before an entry that is a folder are those to its path
-lists_below : (basis : Basis) (tree : FileTree) (start name : List ℕ) → IsEntryName basis.case name → (found : List ℕ) (at : Folder) (kind : EntryKind)
-    → found ≡ (start ++ name) ++ (if is_folder kind then slash ∷ [] else []) → found ≡ start_of at → lists_to basis tree (start ++ name) ≡ lists_before basis tree at
-lists_below basis tree start name may found at kinds.Folder joined is =
-    let same : at ≡ start ++ name = marked_start (start ++ name) at (sym joined ∙ is) in
-    ap (lists_to basis tree) (sym same) ∙ sym (lists_before_some basis tree at (λ none. some_append start name (name_is_some basis.case name may) (sym same ∙ none)))
-lists_below basis tree start name may found at kinds.File joined is =
-    let bare : found ≡ start ++ name = joined ∙ append-nil (start ++ name) in
-    absurd (entry_unended basis.case start name may (subst EndsInSlash (sym is ∙ bare) (start_ends at (λ none. some_append start name (name_is_some basis.case name may) (sym bare ∙ is ∙ none)))))
+-- lists count only where what isn't ignored is chosen
+found_by : (lists others : List (EntryList (Unit {0}))) (terms : Terms) (tree : FileTree) (path found : List ℕ) → (terms.chosen ≡ Unignored → lists ≡ others) → IsFound lists terms tree path found → IsFound others terms tree path found
+found_by lists others terms tree path found same it = record {
+  kind = it.kind;
+  there = it.there;
+  kept = record {
+    unignored = λ told. subst (λ (ls : List (EntryList (Unit {0}))). ¬ IsIgnored ls terms.case path (is_folder it.kind)) (same told) (it.kept.unignored told);
+    shown = it.kept.shown;
+  };
+  joined = it.joined;
+}
+
+-- of a text that is empty each part is
+ends_empty : (front name mark : List ℕ) → (front ++ name) ++ mark ≡ [] → name ≡ []
+ends_empty [] [] mark none = refl
+ends_empty [] (b ∷ name) mark none = absurd (cc)
+ends_empty (b ∷ front) name mark none = absurd (cc)
 
 module _ (basis : Basis) (tree : FileTree) (start : List ℕ) (listed : List (List ℕ)) (pending : List Pending) (next : Pending) (lists : List (EntryList (Unit {0}))) (halfway : IsHalfway basis tree start listed (pending ++ next ∷ []) lists) where
   stays_in : (other : Pending) → Among pending other → Among (pending ++ next ∷ []) other
   stays_in other among = among_left pending (next ∷ []) other among
 
-  pub halfway_listed : IsLeaf tree (path_of next) → IsHalfway basis tree start (listed ++ path_of next ∷ []) pending lists
+  pub halfway_listed : IsListed basis tree (path_of next) → IsHalfway basis tree start (listed ++ path_of next ∷ []) pending lists
   halfway_listed leaf = record {
     sound = λ path among. ⊎_elim
         (λ (old : Among listed path). halfway.sound path old)
         (λ (one : Among (path_of next ∷ []) path). ⊎_elim
-        (λ (is : path_of next ≡ path). subst (λ p. IsMet basis tree start p × IsLeaf tree p) is (halfway.met next (among_last pending next), leaf))
+        (λ (is : path_of next ≡ path). subst (λ p. IsMet basis tree start p × IsListed basis tree p) is (halfway.met next (among_last pending next), leaf))
         (λ (never : ⊥). absurd never)
         one)
         (among_cases listed (path_of next ∷ []) path among);
@@ -191,7 +214,7 @@ module _ (basis : Basis) (tree : FileTree) (start : List ℕ) (listed : List (Li
         (λ (waiting : Among pending from.0). inr (from.0, waiting, from.2))
         (λ (one : Among (next ∷ []) from.0). ⊎_elim
         (λ (is : next ≡ from.0).
-        let same : path ≡ path_of next = leaf_meets_itself basis tree (subst (λ (p : Pending). IsMet basis tree (path_of p) path) (sym is) from.2) leaf in
+        let same : path ≡ path_of next = end_meets_itself basis tree (subst (λ (p : Pending). IsMet basis tree (path_of p) path) (sym is) from.2) (ends_listed basis tree (path_of next) leaf) in
         inl (subst (Among (listed ++ path_of next ∷ [])) (sym same) (among_last listed (path_of next))))
         (λ (never : ⊥). absurd never)
         one)
@@ -199,15 +222,41 @@ module _ (basis : Basis) (tree : FileTree) (start : List ℕ) (listed : List (Li
         (halfway.complete path met shut);
   }
 
-  module _ (folder : Folder) (is_start : path_of next ≡ start_of folder) (may : IsOpen basis tree folder) (few : (other : Pending) → Among pending other → other.list_count ≤ next.list_count) (fits : next.list_count ≤ length lists)
-      (Known : FileTree → Type 0) (known : Known tree) (new_lists : List (EntryList (Unit {0}))) (new : List Pending) (enters : Enters Known basis.case folder next.list_count lists new_lists pending new) where
-    -- the lists are those of the folder's entries
-    are_lists : new_lists ≡ lists_to basis tree (start_of folder)
-    are_lists =
+  -- or it was passed over
+  pub halfway_passed : IsEndOf basis tree (path_of next) → ¬ IsListed basis tree (path_of next) → IsHalfway basis tree start listed pending lists
+  halfway_passed ends unlisted = record {
+    sound = halfway.sound;
+    met = λ other among. halfway.met other (stays_in other among);
+    standing = λ other among. halfway.standing other (stays_in other among);
+    complete = λ path met shut. ⊎_elim
+        (λ (old : Among listed path). inl old)
+        (λ (from : (other : Pending) × Among (pending ++ next ∷ []) other × IsMet basis tree (path_of other) path). ⊎_elim
+        (λ (waiting : Among pending from.0). inr (from.0, waiting, from.2))
+        (λ (one : Among (next ∷ []) from.0). ⊎_elim
+        (λ (is : next ≡ from.0).
+        let same : path ≡ path_of next = end_meets_itself basis tree (subst (λ (p : Pending). IsMet basis tree (path_of p) path) (sym is) from.2) ends in
+        absurd (unlisted (subst (IsListed basis tree) same shut)))
+        (λ (never : ⊥). absurd never)
+        one)
+        (among_cases pending (next ∷ []) from.0 from.1))
+        (halfway.complete path met shut);
+  }
+
+  module _ (folder : Folder) (is_start : path_of next ≡ start_of folder) (unended : folder ≢ [] → ¬ EndsInSlash folder) (is_ignored : Bool) (flags : FlagsFolder basis.terms lists next folder is_ignored) (may : IsOpen basis tree folder) (few : (other : Pending) → Among pending other → other.list_count ≤ next.list_count) (fits : next.list_count ≤ length lists)
+      (Known : FileTree → Type 0) (known : Known tree) (new_lists : List (EntryList (Unit {0}))) (new : List Pending) (enters : Enters Known basis.terms folder next.list_count is_ignored lists new_lists pending new) where
+    standing : Stands basis tree lists next
+    standing = halfway.standing next (among_last pending next)
+
+    -- where the folder's list counts, the lists are those of its entries
+    are_lists : reads_list basis.terms.chosen is_ignored ≡ true → new_lists ≡ lists_to basis tree (start_of folder)
+    are_lists reads =
         enters.lists.joined
-        ∙ ap (λ (own : List (EntryList (Unit {0}))). take next.list_count lists ++ own) (enters.lists.is_own tree known)
-        ∙ ap (λ (before : List (EntryList (Unit {0}))). before ++ unless_empty (tree.list folder)) (halfway.standing next (among_last pending next) folder is_start)
+        ∙ ap (λ (own : List (EntryList (Unit {0}))). take next.list_count lists ++ own) (enters.lists.is_own tree (known, reads))
+        ∙ ap (λ (before : List (EntryList (Unit {0}))). before ++ unless_empty (tree.list folder)) (level_before basis tree lists next standing folder is_start unended is_ignored flags basis.terms.chosen refl reads)
         ∙ sym (lists_in basis tree folder)
+
+    are_unignored : basis.terms.chosen ≡ Unignored → new_lists ≡ lists_to basis tree (start_of folder)
+    are_unignored told = are_lists (ap (λ (c : Chosen). reads_list c is_ignored) told)
 
     -- what is pending of the folder are its entries
     is_entry : (found : Pending) → Among enters.puts.batch found → IsEntryOf basis tree folder (path_of found)
@@ -219,7 +268,7 @@ module _ (basis : Basis) (tree : FileTree) (start : List ℕ) (listed : List (Li
           name = by_name.name;
           among = contains_among (tree.names folder) by_name.name by_name.among;
           may = by_name.may;
-          here = subst (λ (ls : List (EntryList (Unit {0}))). IsFound ls basis.case tree (start_of folder ++ by_name.name) (path_of found)) are_lists by_name.here;
+          here = found_by new_lists (lists_to basis tree (start_of folder)) basis.terms tree (start_of folder ++ by_name.name) (path_of found) are_unignored by_name.here;
         }
 
     entry_waits : (found : List ℕ) → IsEntryOf basis tree folder found → (other : Pending) × Among enters.puts.batch other × (path_of other ≡ found)
@@ -229,7 +278,7 @@ module _ (basis : Basis) (tree : FileTree) (start : List ℕ) (listed : List (Li
           name = entry.name;
           among = among_contained (tree.names folder) entry.name entry.among;
           may = entry.may;
-          here = subst (λ (ls : List (EntryList (Unit {0}))). IsFound ls basis.case tree (start_of folder ++ entry.name) found) (sym are_lists) entry.here;
+          here = found_by (lists_to basis tree (start_of folder)) new_lists basis.terms tree (start_of folder ++ entry.name) found (λ told. sym (are_unignored told)) entry.here;
         }) in
         let same = enters.puts.same found in
         among_mapped path_of enters.puts.batch found (same.0 among)
@@ -237,22 +286,39 @@ module _ (basis : Basis) (tree : FileTree) (start : List ℕ) (listed : List (Li
     met_next : IsMet basis tree start (start_of folder)
     met_next = subst (IsMet basis tree start) is_start (halfway.met next (among_last pending next))
 
-    stand_old : (other : Pending) → Among pending other → (at : Folder) → path_of other ≡ start_of at → take other.list_count new_lists ≡ lists_before basis tree at
-    stand_old other waiting at is =
+    same_front : (other : Pending) → Among pending other → take other.list_count new_lists ≡ take other.list_count lists
+    same_front other waiting =
         let less = few other waiting in
         let long : length (take next.list_count lists) ≡ next.list_count = length-take-le next.list_count lists fits in
         ap (take other.list_count) enters.lists.joined
         ∙ take-append-le other.list_count (take next.list_count lists) enters.lists.own (omega (arith, less, long))
         ∙ take-take other.list_count next.list_count lists less
-        ∙ halfway.standing other (stays_in other waiting) at is
 
-    stand_new : (other : Pending) → Among enters.puts.batch other → (at : Folder) → path_of other ≡ start_of at → take other.list_count new_lists ≡ lists_before basis tree at
-    stand_new other found at is =
-        let level : other.list_count ≡ length new_lists = of_all (λ (p : Pending). p.list_count ≡ length new_lists) enters.puts.batch enters.puts.counts other found in
+    stand_old : (other : Pending) → Among pending other → Stands basis tree new_lists other
+    stand_old other waiting =
+        let before = halfway.standing other (stays_in other waiting) in
+        record {
+          top = λ is. same_front other waiting ∙ before.top is;
+          level = λ path is_dir marked. subst (λ (ls : List (EntryList (Unit {0}))). IsLevel basis.terms.chosen basis tree ls other.is_below path) (sym (same_front other waiting)) (before.level path is_dir marked);
+        }
+
+    stand_new : (other : Pending) → Among enters.puts.batch other → Stands basis tree new_lists other
+    stand_new other found =
+        let same : other.list_count ≡ length new_lists = of_all (λ (p : Pending). p.list_count ≡ length new_lists) enters.puts.batch enters.puts.counts other found in
+        let below : other.is_below ≡ is_ignored = of_all (λ (p : Pending). p.is_below ≡ is_ignored) enters.puts.batch enters.puts.belows other found in
+        let all : take other.list_count new_lists ≡ new_lists = take_all other.list_count new_lists (omega (arith, same)) in
         let entry = is_entry other found in
-        take_all other.list_count new_lists (omega (arith, level)) ∙ are_lists
-        ∙ sym (lists_of_entry basis tree (start_of folder) entry.name entry.may.whole)
-        ∙ lists_below basis tree (start_of folder) entry.name entry.may (path_of other) at entry.here.kind entry.here.joined is
+        let bare = start_of folder ++ entry.name in
+        let whole = entry_unended basis.terms.case (start_of folder) entry.name entry.may in
+        record {
+          top = λ none. absurd (name_is_some basis.terms.case entry.name entry.may (ends_empty (start_of folder) entry.name (mark_of (is_folder entry.here.kind)) (sym entry.here.joined ∙ none)));
+          level = λ path is_dir marked.
+              let one : path ≡ bare = one_mark path bare is_dir (is_folder entry.here.kind) marked.1 whole (sym marked.2 ∙ entry.here.joined) in
+              subst (λ (p : List ℕ). IsLevel basis.terms.chosen basis tree (take other.list_count new_lists) other.is_below p) (sym one)
+              (subst (λ (ls : List (EntryList (Unit {0}))). IsLevel basis.terms.chosen basis tree ls other.is_below bare) (sym all)
+              (subst (λ (b : Bool). IsLevel basis.terms.chosen basis tree new_lists b bare) (sym below)
+              (level_of_entry basis tree lists next standing folder is_start unended is_ignored flags new_lists are_lists entry.name entry.may.whole basis.terms.chosen refl)));
+        }
 
     halfway_joined : IsHalfway basis tree start listed (pending ++ enters.puts.batch) new_lists
     halfway_joined = record {
@@ -272,7 +338,7 @@ module _ (basis : Basis) (tree : FileTree) (start : List ℕ) (listed : List (Li
           (λ (one : Among (next ∷ []) from.0). ⊎_elim
           (λ (is : next ≡ from.0).
           let met_here : IsMet basis tree (start_of folder) path = subst (λ s. IsMet basis tree s path) is_start (subst (λ (p : Pending). IsMet basis tree (path_of p) path) (sym is) from.2) in
-          let first = meets_entry basis tree folder path may met_here shut in
+          let first = meets_entry basis tree folder path may met_here (ends_listed basis tree path shut) in
           let waits_for = entry_waits first.0 first.1 in
           inr (waits_for.0, among_right pending enters.puts.batch waits_for.0 waits_for.1, subst (λ s. IsMet basis tree s path) (sym waits_for.2) first.2))
           (λ (never : ⊥). absurd never)

@@ -1,20 +1,22 @@
 -- The lines of a listing, as they are written.
-use Rattle.std.proofs.Common.{◌≡◌, ◌⊎◌, ⊎_elim, ℕ, List, [], ◌∷◌, ◌++◌, length, take, refl, sym, ap, subst, ◌∙◌, append_assoc, append-nil}
-use Rattle.std.specs.Prelude.{Option, None, Some}
+use Rattle.std.proofs.Common.{◌≡◌, ◌≢◌, ◌⊎◌, inl, inr, ⊎_elim, ℕ, Bool, List, [], ◌∷◌, ◌++◌, length, take, refl, sym, ap, subst, ◌∙◌, append_assoc, append-nil}
+use Rattle.std.specs.Prelude.{◌↔◌, IsTrue, Option, None, Some}
 use Rattle.std.specs.Io.KnownBytes.{Appends}
 use Rattle.std.specs.List.{flat_map}
 use Rattle.std.proofs.lemmas.List.{flat_map_more, take_at}
-use Rattle.gix_glob.specs.declared.pattern.Case.{Case}
+use Rattle.gix_glob.specs.Bytes.{EndsInSlash}
 use Rattle.gix_glob.specs.EntryLists.{EntryList}
 use Rattle.glob_lines.specs.Transfers.{AppendsFront}
 use Rattle.glob_trees.specs.Ways.{Folder, start_of}
+use Rattle.tree_commands.specs.declared.files.choosing.Chosen.TheVariants.{Ignored}
 use Rattle.tree_commands.specs.declared.files.pending.Pending.{Pending}
 use Rattle.tree_commands.specs.FileTrees.{FileTree}
-use Rattle.tree_commands.specs.Files.{IsLeaf, IsMet}
-use Rattle.tree_commands.specs.Private.Listing.{Among, Enters, IsEntered, IsToList, Visits, WritesOut, path_of, with_line}
-use Rattle.tree_commands.specs.Private.UnderWay.{Beginning, IsWriting, OfKnown, WritesAll, WritesFront}
+use Rattle.tree_commands.specs.Files.{Basis, IsIgnoredAt, IsListed, IsListedBy, IsMet, IsShut, Terms}
+use Rattle.tree_commands.specs.Private.Listing.{Among, Enters, FlagsFolder, IsEnd, IsEntered, IsIgnoredNext, IsMarked, IsPassedOver, IsToList, Visits, WritesOut, path_of, with_line}
+use Rattle.tree_commands.specs.Private.UnderWay.{Beginning, IsHalfway, IsWriting, OfKnown, WritesAll, WritesFront}
 use Rattle.tree_commands.proofs.lemmas.AmongLemmas.{among_last}
-use Rattle.tree_commands.proofs.lemmas.ListingLemmas.{halfway_entered, halfway_listed, under_way_entered, under_way_listed}
+use Rattle.tree_commands.proofs.lemmas.LevelLemmas.{end_as, listed_as, next_ignored, open_by_flag}
+use Rattle.tree_commands.proofs.lemmas.ListingLemmas.{halfway_entered, halfway_listed, halfway_passed, may_next, under_way_entered, under_way_listed, under_way_passed}
 use Rattle.tree_commands.proofs.lemmas.StackLemmas.{stack_top}
 
 appends_more : (old middle new : Option (List ℕ)) (one more : List ℕ) → Appends old middle one → Appends middle new more → Appends old new (one ++ more)
@@ -27,10 +29,10 @@ pub appends_none : (old : Option (List ℕ)) → Appends old old []
 appends_none None = tt
 appends_none (Some xs) = sym (append-nil xs)
 
-module _ (line : List ℕ → List ℕ) (Known : FileTree → Type 0) (case : Case) (beginning : Beginning) (old : Option (List ℕ)) where
+module _ (line : List ℕ → List ℕ) (Known : FileTree → Type 0) (terms : Terms) (beginning : Beginning) (old : Option (List ℕ)) where
   module _ (new : Option (List ℕ)) (text : List ℕ) (pending : List Pending) (lists : List (EntryList (Unit {0}))) where
     -- a front of the lines is written at any time
-    pub front_is_written : IsWriting line Known case beginning old new text pending lists → WritesFront line Known case beginning old new
+    pub front_is_written : IsWriting line Known terms beginning old new text pending lists → WritesFront line Known terms beginning old new
     front_is_written it = record {
       listed = it.listed;
       ordered = it.under_way.ordered;
@@ -42,7 +44,7 @@ module _ (line : List ℕ → List ℕ) (Known : FileTree → Type 0) (case : Ca
     }
 
   -- all is written where nothing is pending, and what was left
-  pub all_is_written : (middle new : Option (List ℕ)) (text : List ℕ) (lists : List (EntryList (Unit {0}))) → IsWriting line Known case beginning old middle text [] lists → Appends middle new text → WritesAll line Known case beginning old new
+  pub all_is_written : (middle new : Option (List ℕ)) (text : List ℕ) (lists : List (EntryList (Unit {0}))) → IsWriting line Known terms beginning old middle text [] lists → Appends middle new text → WritesAll line Known terms beginning old new
   all_is_written middle new text lists it rest = record {
     listed = it.listed;
     ordered = it.under_way.ordered;
@@ -58,18 +60,41 @@ module _ (line : List ℕ → List ℕ) (Known : FileTree → Type 0) (case : Ca
   }
 
   module _ (Now : FileTree → Type 0) (stays : (tree : FileTree) → Known tree → Now tree) (middle : Option (List ℕ)) (text : List ℕ) (next : Pending) (pending : List Pending) (lists : List (EntryList (Unit {0})))
-      (it : IsWriting line Known case beginning old middle text (pending ++ next ∷ []) lists) where
+      (it : IsWriting line Known terms beginning old middle text (pending ++ next ∷ []) lists) where
+    -- what the next path says of being ignored is so
+    unended : (folder : Folder) → path_of next ≡ start_of folder → folder ≢ [] → ¬ EndsInSlash folder
+    unended folder is some = let may = may_next terms it.listed pending next lists it.under_way in let both = may.folder folder is some in both.1
+
+    module _ (tree : FileTree) (known : Known tree) (basis : Basis) (same : basis.terms ≡ terms) (start : List ℕ) (halfway : IsHalfway basis tree start [] beginning.pending beginning.lists) where
+      now_halfway : IsHalfway basis tree start it.listed (pending ++ next ∷ []) lists
+      now_halfway = it.halfway tree known basis same start halfway
+
+      says_ignored : basis.terms.chosen ≡ Ignored → (path : List ℕ) (is_dir : Bool) → IsMarked path is_dir (path_of next) → IsIgnoredNext basis.terms lists next path is_dir ↔ IsIgnoredAt basis tree path is_dir
+      says_ignored = next_ignored basis tree lists next (let now = now_halfway in now.standing next (among_last pending next))
+
+      to_listed : IsListedBy terms tree (IsIgnoredNext terms lists next) (path_of next) → IsListed basis tree (path_of next)
+      to_listed listed = listed_as basis.terms tree (IsIgnoredNext basis.terms lists next) (IsIgnoredAt basis tree) (path_of next) unended (λ told path is_dir marked. (let both = says_ignored told path is_dir marked in both.0))
+          (subst (λ (t : Terms). IsListedBy t tree (IsIgnoredNext t lists next) (path_of next)) (sym same) listed)
+
+      from_listed : IsListed basis tree (path_of next) → IsListedBy terms tree (IsIgnoredNext terms lists next) (path_of next)
+      from_listed listed = subst (λ (t : Terms). IsListedBy t tree (IsIgnoredNext t lists next) (path_of next)) same
+          (listed_as basis.terms tree (IsIgnoredAt basis tree) (IsIgnoredNext basis.terms lists next) (path_of next) unended (λ told path is_dir marked. (let both = says_ignored told path is_dir marked in both.1)) listed)
+
+      to_end : IsEnd terms tree (IsIgnoredNext terms lists next) (path_of next) → IsEnd basis.terms tree (IsIgnoredAt basis tree) (path_of next)
+      to_end ends = end_as basis.terms tree (IsIgnoredNext basis.terms lists next) (IsIgnoredAt basis tree) (path_of next) unended (λ told path is_dir marked. (let both = says_ignored told path is_dir marked in both.0))
+          (subst (λ (t : Terms). IsEnd t tree (IsIgnoredNext t lists next) (path_of next)) (sym same) ends)
+
     -- the next path was listed, and its line is written or is left
-    pub writes_listed : (new : Option (List ℕ)) (new_pending : List Pending) (new_lists : List (EntryList (Unit {0}))) (path more left written : List ℕ) → IsToList Now next lists new_lists pending new_pending path
-        → more ≡ text ++ line path → Appends middle new written → more ≡ written ++ left → IsWriting line Known case beginning old new left new_pending new_lists
+    pub writes_listed : (new : Option (List ℕ)) (new_pending : List Pending) (new_lists : List (EntryList (Unit {0}))) (path more left written : List ℕ) → IsToList Now terms next lists new_lists pending new_pending path
+        → more ≡ text ++ line path → Appends middle new written → more ≡ written ++ left → IsWriting line Known terms beginning old new left new_pending new_lists
     writes_listed new new_pending new_lists path more left written is appended out cut =
-        subst (λ (ls : List (EntryList (Unit {0}))). IsWriting line Known case beginning old new left new_pending ls) (sym is.lists)
-        (subst (λ (ps : List Pending). IsWriting line Known case beginning old new left ps lists) (sym is.pending) here)
+        subst (λ (ls : List (EntryList (Unit {0}))). IsWriting line Known terms beginning old new left new_pending ls) (sym is.lists)
+        (subst (λ (ps : List Pending). IsWriting line Known terms beginning old new left ps lists) (sym is.pending) here)
       where
-        here : IsWriting line Known case beginning old new left pending lists
+        here : IsWriting line Known terms beginning old new left pending lists
         here = record {
           listed = it.listed ++ path_of next ∷ [];
-          under_way = under_way_listed case it.listed pending next lists it.under_way;
+          under_way = under_way_listed terms it.listed pending next lists it.under_way;
           written = it.written ++ written;
           appended = appends_more old middle new it.written written it.appended out;
           joined = sym (flat_map_more line [] it.listed (path_of next))
@@ -78,32 +103,65 @@ module _ (line : List ℕ → List ℕ) (Known : FileTree → Type 0) (case : Ca
               ∙ ap (λ l. it.written ++ l) (ap (λ p. text ++ line p) (sym is.same) ∙ sym appended ∙ cut)
               ∙ sym (append_assoc it.written written left);
           halfway = λ tree known basis same start halfway.
-              halfway_listed basis tree start it.listed pending next lists (it.halfway tree known basis same start halfway) (subst (IsLeaf tree) is.same (is.leaf tree (stays tree known)));
+              halfway_listed basis tree start it.listed pending next lists (it.halfway tree known basis same start halfway)
+              (to_listed tree known basis same start halfway (subst (IsListedBy terms tree (IsIgnoredNext terms lists next)) is.same (is.listed tree (stays tree known))));
+        }
+
+    -- or it was passed over
+    pub writes_passed : (new_pending : List Pending) (new_lists : List (EntryList (Unit {0}))) → IsPassedOver Now terms next lists new_lists pending new_pending → IsWriting line Known terms beginning old middle text new_pending new_lists
+    writes_passed new_pending new_lists is =
+        subst (λ (ls : List (EntryList (Unit {0}))). IsWriting line Known terms beginning old middle text new_pending ls) (sym is.lists)
+        (subst (λ (ps : List Pending). IsWriting line Known terms beginning old middle text ps lists) (sym is.pending) here)
+      where
+        here : IsWriting line Known terms beginning old middle text pending lists
+        here = record {
+          listed = it.listed;
+          under_way = under_way_passed terms it.listed pending next lists it.under_way;
+          written = it.written;
+          appended = it.appended;
+          joined = it.joined;
+          halfway = λ tree known basis same start halfway.
+              halfway_passed basis tree start it.listed pending next lists (it.halfway tree known basis same start halfway)
+              (to_end tree known basis same start halfway (is.ends tree (stays tree known)))
+              (λ listed. is.unlisted tree (stays tree known) (from_listed tree known basis same start halfway listed));
         }
 
     -- or its folder was entered
-    pub writes_entered : (new_pending : List Pending) (new_lists : List (EntryList (Unit {0}))) → IsEntered Now case next lists new_lists pending new_pending → IsWriting line Known case beginning old middle text new_pending new_lists
+    pub writes_entered : (new_pending : List Pending) (new_lists : List (EntryList (Unit {0}))) → IsEntered Now terms next lists new_lists pending new_pending → IsWriting line Known terms beginning old middle text new_pending new_lists
     writes_entered new_pending new_lists is = record {
       listed = it.listed;
-      under_way = under_way_entered case it.listed pending next lists it.under_way is.folder is.start Now new_lists new_pending is.enters;
+      under_way = under_way_entered terms it.listed pending next lists it.under_way is.folder is.start Now is.is_ignored new_lists new_pending is.enters;
       written = it.written;
       appended = it.appended;
       joined = it.joined;
       halfway = λ tree known basis same start halfway.
-          halfway_entered basis tree start it.listed pending next lists (it.halfway tree known basis same start halfway) is.folder is.start (is.may tree (stays tree known))
-          (λ other among. (let above = stack_top path_of (λ (p : Pending). p.list_count) pending next it.under_way.stacked other among in above.counts))
-          (it.under_way.counts next (among_last pending next))
-          Now (stays tree known) new_lists new_pending (subst (λ c. Enters Now c is.folder next.list_count lists new_lists pending new_pending) (sym same) is.enters);
+          entered tree known basis same start halfway;
     }
+      where
+        entered : (tree : FileTree) → Known tree → (basis : Basis) → basis.terms ≡ terms → (start : List ℕ) → IsHalfway basis tree start [] beginning.pending beginning.lists → IsHalfway basis tree start it.listed new_pending new_lists
+        entered tree known basis same start halfway =
+            let now = it.halfway tree known basis same start halfway in
+            let flags = subst (λ (t : Terms). FlagsFolder t lists next is.folder is.is_ignored) (sym same) is.flag in
+            let may = subst (λ (t : Terms). ¬ IsShut t tree is.folder (IsTrue is.is_ignored)) (sym same) (is.may tree (stays tree known)) in
+            halfway_entered basis tree start it.listed pending next lists now is.folder is.start (unended is.folder is.start) is.is_ignored flags
+            (open_by_flag basis tree lists next (now.standing next (among_last pending next)) is.folder is.start (unended is.folder is.start) is.is_ignored flags may)
+            (λ other among. (let above = stack_top path_of (λ (p : Pending). p.list_count) pending next it.under_way.stacked other among in above.counts))
+            (it.under_way.counts next (among_last pending next))
+            Now (stays tree known) new_lists new_pending (subst (λ (t : Terms). Enters Now t is.folder next.list_count is.is_ignored lists new_lists pending new_pending) (sym same) is.enters)
+
+    pub writes_nothing : (new_pending : List Pending) (new_lists : List (EntryList (Unit {0}))) → IsEntered Now terms next lists new_lists pending new_pending ⊎ IsPassedOver Now terms next lists new_lists pending new_pending
+        → IsWriting line Known terms beginning old middle text new_pending new_lists
+    writes_nothing new_pending new_lists (inl entered) = writes_entered new_pending new_lists entered
+    writes_nothing new_pending new_lists (inr passed) = writes_passed new_pending new_lists passed
 
     -- what is written beside it goes on what was
-    pub asked_is_met : (folder : Folder) → path_of next ≡ start_of folder → OfKnown Known case beginning (λ basis tree start. IsMet basis tree start (start_of folder))
+    pub asked_is_met : (folder : Folder) → path_of next ≡ start_of folder → OfKnown Known terms beginning (λ basis tree start. IsMet basis tree start (start_of folder))
     asked_is_met folder is = λ tree known basis same start halfway.
         let now = it.halfway tree known basis same start halfway in subst (IsMet basis tree start) is (now.met next (among_last pending next))
 
   -- of the text a front is written
-  writes_out : (middle new : Option (List ℕ)) (text left written : List ℕ) (pending : List Pending) (lists : List (EntryList (Unit {0}))) → IsWriting line Known case beginning old middle text pending lists
-      → Appends middle new written → text ≡ written ++ left → IsWriting line Known case beginning old new left pending lists
+  writes_out : (middle new : Option (List ℕ)) (text left written : List ℕ) (pending : List Pending) (lists : List (EntryList (Unit {0}))) → IsWriting line Known terms beginning old middle text pending lists
+      → Appends middle new written → text ≡ written ++ left → IsWriting line Known terms beginning old new left pending lists
   writes_out middle new text left written pending lists it out cut = record {
     listed = it.listed;
     under_way = it.under_way;
@@ -115,10 +173,10 @@ module _ (line : List ℕ → List ℕ) (Known : FileTree → Type 0) (case : Ca
 
   -- the next path was visited, and of what is to be written a front is
   pub writes_on : (Now : FileTree → Type 0) (stays : (tree : FileTree) → Known tree → Now tree) (middle new : Option (List ℕ)) (text left : List ℕ) (next : Pending) (pending new_pending : List Pending) (lists new_lists : List (EntryList (Unit {0})))
-      (listed : Option (List ℕ)) → IsWriting line Known case beginning old middle text (pending ++ next ∷ []) lists → Visits Now case next lists new_lists pending new_pending listed
-      → WritesOut middle new (with_line line text listed) left → IsWriting line Known case beginning old new left new_pending new_lists
+      (listed : Option (List ℕ)) → IsWriting line Known terms beginning old middle text (pending ++ next ∷ []) lists → Visits Now terms next lists new_lists pending new_pending listed
+      → WritesOut middle new (with_line line text listed) left → IsWriting line Known terms beginning old new left new_pending new_lists
   writes_on Now stays middle new text left next pending new_pending lists new_lists None it visited out =
-      writes_out middle new text left out.0 new_pending new_lists (writes_entered Now stays middle text next pending lists it new_pending new_lists visited) out.1 out.2
+      writes_out middle new text left out.0 new_pending new_lists (writes_nothing Now stays middle text next pending lists it new_pending new_lists visited) out.1 out.2
   writes_on Now stays middle new text left next pending new_pending lists new_lists (Some path) it visited out =
       writes_listed Now stays middle text next pending lists it new new_pending new_lists path (text ++ line path) left out.0 visited refl out.1 out.2
 

@@ -13,9 +13,14 @@ use Rattle.glob_trees.proofs.lemmas.WayLemmas.{folders_other, folders_slash}
 use Rattle.glob_trees.proofs.lemmas.WithEntries.{empty_or_not, with_entries_more}
 use Rattle.tree_commands.specs.FileTrees.{FileTree}
 use Rattle.tree_commands.specs.Files.{Basis, lists_to}
-use Rattle.tree_commands.specs.Private.Listing.{lists_before, seen_lists}
+use Rattle.tree_commands.specs.Private.Listing.{seen_lists}
 
 -- ---- the folders on the way
+
+-- the lists before the folder's own: those before all folders, and for another folder than the top those to its path
+abbrev pub lists_before : Basis → FileTree → Folder → List (EntryList (Unit {0}))
+lists_before basis tree [] = basis.fronts
+lists_before basis tree (b ∷ folder) = lists_to basis tree (b ∷ folder)
 
 -- a name adds no folder
 pub folders_name : (front name : List ℕ) → HasNo slash name → folders_to (front ++ name) ≡ folders_to front

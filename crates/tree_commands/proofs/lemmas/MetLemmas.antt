@@ -1,16 +1,23 @@
 -- The paths that are met from one on.
-use Rattle.std.proofs.Common.{◌≡◌, ◌≢◌, ◌⊎◌, inl, inr, ⊎_elim, ℕ, Bool, true, false, List, [], ◌∷◌, refl, sym, ap, subst, ◌∙◌}
-use Rattle.std.specs.Prelude.{IsTrue}
-use Rattle.std.proofs.lemmas.Bool.{false≢true}
+use Rattle.std.proofs.Common.{◌≡◌, ◌⊎◌, inl, inr, ⊎_elim, ℕ, true, List, refl, sym, subst, ◌∙◌}
 use Rattle.gix_glob.specs.Bytes.{EndsInSlash}
 use Rattle.glob_trees.specs.Ways.{Folder, start_of}
 use Rattle.tree_commands.specs.FileTrees.{FileTree}
-use Rattle.tree_commands.specs.Files.{IsEntryOf, IsLeaf, IsMet, Basis, begins, lies}
+use Rattle.tree_commands.specs.Files.{Basis, IsEntryOf, IsIgnoredAt, IsListed, IsMet, IsShut, begins, lies}
+use Rattle.tree_commands.specs.Private.Listing.{IsEnd}
 use Rattle.tree_commands.proofs.lemmas.PathLemmas.{one_folder, start_ends}
 
 module _ (basis : Basis) (tree : FileTree) where
   abbrev pub IsOpen : Folder → Type 0
-  IsOpen folder = (folder ≡ []) ⊎ (tree.has_git folder ≡ false)
+  IsOpen folder = ¬ IsShut basis.terms tree folder (IsIgnoredAt basis tree folder true)
+
+  -- no path is met from this one but itself
+  abbrev pub IsEndOf : List ℕ → Type 0
+  IsEndOf path = IsEnd basis.terms tree (IsIgnoredAt basis tree) path
+
+  pub ends_listed : (path : List ℕ) → IsListed basis tree path → IsEndOf path
+  ends_listed path (inl file) = inl (file.some, file.whole)
+  ends_listed path (inr folder) = inr (folder.folder, folder.start, folder.shut)
 
   -- a path that is met from another one lies below an entry of that
   pub record MeetsFirst (start path : List ℕ) : Type 0 where
@@ -35,33 +42,23 @@ module _ (basis : Basis) (tree : FileTree) where
       }))
       (meets_first met)
 
-  -- a leaf isn't entered
-  leaf_is_shut : (path : List ℕ) (folder : Folder) → IsLeaf tree path → path ≡ start_of folder → ¬ IsOpen folder
-  leaf_is_shut path folder leaf is (inl top) = leaf.0 (is ∙ ap start_of top)
-  leaf_is_shut path folder leaf is (inr other) = ⊎_elim
-      (λ (file : ¬ EndsInSlash path). file (subst EndsInSlash (sym is) (start_ends folder (λ none. leaf.0 (is ∙ none)))))
-      (λ (git : (at : Folder) × (path ≡ start_of at) × (tree.has_git at ≡ true)).
-      let same = one_folder folder git.0 (sym is ∙ git.1) in
-      false≢true (sym other ∙ ap tree.has_git same ∙ git.2))
-      leaf.1
+  -- an end isn't entered
+  end_is_shut : (path : List ℕ) (folder : Folder) → IsEndOf path → path ≡ start_of folder → ¬ IsOpen folder
+  end_is_shut path folder (inl file) is may = file.1 (subst EndsInSlash (sym is) (start_ends folder (λ none. file.0 (is ∙ none))))
+  end_is_shut path folder (inr at) is may =
+      may (subst (λ f. IsShut basis.terms tree f (IsIgnoredAt basis tree f true)) (one_folder at.0 folder (sym at.1 ∙ is)) at.2)
 
-  pub leaf_meets_itself : {start path : List ℕ} → IsMet basis tree start path → IsLeaf tree start → path ≡ start
-  leaf_meets_itself {start} {path} met leaf = ⊎_elim
+  pub end_meets_itself : {start path : List ℕ} → IsMet basis tree start path → IsEndOf start → path ≡ start
+  end_meets_itself {start} {path} met ends = ⊎_elim
       (λ (is : path ≡ start). is)
-      (λ (first : MeetsFirst start path). absurd (leaf_is_shut start first.folder leaf first.is_start first.may))
+      (λ (first : MeetsFirst start path). absurd (end_is_shut start first.folder ends first.is_start first.may))
       (meets_first met)
 
   -- from a folder that is entered another path is met through one of its entries
-  pub meets_entry : (folder : Folder) (path : List ℕ) → IsOpen folder → IsMet basis tree (start_of folder) path → IsLeaf tree path → (found : List ℕ) × IsEntryOf basis tree folder found × IsMet basis tree found path
-  meets_entry folder path may met leaf = ⊎_elim
-      (λ (is : path ≡ start_of folder). absurd (leaf_is_shut path folder leaf is may))
+  pub meets_entry : (folder : Folder) (path : List ℕ) → IsOpen folder → IsMet basis tree (start_of folder) path → IsEndOf path → (found : List ℕ) × IsEntryOf basis tree folder found × IsMet basis tree found path
+  meets_entry folder path may met ends = ⊎_elim
+      (λ (is : path ≡ start_of folder). absurd (end_is_shut path folder ends is may))
       (λ (first : MeetsFirst (start_of folder) path).
       let same : first.folder ≡ folder = one_folder first.folder folder (sym first.is_start) in
       (first.found, subst (λ at. IsEntryOf basis tree at first.found) same first.entry, first.rest))
       (meets_first met)
-
--- whether a folder is entered, by what is told of it
-pub open_by : (shut git : Bool) (folder : Folder) → ((IsTrue shut → (git ≡ true) × (folder ≢ [])) × ((git ≡ true) × (folder ≢ []) → IsTrue shut)) → shut ≡ false → (folder ≡ []) ⊎ (git ≡ false)
-open_by shut git [] tells is = inl refl
-open_by shut true (b ∷ folder) tells is = absurd (false≢true (sym is ∙ tells.1 (refl, λ none. absurd (cc))))
-open_by shut false (b ∷ folder) tells is = inr refl

@@ -1,5 +1,6 @@
 -- Paths of entries: what is plain, and what ends in a slash.
-use Rattle.std.proofs.Common.{◌≡◌, ◌≢◌, ◌⊎◌, inl, inr, ⊎_elim, ℕ, ◌+◌, ◌-◌, ◌<◌, ◌≤◌, true, false, List, [], ◌∷◌, ◌++◌, length, take, refl, sym, ap, subst, ◌∙◌, append_assoc, length-append, arith}
+use Rattle.std.proofs.Common.{◌≡◌, ◌≢◌, ◌⊎◌, inl, inr, ⊎_elim, ℕ, ◌+◌, ◌-◌, ◌<◌, ◌≤◌, true, false, List, [], ◌∷◌, ◌++◌, length, take, refl, sym, ap, subst, ◌∙◌, append_assoc, append-nil, length-append, arith}
+use Rattle.std.specs.Prelude.{Bool, if◌then◌else◌}
 use Rattle.std.proofs.lemmas.Bool.{cases_lt, false≢true}
 use Rattle.std.proofs.lemmas.List.{get_or-append_right, get_or_append_left, same_from_push, take_all, take_more}
 use Rattle.std.proofs.lemmas.List.Elements.{All-from_recursion}
@@ -55,6 +56,15 @@ start_ends (b ∷ folder) some = marked_ends (b ∷ folder)
 pub some_append : (xs ys : List ℕ) → ys ≢ [] → (xs ++ ys) ≢ []
 some_append [] ys some is = some is
 some_append (x ∷ xs) ys some is = absurd (cc)
+
+pub top_start : (folder : Folder) → start_of folder ≡ [] → folder ≡ []
+top_start [] none = refl
+top_start (b ∷ folder) none = absurd (cc)
+
+-- the start of another folder's entries is its path and a slash
+pub start_marked : (folder : Folder) → folder ≢ [] → start_of folder ≡ folder ++ slash ∷ []
+start_marked [] some = absurd (some refl)
+start_marked (b ∷ folder) some = refl
 
 -- by the start of its entries, a folder is known
 pub one_folder : (folder other : Folder) → start_of folder ≡ start_of other → folder ≡ other
@@ -131,25 +141,46 @@ folder_leads_on case path plain whole name may = plain_longer path name plain wh
 pub may_visit_top : (case : Case) → MayVisit case []
 may_visit_top case = record {
   whole = λ is. absurd (cc);
+  file = λ some. absurd (some refl);
+  folder = λ folder is some. absurd (some (top_start folder (sym is)));
   plain = λ folder is. top_leads_on case;
 }
 
 -- a file's path, and a folder's
-pub may_visit_file : (case : Case) (path : List ℕ) → path ≢ [] → ¬ EndsInSlash path → MayVisit case path
-may_visit_file case path some whole = record {
+pub may_visit_file : (case : Case) (path : List ℕ) → IsPlainPath path → ¬ EndsInSlash path → MayVisit case path
+may_visit_file case path plain whole = record {
   whole = λ is. whole (record { front = []; joined = is });
-  plain = λ folder is. absurd (whole (subst EndsInSlash (sym is) (start_ends folder (λ none. some (is ∙ none)))));
+  file = λ some unended. plain;
+  folder = λ folder is. absurd (no_start folder is);
+  plain = λ folder is. absurd (no_start folder is);
 }
+  where
+    no_start : (folder : Folder) → ¬ (path ≡ start_of folder)
+    no_start folder is = whole (subst EndsInSlash (sym is) (start_ends folder (λ none. plain.some (is ∙ none))))
 
 pub may_visit_folder : (case : Case) (path : List ℕ) → IsPlainPath path → ¬ EndsInSlash path → MayVisit case (path ++ slash ∷ [])
 may_visit_folder case path plain whole = record {
   whole = λ is. plain.some (let same = same_from_push path [] slash slash is in same.0);
+  file = λ some unended. absurd (unended (marked_ends path));
+  folder = λ folder is some. (let same = marked_start path folder is in (subst IsPlainPath (sym same) plain, subst (λ f. ¬ EndsInSlash f) (sym same) whole));
   plain = λ folder is. folder_leads_on case path plain whole;
 }
 
 -- what is found in a folder that may be visited
 pub may_visit_entry : (case : Case) (start found : List ℕ) → LeadsOn case start → EndsInName case start found → MayVisit case found
 may_visit_entry case start found leads ends = ⊎_elim
-    (λ (file : found ≡ start ++ ends.name). subst (MayVisit case) (sym file) (may_visit_file case (start ++ ends.name) (some_append start ends.name (name_is_some case ends.name ends.may)) (entry_unended case start ends.name ends.may)))
+    (λ (file : found ≡ start ++ ends.name). subst (MayVisit case) (sym file) (may_visit_file case (start ++ ends.name) (leads ends.name ends.may) (entry_unended case start ends.name ends.may)))
     (λ (folder : found ≡ (start ++ ends.name) ++ slash ∷ []). subst (MayVisit case) (sym folder) (may_visit_folder case (start ++ ends.name) (leads ends.name ends.may) (entry_unended case start ends.name ends.may)))
     ends.joined
+
+-- ---- paths with their marks
+
+abbrev pub mark_of : Bool → List ℕ
+mark_of is_dir = if is_dir then slash ∷ [] else []
+
+-- a path is known by it and its mark
+pub one_mark : (path other : List ℕ) (is_dir also : Bool) → ¬ EndsInSlash path → ¬ EndsInSlash other → path ++ mark_of is_dir ≡ other ++ mark_of also → path ≡ other
+one_mark path other true true whole open_end is = let same = same_from_push path other slash slash is in same.0
+one_mark path other false false whole open_end is = sym (append-nil path) ∙ is ∙ append-nil other
+one_mark path other true false whole open_end is = absurd (open_end (subst EndsInSlash (is ∙ append-nil other) (marked_ends path)))
+one_mark path other false true whole open_end is = absurd (whole (subst EndsInSlash (sym is ∙ append-nil path) (marked_ends other)))

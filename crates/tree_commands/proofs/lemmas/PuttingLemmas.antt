@@ -89,33 +89,36 @@ module _ {X : Type 0} (bytes : X → List ℕ) (xs : List X) (last : X) (path : 
 
 -- ---- some are put, and some are left
 
-pub record IsPutting (paths left : List (List ℕ)) (count : ℕ) (old new : List Pending) : Type 0 where
+pub record IsPutting (paths left : List (List ℕ)) (count : ℕ) (is_below : Bool) (old new : List Pending) : Type 0 where
   pub batch : List Pending
   pub joined : new ≡ old ++ batch
   pub counts : AllByRecursion (λ pending. pending.list_count ≡ count) batch
+  pub belows : AllByRecursion (λ pending. pending.is_below ≡ is_below) batch
   pub descending : AreDescending (map path_of batch)
   pub rises : AreRising left
   pub less : (one other : List ℕ) → Among left one → Among (map path_of batch) other → ComesBefore one other
   pub same : (path : List ℕ) → Among paths path ↔ (Among left path ⊎ Among (map path_of batch) path)
 
-pub putting_begins : (paths left : List (List ℕ)) (count : ℕ) (old : List Pending) → AreRising left → ((path : List ℕ) → Among paths path ↔ Among left path) → IsPutting paths left count old old
-putting_begins paths left count old rises same = record {
+pub putting_begins : (paths left : List (List ℕ)) (count : ℕ) (is_below : Bool) (old : List Pending) → AreRising left → ((path : List ℕ) → Among paths path ↔ Among left path) → IsPutting paths left count is_below old old
+putting_begins paths left count is_below old rises same = record {
   batch = [];
   joined = sym (append-nil old);
   counts = tt;
+  belows = tt;
   descending = tt;
   rises = rises;
   less = λ one other among never. absurd never;
   same = λ path. (let it = same path in (λ among. inl (it.0 among), λ either. ⊎_elim (λ (here : Among left path). it.1 here) (λ (never : ⊥). absurd never) either));
 }
 
-module _ (paths left : List (List ℕ)) (count : ℕ) (old new : List Pending) (next : Pending) (level : next.list_count ≡ count) (it : IsPutting paths (left ++ path_of next ∷ []) count old new) where
+module _ (paths left : List (List ℕ)) (count : ℕ) (is_below : Bool) (old new : List Pending) (next : Pending) (level : next.list_count ≡ count) (same_below : next.is_below ≡ is_below) (it : IsPutting paths (left ++ path_of next ∷ []) count is_below old new) where
   -- one that stands there again is passed over
-  pub putting_skips : EndsWith left (path_of next) → IsPutting paths left count old new
+  pub putting_skips : EndsWith left (path_of next) → IsPutting paths left count is_below old new
   putting_skips again = record {
     batch = it.batch;
     joined = it.joined;
     counts = it.counts;
+    belows = it.belows;
     descending = it.descending;
     rises = rising_front left (path_of next ∷ []) it.rises;
     less = λ one other among. it.less one other (among_left left (path_of next ∷ []) one among);
@@ -158,13 +161,17 @@ module _ (paths left : List (List ℕ)) (count : ℕ) (old new : List Pending) (
           let not_more : ¬ ComesBefore (path_of next) r = rising_last (r ∷ ps) (path_of next) rises.1 r (inl refl) in
           last_is (r ∷ ps) (λ ends. lone (q ∷ ends.0, ap (λ l. q ∷ l) ends.1)) r (inl refl) (same_between r (path_of next) (subst (λ l. ¬ ComesBefore r l) (same ∙ is) not_less) not_more) rises.1
 
-  pub putting_puts : ¬ EndsWith left (path_of next) → IsPutting paths left count old (new ++ next ∷ [])
+  pub putting_puts : ¬ EndsWith left (path_of next) → IsPutting paths left count is_below old (new ++ next ∷ [])
   putting_puts alone = record {
     batch = it.batch ++ next ∷ [];
     joined = ap (λ l. l ++ next ∷ []) it.joined ∙ append_assoc old it.batch (next ∷ []);
     counts = all_of (λ (p : Pending). p.list_count ≡ count) (it.batch ++ next ∷ []) (λ p among. ⊎_elim
         (λ (put : Among it.batch p). of_all (λ (q : Pending). q.list_count ≡ count) it.batch it.counts p put)
         (λ (last : Among (next ∷ []) p). ⊎_elim (λ (is : next ≡ p). subst (λ (q : Pending). q.list_count ≡ count) is level) (λ (never : ⊥). absurd never) last)
+        (among_cases it.batch (next ∷ []) p among));
+    belows = all_of (λ (p : Pending). p.is_below ≡ is_below) (it.batch ++ next ∷ []) (λ p among. ⊎_elim
+        (λ (put : Among it.batch p). of_all (λ (q : Pending). q.is_below ≡ is_below) it.batch it.belows p put)
+        (λ (last : Among (next ∷ []) p). ⊎_elim (λ (is : next ≡ p). subst (λ (q : Pending). q.is_below ≡ is_below) is same_below) (λ (never : ⊥). absurd never) last)
         (among_cases it.batch (next ∷ []) p among));
     descending = subst AreDescending (sym (map-append path_of it.batch (next ∷ []))) (descending_push (map path_of it.batch) (path_of next) it.descending is_least);
     rises = rising_front left (path_of next ∷ []) it.rises;

@@ -1,7 +1,7 @@
 -- The way to the path at which a listing begins.
 use Rattle.std.proofs.Common.{◌≡◌, ◌≢◌, ◌⊎◌, inl, inr, ⊎_elim, ℕ, zero, suc, ◌+◌, ◌<◌, ◌≤◌, true, false, List, [], ◌∷◌, ◌++◌, length, map, take, refl, sym, ap, subst, ◌∙◌, arith}
-use Rattle.std.specs.Prelude.{Bool, MatchBool, slice_index}
-use Rattle.gix_glob.specs.declared.pattern.Case.{Case}
+use Rattle.std.specs.Prelude.{◌↔◌, Bool, IsTrue, MatchBool, slice_index}
+use Rattle.git_index.specs.Entries.{HasBelow, IsSubmodule}
 use Rattle.std.proofs.lemmas.Bool.{cases_lt, false≢true}
 use Rattle.std.proofs.lemmas.List.{length-take-le, take_all, take_more}
 use Rattle.gix_glob.specs.Bytes.{HasByte, slash}
@@ -13,15 +13,17 @@ use Rattle.glob_trees.specs.Ways.{Folder, start_of, unless_empty, with_entries}
 use Rattle.glob_trees.proofs.lemmas.Folders.{above_is_front, above_is_shorter, above_slash, slash_below}
 use Rattle.glob_trees.proofs.lemmas.WayLemmas.{folders_other}
 use Rattle.told_paths.specs.Paths.{IsLastName}
+use Rattle.tree_commands.specs.declared.files.choosing.Chosen.{Chosen}
+use Rattle.tree_commands.specs.declared.files.choosing.Chosen.TheVariants.{All, Ignored, Unignored}
 use Rattle.tree_commands.specs.FileTrees.{FileTree}
-use Rattle.tree_commands.specs.Files.{Basis, is_git, lists_to}
+use Rattle.tree_commands.specs.Files.{Basis, IsBelowIgnored, LetsPass, Terms, is_git, lists_to}
 use Rattle.tree_commands.specs.Ignoring.{IsIgnored}
-use Rattle.tree_commands.specs.Private.Listing.{AreOpen, IsClear, IsPassed}
+use Rattle.tree_commands.specs.Private.Listing.{IsClear, PutsLists}
 use Rattle.tree_commands.proofs.lemmas.ListsLemmas.{lists_before_some, lists_in}
 
 -- ---- one last name
 
-holds_none : (front : List ℕ) (b : ℕ) (rest : List ℕ) → ¬ HasNo b (front ++ b ∷ rest)
+pub holds_none : (front : List ℕ) (b : ℕ) (rest : List ℕ) → ¬ HasNo b (front ++ b ∷ rest)
 holds_none [] b rest none = none.0 refl
 holds_none (c ∷ front) b rest none = holds_none front b rest none.1
 
@@ -45,27 +47,29 @@ one_last_name path name other one two = ⊎_elim
 
 -- ---- folders that are passed
 
-module _ (case : Case) (tree : FileTree) where
-  -- by its last name, and by whether `.git` lies in it
-  pub passed_by : (folder name : List ℕ) → IsLastName folder name → is_git case name ≡ false → (found : Bool) → found ≡ tree.has_git folder → MatchBool found (¬ IsPassed case tree folder) (IsPassed case tree folder)
-  passed_by folder name last other true is = λ passed. false≢true (sym passed.git ∙ sym is)
-  passed_by folder name last other false is = record {
-    other = λ text also. subst (λ n. is_git case n ≡ false) (one_last_name folder name text last also) other;
-    git = sym is;
+module _ (terms : Terms) (tree : FileTree) where
+  -- by its last name, by the index, and by whether `.git` lies in it
+  pub passed_by : (folder name : List ℕ) → IsLastName folder name → is_git terms.case name ≡ false → ¬ IsSubmodule terms.tracked folder → (found : Bool) → found ≡ tree.has_git folder
+      → (own : Bool) → IsTrue own ↔ ((found ≡ true) × (¬ HasBelow terms.tracked folder)) → MatchBool own (¬ LetsPass terms tree folder) (LetsPass terms tree folder)
+  passed_by folder name last other shown found is true tells = λ passed. (let it = tells.0 refl in passed.entered (sym is ∙ it.0, it.1))
+  passed_by folder name last other shown found is false tells = record {
+    other = λ text also. subst (λ n. is_git terms.case n ≡ false) (one_last_name folder name text last also) other;
+    shown = shown;
+    entered = λ own. false≢true (tells.1 (is ∙ own.0, own.1));
   }
 
-  pub clear_by : (path name : List ℕ) → IsLastName path name → ((folder : Folder) → IsAbove folder path → IsPassed case tree folder) → (git : Bool) → git ≡ is_git case name → MatchBool git (¬ IsClear case tree path) (IsClear case tree path)
+  pub clear_by : (path name : List ℕ) → IsLastName path name → ((folder : Folder) → IsAbove folder path → LetsPass terms tree folder) → (git : Bool) → git ≡ is_git terms.case name → MatchBool git (¬ IsClear terms tree path) (IsClear terms tree path)
   clear_by path name last above true is = λ clear. false≢true (sym (clear.other name last) ∙ sym is)
   clear_by path name last above false is = record {
     above = above;
-    other = λ text also. subst (λ n. is_git case n ≡ false) (one_last_name path name text last also) (sym is);
+    other = λ text also. subst (λ n. is_git terms.case n ≡ false) (one_last_name path name text last also) (sym is);
   }
 
 -- ---- the lists of the folders on the way, as far as a place
 
 pub record IsOnWayTo (basis : Basis) (tree : FileTree) (path : List ℕ) (place : ℕ) (lists : List (EntryList (Unit {0}))) : Type 0 where
   pub are : lists ≡ lists_to basis tree (take place path)
-  pub open_so_far : (folder : Folder) → IsAbove folder path → length folder < place → ¬ IsIgnored (lists_to basis tree folder) basis.case folder true
+  pub open_so_far : (folder : Folder) → IsAbove folder path → length folder < place → ¬ IsIgnored (lists_to basis tree folder) basis.terms.case folder true
 
 -- a folder above a path that is shorter than the next place is so already, or ends at the place
 pub above_or_here : {P : Type 0} (folder path : List ℕ) (place : ℕ) → IsAbove folder path → length folder < place + 1 → (length folder < place → P) → (HasByte path place slash → folder ≡ take place path → P) → P
@@ -96,7 +100,7 @@ module _ (basis : Basis) (tree : FileTree) (path : List ℕ) where
           at_front (suc n) is byte = absurd (omega (arith, ap length is, length-take-le (suc n) path (omega (arith, byte.inside))))
 
       -- a slash: the folder before it
-      pub way_enters : (new own : List (EntryList (Unit {0}))) → new ≡ lists ++ own → own ≡ unless_empty (tree.list (take place path)) → ¬ IsIgnored lists basis.case (take place path) true → IsOnWayTo basis tree path (place + 1) new
+      pub way_enters : (new own : List (EntryList (Unit {0}))) → new ≡ lists ++ own → own ≡ unless_empty (tree.list (take place path)) → ¬ IsIgnored lists basis.terms.case (take place path) true → IsOnWayTo basis tree path (place + 1) new
       way_enters new own joined is_own unignored = record {
         are = joined
             ∙ ap (λ (l : List (EntryList (Unit {0}))). lists ++ l) is_own
@@ -104,7 +108,7 @@ module _ (basis : Basis) (tree : FileTree) (path : List ℕ) where
             ∙ sym (lists_in basis tree (take place path))
             ∙ ap (lists_to basis tree) (start_is (take place path) some_folder ∙ ap (λ b. take place path ++ b ∷ []) (sym here.is) ∙ sym (take_more path place 0 inside));
         open_so_far = λ folder above less. above_or_here folder path place above less (way.open_so_far folder above)
-            (λ byte is. subst (λ f. ¬ IsIgnored (lists_to basis tree f) basis.case f true) (sym is) (subst (λ l. ¬ IsIgnored l basis.case (take place path) true) way.are unignored));
+            (λ byte is. subst (λ f. ¬ IsIgnored (lists_to basis tree f) basis.terms.case f true) (sym is) (subst (λ l. ¬ IsIgnored l basis.terms.case (take place path) true) way.are unignored));
       }
         where
           start_is : (folder : Folder) → folder ≢ [] → start_of folder ≡ folder ++ slash ∷ []
@@ -112,11 +116,21 @@ module _ (basis : Basis) (tree : FileTree) (path : List ℕ) where
           start_is (b ∷ folder) some = refl
 
       -- or the folder is ignored
-      pub way_is_shut : IsIgnored lists basis.case (take place path) true → ¬ AreOpen basis tree path
-      way_is_shut ignored all = all (take place path) (above_slash path place here) (subst (λ l. IsIgnored l basis.case (take place path) true) way.are ignored)
+      pub way_is_shut : IsIgnored lists basis.terms.case (take place path) true → IsBelowIgnored basis tree path
+      way_is_shut ignored = (take place path, above_slash path place here, subst (λ l. IsIgnored l basis.terms.case (take place path) true) way.are ignored)
 
-  pub way_ends : (place : ℕ) (lists : List (EntryList (Unit {0}))) → length path ≤ place → IsOnWayTo basis tree path place lists → (lists ≡ lists_to basis tree path) × AreOpen basis tree path
+  pub way_ends : (place : ℕ) (lists : List (EntryList (Unit {0}))) → length path ≤ place → IsOnWayTo basis tree path place lists → (lists ≡ lists_to basis tree path) × (¬ IsBelowIgnored basis tree path)
   way_ends place lists past way = (
     way.are ∙ ap (lists_to basis tree) (take_all place path past),
-    λ folder above. way.open_so_far folder above (let shorter = above_is_shorter folder path above in omega arith),
+    λ below. way.open_so_far below.0 below.1 (let shorter = above_is_shorter below.0 path below.1 in omega arith) below.2,
   )
+
+  -- where patterns count, that is what is told
+  pub puts_by : (lists : List (EntryList (Unit {0}))) (chosen : Chosen) → ¬ (chosen ≡ All) → (is_below : Bool) → MatchBool is_below (IsBelowIgnored basis tree path) ((lists ≡ lists_to basis tree path) × (¬ IsBelowIgnored basis tree path))
+      → PutsLists chosen basis tree path lists is_below
+  puts_by lists All some is_below tells = absurd (some refl)
+  puts_by lists Ignored some is_below tells = tells
+  puts_by lists Unignored some is_below tells = tells
+
+  pub puts_all : (lists : List (EntryList (Unit {0}))) (chosen : Chosen) → chosen ≡ All → PutsLists chosen basis tree path lists false
+  puts_all lists chosen is = subst (λ (c : Chosen). PutsLists c basis tree path lists false) (sym is) refl

@@ -5,7 +5,7 @@ use Rattle.glob_trees.specs.declared.fault.TreeFault.TheVariants as tree
 use Rattle.tree_answers.specs.declared.records.NameFault.{NameFault}
 use Rattle.tree_answers.specs.declared.records.NameFault.TheVariants as name
 use Rattle.tree_commands.specs.declared.check_ignore.fault.IgnoreFault.{IgnoreFault}
-use Rattle.tree_commands.specs.declared.check_ignore.fault.IgnoreFault.TheVariants.{BadlyQuoted, Empty, InSubmodule, Memory, Outside, Source}
+use Rattle.tree_commands.specs.declared.check_ignore.fault.IgnoreFault.TheVariants.{BadlyQuoted, Empty, InSubmodule, Memory, Outside, Source, Unspelt}
 
 -- the fault that says why a record names no path
 abbrev pub IsOfName : {F : Type 0} → NameFault → IgnoreFault F → Type 0
@@ -23,5 +23,6 @@ IsOfSources Memory = Unit {0}
 IsOfSources Empty = ⊥
 IsOfSources (Outside path) = ⊥
 IsOfSources (InSubmodule path) = ⊥
+IsOfSources (Unspelt word) = ⊥
 IsOfSources BadlyQuoted = ⊥
 IsOfSources (Source fault) = Unit {0}

@@ -9,8 +9,8 @@ use Rattle.glob_trees.specs.Ways.{Folder, start_of}
 use Rattle.tree_commands.specs.declared.files.lister.Lister.{Lister}
 use Rattle.tree_commands.specs.declared.files.pending.Pending.{Pending}
 use Rattle.tree_commands.specs.FileTrees.{FileTree}
-use Rattle.tree_commands.specs.Files.{ComesBefore, IsLeaf, IsMet, Basis}
-use Rattle.tree_commands.specs.Private.Listing.{Among, AreAscending, MayVisit, lists_before, path_of, seen_lists}
+use Rattle.tree_commands.specs.Files.{Basis, ComesBefore, IsListed, IsMet, Terms}
+use Rattle.tree_commands.specs.Private.Listing.{Among, AreAscending, MayVisit, Stands, path_of, seen_lists}
 
 abbrev pub count_of : Pending → ℕ
 count_of pending = pending.list_count
@@ -40,10 +40,10 @@ pub record IsUnderWay (case : Case) (listed : List (List ℕ)) (pending : List P
 
 -- what was listed is to be listed, what is pending is met, and what is still to be listed is met from that
 pub record IsHalfway (basis : Basis) (tree : FileTree) (start : List ℕ) (listed : List (List ℕ)) (pending : List Pending) (lists : List (EntryList (Unit {0}))) : Type 0 where
-  pub sound : (path : List ℕ) → Among listed path → IsMet basis tree start path × IsLeaf tree path
+  pub sound : (path : List ℕ) → Among listed path → IsMet basis tree start path × IsListed basis tree path
   pub met : (next : Pending) → Among pending next → IsMet basis tree start (path_of next)
-  pub standing : (next : Pending) → Among pending next → (folder : Folder) → path_of next ≡ start_of folder → take next.list_count lists ≡ lists_before basis tree folder
-  pub complete : (path : List ℕ) → IsMet basis tree start path → IsLeaf tree path → Among listed path ⊎ ((next : Pending) × Among pending next × IsMet basis tree (path_of next) path)
+  pub standing : (next : Pending) → Among pending next → Stands basis tree lists next
+  pub complete : (path : List ℕ) → IsMet basis tree start path → IsListed basis tree path → Among listed path ⊎ ((next : Pending) × Among pending next × IsMet basis tree (path_of next) path)
 
 -- where a listing began: what was pending, and the lists
 pub record Beginning : Type 0 where
@@ -54,29 +54,29 @@ abbrev pub beginning_of : Lister → Beginning
 beginning_of lister = record { pending = lister.pending.items; lists = seen_lists lister.on_way.lists.items }
 
 -- what follows of a known tree wherever a listing began at a path of it
-abbrev pub OfKnown : (FileTree → Type 0) → Case → Beginning → (Basis → FileTree → List ℕ → Type 0) → Type 0
-OfKnown Known case beginning Holds =
-    (tree : FileTree) → Known tree → (basis : Basis) → basis.case ≡ case → (start : List ℕ) → IsHalfway basis tree start [] beginning.pending beginning.lists → Holds basis tree start
+abbrev pub OfKnown : (FileTree → Type 0) → Terms → Beginning → (Basis → FileTree → List ℕ → Type 0) → Type 0
+OfKnown Known terms beginning Holds =
+    (tree : FileTree) → Known tree → (basis : Basis) → basis.terms ≡ terms → (start : List ℕ) → IsHalfway basis tree start [] beginning.pending beginning.lists → Holds basis tree start
 
 -- paths were listed, others are pending, and of the lines of those that were listed these were written, and the text is left
-pub record IsWriting (line : List ℕ → List ℕ) (Known : FileTree → Type 0) (case : Case) (beginning : Beginning) (old new : Option (List ℕ)) (text : List ℕ) (pending : List Pending) (lists : List (EntryList (Unit {0}))) : Type 0 where
+pub record IsWriting (line : List ℕ → List ℕ) (Known : FileTree → Type 0) (terms : Terms) (beginning : Beginning) (old new : Option (List ℕ)) (text : List ℕ) (pending : List Pending) (lists : List (EntryList (Unit {0}))) : Type 0 where
   pub listed : List (List ℕ)
-  pub under_way : IsUnderWay case listed pending lists
+  pub under_way : IsUnderWay terms.case listed pending lists
   pub written : List ℕ
   pub appended : Appends old new written
   pub joined : flat_map line listed ≡ written ++ text
-  pub halfway : OfKnown Known case beginning (λ basis tree start. IsHalfway basis tree start listed pending lists)
+  pub halfway : OfKnown Known terms beginning (λ basis tree start. IsHalfway basis tree start listed pending lists)
 
 -- the lines of all paths that are to be listed were written, in order
-pub record WritesAll (line : List ℕ → List ℕ) (Known : FileTree → Type 0) (case : Case) (beginning : Beginning) (old new : Option (List ℕ)) : Type 0 where
+pub record WritesAll (line : List ℕ → List ℕ) (Known : FileTree → Type 0) (terms : Terms) (beginning : Beginning) (old new : Option (List ℕ)) : Type 0 where
   pub listed : List (List ℕ)
   pub ordered : AreAscending listed
   pub appended : Appends old new (flat_map line listed)
-  pub exact : OfKnown Known case beginning (λ basis tree start. (path : List ℕ) → Among listed path ↔ (IsMet basis tree start path × IsLeaf tree path))
+  pub exact : OfKnown Known terms beginning (λ basis tree start. (path : List ℕ) → Among listed path ↔ (IsMet basis tree start path × IsListed basis tree path))
 
 -- a front of the lines of some of these paths was written
-pub record WritesFront (line : List ℕ → List ℕ) (Known : FileTree → Type 0) (case : Case) (beginning : Beginning) (old new : Option (List ℕ)) : Type 0 where
+pub record WritesFront (line : List ℕ → List ℕ) (Known : FileTree → Type 0) (terms : Terms) (beginning : Beginning) (old new : Option (List ℕ)) : Type 0 where
   pub listed : List (List ℕ)
   pub ordered : AreAscending listed
   pub appended : AppendsFront old new (flat_map line listed)
-  pub sound : OfKnown Known case beginning (λ basis tree start. (path : List ℕ) → Among listed path → IsMet basis tree start path × IsLeaf tree path)
+  pub sound : OfKnown Known terms beginning (λ basis tree start. (path : List ℕ) → Among listed path → IsMet basis tree start path × IsListed basis tree path)

@@ -9,8 +9,9 @@ ghost use Rattle.gix_glob.specs.EntryLists.{entry_list_of};
 ghost use Rattle.glob_lists.specs.Paths.{IsPlainPath};
 ghost use Rattle.glob_trees.specs.TreeParts.{HasMappingAt};
 ghost use Rattle.glob_trees.specs.Ways.{GoesOn};
+ghost use Rattle.pathspecs.specs.Leading.{word_names_folder};
+ghost use Rattle.pathspecs.specs.Spelling.{seen, spelt_by};
 ghost use Rattle.told_paths.specs.declared.quoting.Quoting.TheVariants.{Full};
-ghost use Rattle.told_paths.specs.Paths.{names_folder, parts_of};
 ghost use Rattle.told_paths.specs.Quoting.{is_unusual};
 ghost use Rattle.tracked_paths.specs.Holding.{IsHeld, LiesInSubmodule};
 ghost use Rattle.tree_answers.specs.Lines.{Decision};
@@ -29,9 +30,10 @@ use gix_glob::search::pattern::Mapping;
 use glob_lines::IgnoreLines;
 use glob_lists::plain_path;
 use glob_trees::FolderLists;
+use pathspecs::{Pathspec, is_path};
 use std::alloc::{AllocError, Global};
 use std::marker::{Brand, PhantomData};
-use told_paths::{LeadFault, Standpoint};
+use told_paths::Standpoint;
 use tracked_paths::TrackedPaths;
 use tree_answers::{DecidingLine, PathAnswerer, append_line};
 
@@ -160,8 +162,8 @@ impl<
         }
     }
 
-    /// Which pattern decides about a told path. Usual names that are told from the top are the path itself; without an index nothing is
-    /// tracked.
+    /// Which pattern decides about a told path. Usual names that are told from the top are the path itself, where no colon
+    /// stands in front; without an index nothing is tracked.
     fn find(
         &mut self,
         told: &[u8],
@@ -174,7 +176,7 @@ impl<
         ensures same { self.new.is_any ≡ self.old.is_any }
         ensures faults { IfErr result (Refuses Q.question.leads Q.question.tracked told.now) }
     {
-        if is_usual && self.standpoint.is_at_top() && self.tracked.is_empty() {
+        if is_usual && is_path(told) && self.standpoint.is_at_top() && self.tracked.is_empty() {
             return self.finder.find(told, told);
         }
         self.find_led(told)
@@ -188,12 +190,13 @@ impl<
         ensures same { self.new.is_any ≡ self.old.is_any }
         ensures faults { IfErr result (Refuses Q.question.leads Q.question.tracked told.now) }
     {
-        let bare = self.lead(told)?;
+        let spelt = self.spell(told)?;
+        let bare = self.lead(told, &spelt)?;
         if self.is_in_submodule() {
             self.finder.check_links(&self.path, &self.path[..bare])?;
             return Err(self.in_submodule(told, bare));
         }
-        if self.is_held(told) {
+        if self.is_held(told, &spelt) {
             self.finder.check_links(&self.path, &self.path[..bare])?;
             return Ok(None);
         }
@@ -233,10 +236,11 @@ impl<
     }
 
     /// Whether an entry of the index is what is asked about, so that no pattern decides.
-    fn is_held(&self, told: &[u8]) -> bool
+    fn is_held(&self, told: &[u8], spelt: &Pathspec<'_>) -> bool
+        requires { spelt_by told.now ≡ Some (seen spelt.now) }
         ensures { IsTrue result ↔ IsHeld Q.question.tracked self.now.path.items (Q.question.literal told.now) }
     {
-        let literal = self.standpoint.literal_front(told);
+        let literal = spelt.literal_front(self.standpoint);
         self.tracked.holds(&self.path, literal)
     }
 
@@ -253,9 +257,27 @@ impl<
         }
     }
 
+    /// What a told word spells.
+    fn spell<'t>(&self, told: &'t [u8]) -> Result<Pathspec<'t>, IgnoreFault<S::Fault>>
+        ensures spells { IfOk result (λ spelt. spelt_by told.entry.now ≡ Some (seen spelt)) }
+        ensures faults { IfErr result (Refuses Q.question.leads Q.question.tracked told.entry.now) }
+    {
+        if told.is_empty() {
+            return Err(IgnoreFault::Empty);
+        }
+        match Pathspec::spelt_by(told) {
+            Some(spelt) => Ok(spelt),
+            None => match Vec::from_slice(self.alloc, told) {
+                Ok(word) => Err(IgnoreFault::Unspelt(word)),
+                Err(_refused) => Err(IgnoreFault::Memory),
+            },
+        }
+    }
+
     /// Goes where a told path leads: `path` becomes what is asked about, with a slash at its end where it is told as a folder's. The answer
     /// is how many of its bytes come before that slash.
-    fn lead(&mut self, told: &[u8]) -> Result<usize, IgnoreFault<S::Fault>>
+    fn lead(&mut self, told: &[u8], spelt: &Pathspec<'_>) -> Result<usize, IgnoreFault<S::Fault>>
+        requires { spelt_by told.now ≡ Some (seen spelt.now) }
         ensures leads { IfOk result (λ bare. (Q.question.leads told.now ≡ Some (take bare self.new.path.items))
             × (self.new.path.items ≡ told_path told.now (take bare self.new.path.items)) × (bare ≤ length self.new.path.items)) }
         ensures tracked { self.new.tracked ≡ self.old.tracked }
@@ -263,7 +285,7 @@ impl<
         ensures same { self.new.is_any ≡ self.old.is_any }
         ensures faults { IfErr result (Refuses Q.question.leads Q.question.tracked told.now) }
     {
-        let is_folder = self.go(told)?;
+        let is_folder = self.go(told, spelt)?;
         let bare = self.path.len();
         if is_folder && bare > 0 {
             let Ok(()) = self.path.push(b'/') else {
@@ -274,20 +296,20 @@ impl<
     }
 
     /// Goes where a told path leads. It answers whether the path is told as a folder.
-    fn go(&mut self, told: &[u8]) -> Result<bool, IgnoreFault<S::Fault>>
-        ensures leads { IfOk result (λ is_folder. (Q.question.leads told.now ≡ Some self.new.path.items) × (is_folder ≡ names_folder false (parts_of told.now))) }
+    fn go(&mut self, told: &[u8], spelt: &Pathspec<'_>) -> Result<bool, IgnoreFault<S::Fault>>
+        requires { spelt_by told.now ≡ Some (seen spelt.now) }
+        ensures leads { IfOk result (λ is_folder. (Q.question.leads told.now ≡ Some self.new.path.items) × (is_folder ≡ word_names_folder told.now)) }
         ensures finder { self.new.finder ≡ self.old.finder }
         ensures same { self.new.is_any ≡ self.old.is_any }
         ensures faults { IfErr result (Refuses Q.question.leads Q.question.tracked told.now) }
     {
-        match self.standpoint.lead(self.alloc, &mut self.path, told) {
-            Ok(is_folder) => Ok(is_folder),
-            Err(LeadFault::Memory) => Err(IgnoreFault::Memory),
-            Err(LeadFault::Empty) => Err(IgnoreFault::Empty),
-            Err(LeadFault::Outside) => match Vec::from_slice(self.alloc, told) {
+        match spelt.lead(self.alloc, self.standpoint, &mut self.path) {
+            Ok(Some(is_folder)) => Ok(is_folder),
+            Ok(None) => match Vec::from_slice(self.alloc, told) {
                 Ok(path) => Err(IgnoreFault::Outside(path)),
                 Err(_refused) => Err(IgnoreFault::Memory),
             },
+            Err(_refused) => Err(IgnoreFault::Memory),
         }
     }
 

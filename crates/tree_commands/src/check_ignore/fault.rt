@@ -22,6 +22,9 @@ pub enum IgnoreFault<F> {
     /// This path, as it was told, leads out of the work tree.
     #[error("the path leads out of the work tree")]
     Outside(Vec<u8>),
+    /// This word spells no path: what stands behind its colon isn't the sign of the top.
+    #[error("the signs before the path aren't known here")]
+    Unspelt(Vec<u8>),
     /// This path, as it was told, leads into a submodule.
     #[error("the path lies in a submodule")]
     InSubmodule(Vec<u8>),

@@ -7,7 +7,7 @@ ghost use Rattle.glob_lines.specs.Transfers.{AppendsFront};
 ghost use Rattle.record_streams.specs.Faults.{is_write_fault, told_refusal};
 ghost use Rattle.record_streams.specs.Records.{TextOf};
 ghost use Rattle.record_streams.specs.Runs.{EndsRun};
-ghost use Rattle.told_paths.specs.Standpoints.{led};
+ghost use Rattle.pathspecs.specs.Leading.{word_leads};
 ghost use Rattle.tree_answers.specs.Lines.{behind};
 ghost use Rattle.tree_answers.specs.Records.{IsTextOf};
 ghost use Rattle.tree_commands.specs.Answering.{IsTextOfFirst, StopsAt, TextOfNamed, TextOfPaths, Writes};
@@ -46,7 +46,7 @@ pub struct IgnoreSources<S: FolderLists<IgnoreLines>, K> {
 /// the line that decides about it, or only where one does, as the flags say. The answer is whether a line that counts decides about
 /// some path. Gives the sources back.
 ///
-/// A path is told from the standpoint. About one that the index has ([`TrackedPaths::holds`]) no line decides. Else the line is that of the
+/// A path is told from the standpoint, or from the top, as [`Pathspec`](pathspecs::Pathspec) tells. About one that the index has ([`TrackedPaths::holds`]) no line decides. Else the line is that of the
 /// pattern that [`Tree::find`] answers, by the rules of the tree; about the top only patterns for names decide. A slash at the end of a path belongs to it. What stands at a path is asked only where the answer depends
 /// on it; links are looked for where the tree didn't enter the folders of a path.
 ///
@@ -79,7 +79,7 @@ pub fn run_check_ignore<
         (R.remaining (inner records.old)) (R.remaining (inner records.new)) (W.contents (inner writer.old)) (W.contents (inner writer.new))
         (has_failed records.new) (has_failed writer.new) }
     // What is told of a path that got no answer is so.
-    ensures refused { AllByRecursion (λ fault. ((told : List ℕ) × Refuses (led standpoint.now) sources.tracked told fault) ⊎ (fault ≡ BadlyQuoted)) (told_refusal result.1) }
+    ensures refused { AllByRecursion (λ fault. ((told : List ℕ) × Refuses (word_leads standpoint.now) sources.tracked told fault) ⊎ (fault ≡ BadlyQuoted)) (told_refusal result.1) }
     ensures again { question_of standpoint.now flags result.0.tracked result.0.tree (K.kind_of result.0.kinds) ≡ question_of standpoint.now flags sources.tracked sources.tree (K.kind_of sources.kinds) }
 {
     run_question::<S, K, R, W, Brand>(alloc, standpoint, flags, sources, records, writer)
@@ -110,7 +110,7 @@ fn run_question<
         (TextOf (IsTextOf (IsIgnoreAnswer Q.question (S.shows (Unit {0}) result.0.tree.source)) flags.form)) (behind flags.form 10) result.1
         (R.remaining (inner records.old)) (R.remaining (inner records.new)) (W.contents (inner writer.old)) (W.contents (inner writer.new))
         (has_failed records.new) (has_failed writer.new) }
-    ensures refused { AllByRecursion (λ fault. ((told : List ℕ) × Refuses (led standpoint.now) sources.tracked told fault) ⊎ (fault ≡ BadlyQuoted)) (told_refusal result.1) }
+    ensures refused { AllByRecursion (λ fault. ((told : List ℕ) × Refuses (word_leads standpoint.now) sources.tracked told fault) ⊎ (fault ≡ BadlyQuoted)) (told_refusal result.1) }
     ensures again { question_of standpoint.now flags result.0.tracked result.0.tree (K.kind_of result.0.kinds) ≡ Q.question }
 {
     let asker = IgnoreAsker::<'_, S, K, Q>::new(alloc, standpoint, flags, sources);
@@ -146,7 +146,7 @@ pub fn check_ignore_paths<
         (Appends (W.contents (inner writer.old)) (W.contents (inner writer.new)))) }
     // After the fault of a path, nothing was written.
     ensures refused { AllByRecursion
-        (StopsAt (IsIgnoreAnswer (question_of standpoint.now flags sources.tracked sources.tree (K.kind_of sources.kinds)) (S.shows (Unit {0}) result.0.tree.source)) (Refuses (led standpoint.now) sources.tracked) (map (λ path. path.now) paths.now) false
+        (StopsAt (IsIgnoreAnswer (question_of standpoint.now flags sources.tracked sources.tree (K.kind_of sources.kinds)) (S.shows (Unit {0}) result.0.tree.source)) (Refuses (word_leads standpoint.now) sources.tracked) (map (λ path. path.now) paths.now) false
         (W.contents (inner writer.old)) (W.contents (inner writer.new)))
         (told_refusal result.1) }
     // After one of the writer's, a beginning of the text was.
@@ -183,7 +183,7 @@ fn check_paths<
         (Appends (W.contents (inner writer.old)) (W.contents (inner writer.new)))) }
     // After the fault of a path, nothing was written.
     ensures refused { AllByRecursion
-        (StopsAt (IsIgnoreAnswer Q.question (S.shows (Unit {0}) result.0.tree.source)) (Refuses (led standpoint.now) sources.tracked) (map (λ path. path.now) paths.now) false
+        (StopsAt (IsIgnoreAnswer Q.question (S.shows (Unit {0}) result.0.tree.source)) (Refuses (word_leads standpoint.now) sources.tracked) (map (λ path. path.now) paths.now) false
         (W.contents (inner writer.old)) (W.contents (inner writer.new)))
         (told_refusal result.1) }
     // After one of the writer's, a beginning of the text was.

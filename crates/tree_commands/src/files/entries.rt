@@ -1,4 +1,4 @@
-//! The entries of a folder that aren't ignored.
+//! The entries of a folder that are met.
 ghost use Rattle.std.specs.Prelude.{◌≡◌, ◌↔◌, ◌++◌, ◌∷◌, [], ℕ, List, if◌then◌else◌, IfOk, IsTrue, OnOk, map};
 ghost use Rattle.std.specs.List.{AllByRecursion};
 ghost use Rattle.std.specs.Vec.{vec_items};
@@ -9,12 +9,13 @@ ghost use Rattle.glob_trees.specs.Ways.{GivesOnly};
 ghost use Rattle.told_paths.specs.Paths.{is_name};
 ghost use Rattle.tree_commands.specs.FileTrees.{FileTree, StaysKnown, names_in};
 ghost use Rattle.tree_commands.specs.Files.{IsEntryName, is_folder, is_git};
-ghost use Rattle.tree_commands.specs.Private.Listing.{AddsFound, Among, EndsInName, IsFoundAmong, LeadsOn, StandsThere, seen_lists};
+ghost use Rattle.tree_commands.specs.Private.Listing.{AddsFound, Among, EndsInName, IsChosenThere, IsFoundAmong, IsMetThere, LeadsOn, StandsThere, seen_lists, terms_of};
 
 use crate::files::asking::kind_at;
 use crate::files::ignoring::{Ignoring, ignoring_by, is_ignored_by};
 use crate::files::names::first_name;
 use crate::files::source::{EntryKind, FileSource};
+use crate::files::terms::{Terms, is_hidden, leaves_out};
 use gix_glob::pattern::Case;
 use glob_lines::IgnoreLines;
 use glob_lists::PreparedList;
@@ -24,24 +25,24 @@ use std::alloc::{AllocError, Global};
 
 /// The lists that decide about the entries of a folder: those before all folders, and those of the folders on the way to it, with patterns.
 #[derive(Drop)]
-pub(crate) struct ListsOnWay {
+pub(crate) struct ListsOnWay<'a> {
     pub(crate) lists: Vec<PreparedList<IgnoreLines>>,
-    pub(crate) case: Case,
+    pub(crate) terms: Terms<'a>,
 }
 
-/// The paths of the entries of a folder that aren't ignored, by the bytes of its names. `start` begins their paths.
+/// The paths of the entries of a folder that are met, by the bytes of its names. `start` begins their paths.
 pub(crate) fn entries_of<S: FileSource>(
     alloc: Global,
     source: &mut S,
-    on_way: &ListsOnWay,
+    on_way: &ListsOnWay<'_>,
     start: &[u8],
     names: &[u8],
 ) -> Result<Vec<Vec<u8>>, TreeFault<S::Fault>>
     requires folders { BasesAreFolders (seen_lists on_way.now.lists.items) }
-    requires plain { LeadsOn on_way.now.case start.now }
-    ensures each { IfOk result (λ paths. AllByRecursion (EndsInName on_way.now.case start.now) (map vec_items paths.items)) }
+    requires plain { LeadsOn on_way.now.terms.case start.now }
+    ensures each { IfOk result (λ paths. AllByRecursion (EndsInName on_way.now.terms.case start.now) (map vec_items paths.items)) }
     ensures found { IfOk result (λ paths. (tree : FileTree) → S.shows source.old tree → (path : List ℕ) →
-        Among (map vec_items paths.items) path ↔ IsFoundAmong (seen_lists on_way.now.lists.items) on_way.now.case tree start.now (names_in names.now) path) }
+        Among (map vec_items paths.items) path ↔ IsFoundAmong (seen_lists on_way.now.lists.items) (terms_of on_way.now.terms) tree start.now (names_in names.now) path) }
     ensures stays { StaysKnown S.shows source.old source.new }
     ensures asks { GivesOnly (λ _. ⊥) (S.asked source.old) (S.asked source.new) }
 {
@@ -49,7 +50,7 @@ pub(crate) fn entries_of<S: FileSource>(
     let mut rest = Some(names);
     'names: while let Some(left) = rest {
         let (name, behind) = first_name(left);
-        if is_entry_name(on_way.case, name) {
+        if is_entry_name(on_way.terms.case, name) {
             push_found(alloc, source, on_way, &mut paths, start, name)?;
         }
         rest = behind;
@@ -81,18 +82,18 @@ pub(crate) fn is_git(case: Case, name: &[u8]) -> bool
     }
 }
 
-/// Pushes the path of a name, where what stands there isn't ignored.
+/// Pushes the path of a name, where what stands there is kept.
 fn push_found<S: FileSource>(
     alloc: Global,
     source: &mut S,
-    on_way: &ListsOnWay,
+    on_way: &ListsOnWay<'_>,
     paths: &mut Vec<Vec<u8>>,
     start: &[u8],
     name: &[u8],
 ) -> Result<(), TreeFault<S::Fault>>
     requires folders { BasesAreFolders (seen_lists on_way.now.lists.items) }
     requires plain { IsPlainPath (start.now ++ name.now) }
-    ensures adds { OnOk result (AddsFound (S.shows source.old) (seen_lists on_way.now.lists.items) on_way.now.case (start.now ++ name.now) (map vec_items paths.old.items) (map vec_items paths.new.items)) }
+    ensures adds { OnOk result (AddsFound (S.shows source.old) (seen_lists on_way.now.lists.items) (terms_of on_way.now.terms) (start.now ++ name.now) (map vec_items paths.old.items) (map vec_items paths.new.items)) }
     ensures stays { StaysKnown S.shows source.old source.new }
     ensures asks { GivesOnly (λ _. ⊥) (S.asked source.old) (S.asked source.new) }
 {
@@ -100,7 +101,7 @@ fn push_found<S: FileSource>(
     let mut path = Vec::with_capacity(alloc, start.len() + name.len() + 1)?;
     path.extend_from_slice(start)?;
     path.extend_from_slice(name)?;
-    let Some(kind) = what_stands(source, on_way, &path)? else {
+    let Some(kind) = what_is_met(source, on_way, &path)? else {
         return Ok(());
     };
     push_marked(paths, path, kind)?;
@@ -130,20 +131,61 @@ pub(crate) fn append_mark(path: &mut Vec<u8>, kind: EntryKind) -> Result<(), All
     Ok(())
 }
 
-/// What stands at a path, where it isn't ignored. The source is asked only where the path isn't ignored whatever that is.
-fn what_stands<S: FileSource>(
+/// What stands at a path, where that is kept.
+fn what_is_met<S: FileSource>(
     source: &mut S,
-    on_way: &ListsOnWay,
+    on_way: &ListsOnWay<'_>,
     path: &[u8],
 ) -> Result<Option<EntryKind>, TreeFault<S::Fault>>
     requires folders { BasesAreFolders (seen_lists on_way.now.lists.items) }
     requires plain { IsPlainPath path.now }
     ensures found { IfOk result (λ found. (tree : FileTree) → S.shows source.old tree →
-        StandsThere (seen_lists on_way.now.lists.items) on_way.now.case tree path.now found) }
+        IsMetThere (seen_lists on_way.now.lists.items) (terms_of on_way.now.terms) tree path.now found) }
     ensures stays { StaysKnown S.shows source.old source.new }
     ensures asks { GivesOnly (λ _. ⊥) (S.asked source.old) (S.asked source.new) }
 {
-    match ignoring_by(&on_way.lists, on_way.case, path) {
+    let Some(kind) = unignored_kind(source, on_way, path)? else {
+        return Ok(None);
+    };
+    if is_hidden(on_way.terms.tracked, path, kind) {
+        return Ok(None);
+    }
+    Ok(Some(kind))
+}
+
+/// What stands at a path; where what isn't ignored is chosen, only if it isn't.
+fn unignored_kind<S: FileSource>(
+    source: &mut S,
+    on_way: &ListsOnWay<'_>,
+    path: &[u8],
+) -> Result<Option<EntryKind>, TreeFault<S::Fault>>
+    requires folders { BasesAreFolders (seen_lists on_way.now.lists.items) }
+    requires plain { IsPlainPath path.now }
+    ensures found { IfOk result (λ found. (tree : FileTree) → S.shows source.old tree →
+        IsChosenThere (seen_lists on_way.now.lists.items) (terms_of on_way.now.terms) tree path.now found) }
+    ensures stays { StaysKnown S.shows source.old source.new }
+    ensures asks { GivesOnly (λ _. ⊥) (S.asked source.old) (S.asked source.new) }
+{
+    if leaves_out(on_way.terms.chosen) {
+        return what_stands(source, on_way, path);
+    }
+    kind_at(source, path)
+}
+
+/// What stands at a path, where it isn't ignored. The source is asked only where the path isn't ignored whatever that is.
+fn what_stands<S: FileSource>(
+    source: &mut S,
+    on_way: &ListsOnWay<'_>,
+    path: &[u8],
+) -> Result<Option<EntryKind>, TreeFault<S::Fault>>
+    requires folders { BasesAreFolders (seen_lists on_way.now.lists.items) }
+    requires plain { IsPlainPath path.now }
+    ensures found { IfOk result (λ found. (tree : FileTree) → S.shows source.old tree →
+        StandsThere (seen_lists on_way.now.lists.items) on_way.now.terms.case tree path.now found) }
+    ensures stays { StaysKnown S.shows source.old source.new }
+    ensures asks { GivesOnly (λ _. ⊥) (S.asked source.old) (S.asked source.new) }
+{
+    match ignoring_by(&on_way.lists, on_way.terms.case, path) {
         Ignoring::Always => Ok(None),
         Ignoring::Never => kind_at(source, path),
         Ignoring::ByKind => kept_by_kind(source, on_way, path),
@@ -153,20 +195,20 @@ fn what_stands<S: FileSource>(
 /// What stands at a path, where that isn't ignored.
 fn kept_by_kind<S: FileSource>(
     source: &mut S,
-    on_way: &ListsOnWay,
+    on_way: &ListsOnWay<'_>,
     path: &[u8],
 ) -> Result<Option<EntryKind>, TreeFault<S::Fault>>
     requires folders { BasesAreFolders (seen_lists on_way.now.lists.items) }
     requires plain { IsPlainPath path.now }
     ensures found { IfOk result (λ found. (tree : FileTree) → S.shows source.old tree →
-        StandsThere (seen_lists on_way.now.lists.items) on_way.now.case tree path.now found) }
+        StandsThere (seen_lists on_way.now.lists.items) on_way.now.terms.case tree path.now found) }
     ensures stays { StaysKnown S.shows source.old source.new }
     ensures asks { GivesOnly (λ _. ⊥) (S.asked source.old) (S.asked source.new) }
 {
     let Some(kind) = kind_at(source, path)? else {
         return Ok(None);
     };
-    if is_ignored_by(&on_way.lists, on_way.case, path, is_folder(kind)) {
+    if is_ignored_by(&on_way.lists, on_way.terms.case, path, is_folder(kind)) {
         return Ok(None);
     }
     Ok(Some(kind))

@@ -12,6 +12,8 @@ pub(crate) struct Pending {
     pub(crate) path: Vec<u8>,
     /// How many of the lists decide about what lies beside it.
     pub(crate) list_count: usize,
+    /// Whether a folder above it is ignored, where ignored paths are chosen. Then no list decides about it.
+    pub(crate) is_below: bool,
 }
 
 /// Puts each of the paths once behind those that are pending, so that the least of them comes last.
@@ -19,13 +21,18 @@ pub(crate) fn put_in_order(
     pending: &mut Vec<Pending>,
     mut paths: Vec<Vec<u8>>,
     list_count: usize,
+    is_below: bool,
 ) -> Result<(), AllocError>
-    ensures { OnOk result (PutsInOrder (map vec_items paths.items) list_count pending.old.items pending.new.items) }
+    ensures { OnOk result (PutsInOrder (map vec_items paths.items) list_count is_below pending.old.items pending.new.items) }
 {
     paths.sort_unstable();
     'paths: while let Some(path) = paths.pop() {
         if !is_last(&paths, &path) {
-            pending.push(Pending { path, list_count })?;
+            pending.push(Pending {
+                path,
+                list_count,
+                is_below,
+            })?;
         }
     }
     Ok(())

@@ -1,9 +1,12 @@
 -- The options before the command, and the words behind them.
 use Rattle.std.specs.Prelude.{◌≡◌, ℕ, ◌||◌, if◌then◌else◌, IsFalse, IsTrue, List, [], ◌∷◌, ◌++◌, map, Option, Some, codes, string_bytes}
+use Rattle.std.specs.Borrow.{Bor}
 use Rattle.std.specs.List.{AllByRecursion, flat_map}
 use Rattle.std.specs.Option.{option_copied}
 use Rattle.std.specs.Str.{bytes_eq}
 use Rattle.tree_words.specs.declared.options.Options.{Options}
+use Rattle.tree_words.specs.declared.word_fault.WordFault.{WordFault}
+use Rattle.tree_words.specs.declared.word_fault.WordFault.TheVariants as fault
 use Rattle.tree_words.specs.Words.{HasValues, IsTold, Told, takes_value, written}
 
 -- no option stands at the front
@@ -21,12 +24,13 @@ pub record AreTold (words : List (List ℕ)) (options : Options) (rest : List (L
   pub behind : IsBehind rest
 
 -- the words are options, of which the last lacks its value
-pub record LacksValue (words : List (List ℕ)) : Type 0 where
+pub record LacksValue (words : List (List ℕ)) (told : WordFault) : Type 0 where
   pub tolds : List Told
-  pub option : List ℕ
-  pub are : words ≡ flat_map written tolds ++ option ∷ []
+  pub option : Bor (List ℕ)
+  pub names : told ≡ fault.NoValue option
+  pub are : words ≡ flat_map written tolds ++ option.now ∷ []
   pub each : AllByRecursion IsTold tolds
-  pub takes : IsTrue (takes_value option)
+  pub takes : IsTrue (takes_value option.now)
 
 -- the value of an option was set
 abbrev pub value_or : List ℕ → List ℕ → List ℕ → Option (List ℕ) → Option (List ℕ)

@@ -1,14 +1,12 @@
--- This URL matches.
-use Rattle.std.proofs.Common.{◌≡◌, ◌<◌, refl, sym, ap, subst, ◌∙◌, arith, length, slice_index_or}
+-- The URLs are known.
+use Rattle.std.proofs.Common.{sym, subst, List, ℕ, Vec, Global, Option}
+use Rattle.std.specs.Prelude.{◌↔◌, Any, IsTrue, MatchOption}
 use Rattle.glob_matcher.specs.Matching.{Splits}
 use Rattle.git_config.proofs.conditions.has_url.Goals as goal
 
-pub returns-then-wildmatch : goal.returns-then-wildmatch
-returns-then-wildmatch c =
-    let items = c.deref-url-items.ensures.value in
-    let lt : c.loop-url.url-index < length c.args.around.now.urls.items = omega (arith, ap length items, c.loop-url-test.true) in
-    let is : slice_index_or c.args.around.now.urls.items c.loop-url.url-index c.url-item.result ≡ c.url-item.result =
-    sym (c.url-item.is ∙ ap (λ xs. slice_index_or xs c.loop-url.url-index c.url-item.result) items) in
-    let matches = subst (λ l. Splits l c.args.told.now c.path_mode.result) c.deref.ensures.value (c.wildmatch.ensures.0 c.if-wildmatch.true) in
-    let splits = subst (λ mode. Splits c.url-item.result.items c.args.told.now mode) c.path_mode.ensures matches in
-    (λ _. (c.loop-url.url-index, c.url-item.result, lt, is, splits), λ _. refl)
+pub returns-in-Some : goal.returns-in-Some
+returns-in-Some c =
+    let among = subst (λ (urls : List (Vec ℕ Global)). IsTrue c.is_among.result ↔ Any (λ url. Splits url.items c.args.told.now (record { 0 = 1 })) urls) c.deref.ensures.value c.is_among.ensures in
+    subst
+    (λ (known : Option (Vec (Vec ℕ Global) Global)). IsTrue c.is_among.result ↔ MatchOption known (Unit {0}) (λ urls. Any (λ url. Splits url.items c.args.told.now (record { 0 = 1 })) urls.items))
+    (sym c.in-Some.is) among

@@ -1,8 +1,7 @@
 -- A line was cut off, so there were bytes; and what is answered is none of what says that none was.
-use Rattle.std.proofs.Common.{◌≡◌, ⊎_elim, length, ap, sym, ◌∙◌, arith}
+use Rattle.std.proofs.Common.{◌≡◌, ⊎_elim, length, ap, ◌∙◌, arith}
 use Rattle.std.proofs.lemmas.Bool.{false≢true}
 use Rattle.glob_lines.proofs.lemmas.IgnoreLemmas.{CutsLine-shorter_by}
-use Rattle.gix_glob_c.specs.IgnoreFile.{unread_of}
 use Rattle.gix_glob_c.proofs.attribute_file.take_line.Goals as goal
 
 pub returns-clause-large : goal.returns-clause-large

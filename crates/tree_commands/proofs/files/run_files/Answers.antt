@@ -1,12 +1,13 @@
-use Rattle.std.proofs.Common.{◌≡◌, [], ℕ, List, sym, ◌∙◌, arith}
+use Rattle.std.proofs.Common.{◌≡◌, [], ℕ, List, sym, ap, ◌∙◌, arith}
 use Rattle.std.specs.List.{Contains}
 use Rattle.std.proofs.lemmas.Bool.{false≢true}
 use Rattle.std.proofs.lemmas.Result.{on_err_weaker, on_ok_weaker}
 use Rattle.gix_glob.specs.Watched.{inner}
 use Rattle.glob_trees.specs.Ways.{start_of}
 use Rattle.tree_commands.specs.FileTrees.{FileTree}
-use Rattle.tree_commands.specs.Files.{Basis, IsMet, IsReached, basis_of, path_line}
-use Rattle.tree_commands.specs.Private.Listing.{Begins, seen_lists}
+use Rattle.tree_commands.specs.Files.{Basis, IsMet, IsReached, path_line}
+use Rattle.tree_commands.specs.Listings.{asked_basis}
+use Rattle.tree_commands.specs.Private.Listing.{Begins, seen_lists, terms_of}
 use Rattle.tree_commands.specs.Private.UnderWay.{OfKnown, beginning_of}
 use Rattle.tree_commands.proofs.lemmas.BeginLemmas.{all_is_listed, all_pairs, folder_is_reached, some_is_listed}
 use Rattle.tree_commands.proofs.lemmas.ListingRuns.{nothing_in_front}
@@ -17,33 +18,33 @@ none_there : (path : List ℕ) → ¬ Contains [] path
 none_there path there = let less = there.1 in omega arith
 
 pub returns-then-not-are_of_folders-clause-front : goal.returns-then-not-are_of_folders-clause-front
-returns-then-not-are_of_folders-clause-front g c = λ unfailed. ([], all_pairs [] tt, nothing_in_front (path_line c.args.listing.standpoint c.args.listing.form) (g.W.Write.contents (inner c.args.writer.now)), λ tree known path there. absurd (none_there path there))
+returns-then-not-are_of_folders-clause-front g c = λ unfailed. ([], all_pairs [] tt, nothing_in_front (path_line c.args.listing.mark c.args.listing.standpoint c.args.listing.form) (g.W.Write.contents (inner c.args.writer.now)), λ tree known path there. absurd (none_there path there))
 
 pub returns-then-not-are_of_folders-clause-base : goal.returns-then-not-are_of_folders-clause-base
 returns-then-not-are_of_folders-clause-base g c = λ told folders. false≢true (sym c.if-not-are_of_folders.true ∙ c.are_of_folders.ensures.1 (rw c.deref.ensures.value folders))
 
 pub returns-in_err-is_told_folder-clause-front : goal.returns-in_err-is_told_folder-clause-front
-returns-in_err-is_told_folder-clause-front g c = on_any_err c.from_residual.result (λ unfailed. ([], all_pairs [] tt, nothing_in_front (path_line c.args.listing.standpoint c.args.listing.form) (g.W.Write.contents (inner c.args.writer.now)), λ tree known path there. absurd (none_there path there)))
+returns-in_err-is_told_folder-clause-front g c = on_any_err c.from_residual.result (λ unfailed. ([], all_pairs [] tt, nothing_in_front (path_line c.args.listing.mark c.args.listing.standpoint c.args.listing.form) (g.W.Write.contents (inner c.args.writer.now)), λ tree known path there. absurd (none_there path there)))
 
 pub returns-in_err-begin-clause-front : goal.returns-in_err-begin-clause-front
-returns-in_err-begin-clause-front g c = on_any_err c.from_residual-in_err-begin.result (λ unfailed. ([], all_pairs [] tt, nothing_in_front (path_line c.args.listing.standpoint c.args.listing.form) (g.W.Write.contents (inner c.args.writer.now)), λ tree known path there. absurd (none_there path there)))
+returns-in_err-begin-clause-front g c = on_any_err c.from_residual-in_err-begin.result (λ unfailed. ([], all_pairs [] tt, nothing_in_front (path_line c.args.listing.mark c.args.listing.standpoint c.args.listing.form) (g.W.Write.contents (inner c.args.writer.now)), λ tree known path there. absurd (none_there path there)))
 
 pub returns-clause-lists : goal.returns-clause-lists
 returns-clause-lists g c =
-    let basis : Basis = basis_of c.args.listing.fronts.items c.args.listing.case in
+    let basis : Basis = asked_basis c.args.listing c.args.tracked.now in
     let standpoint = c.args.listing.standpoint in
-    let line = path_line c.args.listing.standpoint c.args.listing.form in
+    let line = path_line c.args.listing.mark c.args.listing.standpoint c.args.listing.form in
     let known = g.S.FileSource.shows c.args.source.now in
     let now = g.S.FileSource.shows c.begin.new.source in
     let lists = seen_lists c.begin.new.self.on_way.lists.items in
     let pending = c.begin.new.self.pending.items in
     let told = c.in_ok-is_told_folder.is_told_folder in
     let leads = c.in_ok-is_told_folder.ensures.leads in
-    let at : Begins known basis c.lead.new.path.items told lists pending = rw (c.new-lister.ensures.lists, c.new-lister.ensures.case) at c.in_ok-begin.ensures.begins in
-    let as_case : c.begin.new.self.on_way.case ≡ c.args.listing.case = c.begin.ensures.case ∙ c.new-lister.ensures.case in
+    let at : Begins known basis c.lead.new.path.items told lists pending = rw (c.new-lister.ensures.lists, c.new-lister.ensures.terms) at c.in_ok-begin.ensures.begins in
+    let as_terms : terms_of c.begin.new.self.on_way.terms ≡ basis.terms = ap terms_of c.begin.ensures.terms ∙ c.new-lister.ensures.terms in
     let old = g.W.Write.contents (inner c.args.writer.now) in
     let new = g.W.Write.contents (inner c.write_listed.new.writer) in
-    let ok = rw (c.new-lines.ensures.0, c.new-lines.ensures.1, as_case) at c.write_listed.ensures.ok in
+    let ok = rw (c.new-lines.ensures.0, c.new-lines.ensures.1, c.new-lines.ensures.2, as_terms) at c.write_listed.ensures.ok in
     on_ok_weaker c.write_listed.result
     (λ all. (
       all.listed,
@@ -55,20 +56,20 @@ returns-clause-lists g c =
 
 pub returns-clause-front : goal.returns-clause-front
 returns-clause-front g c =
-    let basis : Basis = basis_of c.args.listing.fronts.items c.args.listing.case in
+    let basis : Basis = asked_basis c.args.listing c.args.tracked.now in
     let standpoint = c.args.listing.standpoint in
-    let line = path_line c.args.listing.standpoint c.args.listing.form in
+    let line = path_line c.args.listing.mark c.args.listing.standpoint c.args.listing.form in
     let known = g.S.FileSource.shows c.args.source.now in
     let now = g.S.FileSource.shows c.begin.new.source in
     let lists = seen_lists c.begin.new.self.on_way.lists.items in
     let pending = c.begin.new.self.pending.items in
     let told = c.in_ok-is_told_folder.is_told_folder in
     let leads = c.in_ok-is_told_folder.ensures.leads in
-    let at : Begins known basis c.lead.new.path.items told lists pending = rw (c.new-lister.ensures.lists, c.new-lister.ensures.case) at c.in_ok-begin.ensures.begins in
-    let as_case : c.begin.new.self.on_way.case ≡ c.args.listing.case = c.begin.ensures.case ∙ c.new-lister.ensures.case in
+    let at : Begins known basis c.lead.new.path.items told lists pending = rw (c.new-lister.ensures.lists, c.new-lister.ensures.terms) at c.in_ok-begin.ensures.begins in
+    let as_terms : terms_of c.begin.new.self.on_way.terms ≡ basis.terms = ap terms_of c.begin.ensures.terms ∙ c.new-lister.ensures.terms in
     let old = g.W.Write.contents (inner c.args.writer.now) in
     let new = g.W.Write.contents (inner c.write_listed.new.writer) in
-    let err = rw (c.new-lines.ensures.0, c.new-lines.ensures.1, as_case) at c.write_listed.ensures.front in
+    let err = rw (c.new-lines.ensures.0, c.new-lines.ensures.1, c.new-lines.ensures.2, as_terms) at c.write_listed.ensures.front in
     on_err_weaker c.write_listed.result
     (λ front unfailed. let some = front unfailed in (
       some.listed,
@@ -80,21 +81,21 @@ returns-clause-front g c =
 
 pub returns-clause-asks : goal.returns-clause-asks
 returns-clause-asks g c =
-    let basis : Basis = basis_of c.args.listing.fronts.items c.args.listing.case in
+    let basis : Basis = asked_basis c.args.listing c.args.tracked.now in
     let standpoint = c.args.listing.standpoint in
-    let line = path_line c.args.listing.standpoint c.args.listing.form in
+    let line = path_line c.args.listing.mark c.args.listing.standpoint c.args.listing.form in
     let known = g.S.FileSource.shows c.args.source.now in
     let now = g.S.FileSource.shows c.begin.new.source in
     let lists = seen_lists c.begin.new.self.on_way.lists.items in
     let pending = c.begin.new.self.pending.items in
     let told = c.in_ok-is_told_folder.is_told_folder in
     let leads = c.in_ok-is_told_folder.ensures.leads in
-    let at : Begins known basis c.lead.new.path.items told lists pending = rw (c.new-lister.ensures.lists, c.new-lister.ensures.case) at c.in_ok-begin.ensures.begins in
-    let as_case : c.begin.new.self.on_way.case ≡ c.args.listing.case = c.begin.ensures.case ∙ c.new-lister.ensures.case in
+    let at : Begins known basis c.lead.new.path.items told lists pending = rw (c.new-lister.ensures.lists, c.new-lister.ensures.terms) at c.in_ok-begin.ensures.begins in
+    let as_terms : terms_of c.begin.new.self.on_way.terms ≡ basis.terms = ap terms_of c.begin.ensures.terms ∙ c.new-lister.ensures.terms in
     let old = g.W.Write.contents (inner c.args.writer.now) in
     let new = g.W.Write.contents (inner c.write_listed.new.writer) in
-    let asks = rw as_case at c.write_listed.ensures.asks in
-    gives_further (λ _. ⊥) (λ folder. OfKnown now c.args.listing.case (beginning_of c.begin.new.self) (λ given tree start. IsMet given tree start (start_of folder)))
+    let asks = rw as_terms at c.write_listed.ensures.asks in
+    gives_further (λ _. ⊥) (λ folder. OfKnown now basis.terms (beginning_of c.begin.new.self) (λ given tree start. IsMet given tree start (start_of folder)))
     (λ folder. (tree : FileTree) → known tree → IsReached standpoint basis tree c.args.told.now (start_of folder))
     (g.S.FileSource.asked c.args.source.now) (g.S.FileSource.asked c.begin.new.source) (g.S.FileSource.asked c.write_listed.new.source) (λ folder never. absurd never)
     (λ folder met. folder_is_reached standpoint basis c.args.told.now c.lead.new.path.items told leads.0 leads.1 known lists pending at line now c.begin.ensures.stays old new folder met)

@@ -1,9 +1,7 @@
-use Rattle.std.proofs.Common.{◌≡◌, drop, map, string_bytes}
-use Rattle.tree_words.specs.Operands.{flags_among}
+use Rattle.std.proofs.Common.{map, string_bytes, take}
+use Rattle.tree_words.proofs.lemmas.FlagsLemmas.{AreKnown}
 use Rattle.tree_words.proofs.flags.flags_of.Given as goal
 
--- the words that are left give what all of them do
+-- the options so far are known
 abbrev pub invariant-words : goal.invariant-words
-invariant-words g l =
-    flags_among g.F.CommandFlags.named g.F.CommandFlags.lettered l.flags (map string_bytes (drop l.word-index l.words))
-    ≡ flags_among g.F.CommandFlags.named g.F.CommandFlags.lettered l.fn.none (map string_bytes l.fn.words)
+invariant-words g l = AreKnown g.F.CommandFlags.named g.F.CommandFlags.lettered l.fn.none (map string_bytes (take l.word-index l.words)) l.flags

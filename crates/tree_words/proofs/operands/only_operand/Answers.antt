@@ -1,9 +1,9 @@
-use Rattle.std.proofs.Common.{◌≡◌, ◌+◌, List, [], ◌∷◌, ◌++◌, ℕ, Bool, true, false, drop, map, string_bytes, Option, Some, sym, subst, ◌∙◌}
+use Rattle.std.proofs.Common.{◌≡◌, ◌+◌, List, [], ◌∷◌, ◌++◌, ℕ, Bool, true, false, drop, map, string_bytes, Option, Some, if◌then◌else◌, refl, sym, subst, ◌∙◌}
 use Rattle.std.proofs.Math.ListN.{drop_of_length-le}
 use Rattle.std.specs.Borrow.{Bor}
 use Rattle.std.specs.Option.{option_copied, option_to_list}
 use Rattle.std.proofs.lemmas.Bool.{false≢true}
-use Rattle.tree_words.specs.Operands.{are_dashes, is_option}
+use Rattle.tree_words.specs.Operands.{are_dashes, is_option, operands_among}
 use Rattle.tree_words.proofs.lemmas.OperandsLemmas.{AreOneOperand, next_word, none_found, not_one, one_at_dashes, one_at_option, one_found, one_more_operand, only_one}
 use Rattle.tree_words.proofs.operands.only_operand.Goals as goal
 use Rattle.tree_words.proofs.operands.only_operand.Goals.{then-not-is_behind+then-eq, else-not-is_behind+then-is_behind+else-is_some, else-not-is_behind-via-then-not-is_behind+else-eq, else-not-is_behind-via-else-not-is_behind, then-is_behind-via-then-is_behind, then-is_behind-via-else-is_behind+then-not-is_option, else-not-is_behind+else-is_behind+else-not-is_option}
@@ -63,5 +63,6 @@ returns-then-is_some c =
       | then-is_behind-via-else-is_behind+then-not-is_option w ↦ λ _. sym w.is_option.ensures ∙ w.if-not-is_option.true
     ] in
     let some = one_found c.words.only (sym c.is_some.ensures ∙ c.if-is_some.true) in
-    not_one words rest some.0 word c.words.is_behind
-    (subst (λ ws. AreOneOperand words rest (ws ++ word ∷ []) c.words.is_behind) some.1 (one_more_operand words rest found word c.words.is_behind fails other before)) c.args.usual.now
+    let both : AreOneOperand words rest (some.0 ∷ word ∷ []) c.words.is_behind =
+    subst (λ ws. AreOneOperand words rest (ws ++ word ∷ []) c.words.is_behind) some.1 (one_more_operand words rest found word c.words.is_behind fails other before) in
+    (not_one words rest some.0 word c.words.is_behind both c.args.usual.now, (c.as_str-word.result, refl, (some.0, (if c.words.is_behind then rest else operands_among rest), both)))

@@ -15,12 +15,12 @@ words-preserved-then-takes_value c =
     let value = c.as_str.result.now in
     let told : Told = record { option = option; value = Some value } in
     let takes = sym c.takes_value.ensures ∙ c.if-takes_value.true in
-    let next : map string_bytes c.words.left.now ≡ written told ++ map string_bytes c.in_ok-value.behind.now =
-    ap (map string_bytes) (c.in-Some.ensures.cases.0 ∙ ap (λ l. c.in-Some.word.now ∷ l) c.in_ok-value.ensures.cases.0)
-    ∙ ap (λ w. w ∷ string_bytes c.in_ok-value.value.now ∷ map string_bytes c.in_ok-value.behind.now) (sym c.as_str-word.ensures.value)
-    ∙ ap (λ v. option ∷ v ∷ map string_bytes c.in_ok-value.behind.now) (sym c.as_str.ensures.value) in (
+    let next : map string_bytes c.words.left.now ≡ written told ++ map string_bytes c.in-Some-split_first.behind.now =
+    ap (map string_bytes) (c.in-Some.ensures.cases.0 ∙ ap (λ l. c.in-Some.word.now ∷ l) c.in-Some-split_first.ensures.cases.0)
+    ∙ ap (λ w. w ∷ string_bytes c.in-Some-split_first.value.now ∷ map string_bytes c.in-Some-split_first.behind.now) (sym c.as_str-word.ensures.value)
+    ∙ ap (λ v. option ∷ v ∷ map string_bytes c.in-Some-split_first.behind.now) (sym c.as_str.ensures.value) in (
       tolds ++ told ∷ [],
-      one_more_told words (map string_bytes c.words.left.now) (map string_bytes c.in_ok-value.behind.now) tolds told c.words.invariant.1 next,
+      one_more_told words (map string_bytes c.words.left.now) (map string_bytes c.in-Some-split_first.behind.now) tolds told c.words.invariant.1 next,
       told_more tolds told c.words.invariant.2 takes,
       values_more option value tolds c.words.options c.with_value-options.result c.words.invariant.3 c.with_value-options.ensures takes,
     )

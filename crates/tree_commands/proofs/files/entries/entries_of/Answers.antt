@@ -5,7 +5,7 @@ use Rattle.std.specs.Option.{option_copied}
 use Rattle.std.specs.Vec.{vec_items}
 use Rattle.std.proofs.lemmas.Bool.{false≢true}
 use Rattle.tree_commands.specs.FileTrees.{names_in}
-use Rattle.tree_commands.specs.Private.Listing.{names_left, seen_lists}
+use Rattle.tree_commands.specs.Private.Listing.{names_left, seen_lists, terms_of}
 use Rattle.tree_commands.proofs.lemmas.EntryLemmas.{IsGoingOver, going_ends, going_on, going_past}
 use Rattle.tree_commands.proofs.lemmas.SourceLemmas.{gives_none, stays_further}
 use Rattle.tree_commands.proofs.files.entries.entries_of.Goals as goal
@@ -15,9 +15,9 @@ names-preserved-in_ok-push_found g c =
     let known = g.S.FileSource.shows c.args.source.now in
     let lists = seen_lists c.args.on_way.now.lists.items in
     let left : names_left (option_copied c.names.rest) ≡ c.first_name.result.0.now ∷ names_left (option_copied c.first_name.result.1) = ap (λ (r : Option (Bor (List ℕ))). names_left (option_copied r)) c.in-Some.is ∙ c.first_name.ensures in
-    let over = subst (λ ns. IsGoingOver known lists c.args.on_way.now.case c.args.start.now (names_in c.args.names.now) ns (map vec_items c.names.paths.items)) left c.names.invariant.over in
+    let over = subst (λ ns. IsGoingOver known lists (terms_of c.args.on_way.now.terms) c.args.start.now (names_in c.args.names.now) ns (map vec_items c.names.paths.items)) left c.names.invariant.over in
     record {
-      over = going_on known lists c.args.on_way.now.case c.args.start.now (names_in c.args.names.now) c.first_name.result.0.now (names_left (option_copied c.first_name.result.1)) (map vec_items c.names.paths.items) over
+      over = going_on known lists (terms_of c.args.on_way.now.terms) c.args.start.now (names_in c.args.names.now) c.first_name.result.0.now (names_left (option_copied c.first_name.result.1)) (map vec_items c.names.paths.items) over
           (c.is_entry_name.ensures.0 c.if-is_entry_name.true) (g.S.FileSource.shows c.names.source) c.names.invariant.stays (map vec_items c.push_found.new.paths.items) c.in_ok-push_found.ensures.adds;
       stays = stays_further g.S.FileSource.shows c.args.source.now c.names.source c.push_found.new.source c.names.invariant.stays c.push_found.ensures.stays;
       asks = gives_none (λ _. ⊥) (g.S.FileSource.asked c.args.source.now) (g.S.FileSource.asked c.names.source) (g.S.FileSource.asked c.push_found.new.source) c.names.invariant.asks c.push_found.ensures.asks;
@@ -28,9 +28,9 @@ names-preserved g c =
     let known = g.S.FileSource.shows c.args.source.now in
     let lists = seen_lists c.args.on_way.now.lists.items in
     let left : names_left (option_copied c.names.rest) ≡ c.first_name.result.0.now ∷ names_left (option_copied c.first_name.result.1) = ap (λ (r : Option (Bor (List ℕ))). names_left (option_copied r)) c.in-Some.is ∙ c.first_name.ensures in
-    let over = subst (λ ns. IsGoingOver known lists c.args.on_way.now.case c.args.start.now (names_in c.args.names.now) ns (map vec_items c.names.paths.items)) left c.names.invariant.over in
+    let over = subst (λ ns. IsGoingOver known lists (terms_of c.args.on_way.now.terms) c.args.start.now (names_in c.args.names.now) ns (map vec_items c.names.paths.items)) left c.names.invariant.over in
     record {
-      over = going_past known lists c.args.on_way.now.case c.args.start.now (names_in c.args.names.now) c.first_name.result.0.now (names_left (option_copied c.first_name.result.1)) (map vec_items c.names.paths.items) over
+      over = going_past known lists (terms_of c.args.on_way.now.terms) c.args.start.now (names_in c.args.names.now) c.first_name.result.0.now (names_left (option_copied c.first_name.result.1)) (map vec_items c.names.paths.items) over
           (λ may. false≢true (sym c.if-is_entry_name.false ∙ c.is_entry_name.ensures.1 may));
       stays = c.names.invariant.stays;
       asks = c.names.invariant.asks;
@@ -41,5 +41,5 @@ returns-clause-found g c =
     let known = g.S.FileSource.shows c.args.source.now in
     let lists = seen_lists c.args.on_way.now.lists.items in
     let left : names_left (option_copied c.names.rest) ≡ [] = ap (λ (r : Option (Bor (List ℕ))). names_left (option_copied r)) c.in_default.is in
-    let over = subst (λ ns. IsGoingOver known lists c.args.on_way.now.case c.args.start.now (names_in c.args.names.now) ns (map vec_items c.names.paths.items)) left c.names.invariant.over in
-    λ tree it path. going_ends known lists c.args.on_way.now.case c.args.start.now (names_in c.args.names.now) (map vec_items c.names.paths.items) over tree it path
+    let over = subst (λ ns. IsGoingOver known lists (terms_of c.args.on_way.now.terms) c.args.start.now (names_in c.args.names.now) ns (map vec_items c.names.paths.items)) left c.names.invariant.over in
+    λ tree it path. going_ends known lists (terms_of c.args.on_way.now.terms) c.args.start.now (names_in c.args.names.now) (map vec_items c.names.paths.items) over tree it path

@@ -9,5 +9,5 @@ use Rattle.tree_commands.proofs.files.entries.kept_by_kind.Goals as goal
 pub returns-then-is_ignored_by-clause-found : goal.returns-then-is_ignored_by-clause-found
 returns-then-is_ignored_by-clause-found g c =
     let lists = seen_lists c.args.on_way.now.lists.items in
-    let ignored : IsIgnored lists c.args.on_way.now.case c.args.path.now (is_folder c.in-Some.kind) = rw (c.deref.ensures.value, c.is_folder.ensures) at (c.if-is_ignored_by.ensures.0 refl) in
-    λ tree known. stands_as lists c.args.on_way.now.case tree c.args.path.now c.in-Some.kind (sym c.in-Some.is ∙ c.in_ok-kind.ensures.found tree known) ignored
+    let ignored : IsIgnored lists c.args.on_way.now.terms.case c.args.path.now (is_folder c.in-Some.kind) = rw (c.deref.ensures.value, c.is_folder.ensures) at (c.if-is_ignored_by.ensures.0 refl) in
+    λ tree known. stands_as lists c.args.on_way.now.terms.case tree c.args.path.now c.in-Some.kind (sym c.in-Some.is ∙ c.in_ok-kind.ensures.found tree known) ignored

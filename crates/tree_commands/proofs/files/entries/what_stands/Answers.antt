@@ -5,10 +5,10 @@ use Rattle.tree_commands.proofs.files.entries.what_stands.Goals as goal
 
 pub returns-in-Always-clause-found : goal.returns-in-Always-clause-found
 returns-in-Always-clause-found g c =
-    λ tree known. stands_ignored (seen_lists c.args.on_way.now.lists.items) c.args.on_way.now.case tree c.args.path.now (λ is_dir. rw c.deref.ensures.value at (c.in-Always.ensures is_dir))
+    λ tree known. stands_ignored (seen_lists c.args.on_way.now.lists.items) c.args.on_way.now.terms.case tree c.args.path.now (λ is_dir. rw c.deref.ensures.value at (c.in-Always.ensures is_dir))
 
 pub returns-in-Never-clause-found : goal.returns-in-Never-clause-found
 returns-in-Never-clause-found g c =
     IfOk-weaker c.kind_at.result _ _
-    (λ found is tree known. stands_kept (seen_lists c.args.on_way.now.lists.items) c.args.on_way.now.case tree c.args.path.now found (is tree known) (λ is_dir. rw c.deref.ensures.value at (c.in-Never.ensures is_dir)))
+    (λ found is tree known. stands_kept (seen_lists c.args.on_way.now.lists.items) c.args.on_way.now.terms.case tree c.args.path.now found (is tree known) (λ is_dir. rw c.deref.ensures.value at (c.in-Never.ensures is_dir)))
     c.kind_at.ensures.found

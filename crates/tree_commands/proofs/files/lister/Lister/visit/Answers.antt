@@ -1,16 +1,68 @@
-use Rattle.std.proofs.Common.{◌≡◌, ◌⊎◌, [], false, sym, ap, subst, ◌∙◌}
+use Rattle.std.proofs.Common.{◌≡◌, ◌≢◌, [], false, true, inl, inr, refl, sym, ap, subst, ◌∙◌}
+use Rattle.std.specs.Prelude.{ℕ, List, Option, option_map}
+use Rattle.std.specs.Vec.{vec_items}
+use Rattle.std.proofs.lemmas.Bool.{false≢true}
 use Rattle.glob_trees.specs.Ways.{start_of}
-use Rattle.tree_commands.specs.FileTrees.{AreFoundIn}
-use Rattle.tree_commands.proofs.lemmas.MetLemmas.{open_by}
-use Rattle.tree_commands.proofs.lemmas.VisitLemmas.{enters_weaker}
+use Rattle.tree_commands.specs.FileTrees.{AreFoundIn, FileTree}
+use Rattle.tree_commands.specs.Private.Listing.{Visits, seen_lists, terms_of}
+use Rattle.tree_commands.proofs.lemmas.VisitLemmas.{enters_weaker, file_ends, file_listed, folder_ends, folder_listed, not_shut, shut_by_name, shut_by_repository, visit_ends}
 use Rattle.tree_commands.proofs.files.lister.Lister.visit.Goals as goal
 
+pub returns-in_default-clause-visits : goal.returns-in_default-clause-visits
+returns-in_default-clause-visits g c =
+    let known = g.S.FileSource.shows c.args.source.now in
+    let terms = terms_of c.args.self.now.on_way.terms in
+    let lists = seen_lists c.args.self.now.on_way.lists.items in
+    let pending = c.args.self.now.pending.items in
+    let next = c.args.next in
+    let file = rw c.deref.ensures.value at c.in_default.ensures in
+    subst (λ (o : Option (List ℕ)). Visits known terms next lists lists pending pending o) (sym c.only_if.ensures)
+    (visit_ends known terms next lists pending c.lists_file-is_listed.result next.path.items refl (λ tree it. file_ends known terms next lists pending file.0 file.1 tree)
+    (λ tree it. file_listed known terms next lists pending file.0 file.1 c.lists_file-is_listed.result c.lists_file-is_listed.ensures tree))
+
+pub returns-then-is_told-clause-visits : goal.returns-then-is_told-clause-visits
+returns-then-is_told-clause-visits g c =
+    let known = g.S.FileSource.shows c.args.source.now in
+    let terms = terms_of c.args.self.now.on_way.terms in
+    let lists = seen_lists c.args.self.now.on_way.lists.items in
+    let pending = c.args.self.now.pending.items in
+    let next = c.args.next in
+    let start = sym c.deref.ensures.value ∙ c.in-Some.ensures in
+    let told = c.is_told.ensures.0 c.if-is_told.true in
+    let ignored = c.is_ignored_folder-is_ignored.result in
+    subst (λ (o : Option (List ℕ)). Visits known terms next lists lists pending pending o) (sym c.only_if-then-is_told.ensures)
+    (visit_ends known terms next lists pending c.lists_folder-is_listed.result next.path.items refl
+    (λ tree it. folder_ends known terms next lists pending c.in-Some.folder.now start told.1.0 ignored c.is_ignored_folder-is_ignored.ensures tree (shut_by_name terms tree c.in-Some.folder.now ignored told))
+    (λ tree it. folder_listed known terms next lists pending c.in-Some.folder.now start told.1.0 ignored c.is_ignored_folder-is_ignored.ensures c.lists_folder-is_listed.result c.lists_folder-is_listed.ensures tree (shut_by_name terms tree c.in-Some.folder.now ignored told)))
+
+pub returns-then-is_shut-clause-visits : goal.returns-then-is_shut-clause-visits
+returns-then-is_shut-clause-visits g c =
+    let known = g.S.FileSource.shows c.args.source.now in
+    let terms = terms_of c.args.self.now.on_way.terms in
+    let lists = seen_lists c.args.self.now.on_way.lists.items in
+    let pending = c.args.self.now.pending.items in
+    let next = c.args.next in
+    let start = sym c.deref.ensures.value ∙ c.in-Some.ensures in
+    let own = c.is_shut.ensures.0 c.if-is_shut.true in
+    let ignored = c.is_ignored_folder-is_ignored.result in
+    let git = λ (tree : FileTree) (it : known tree). (let found = c.in_ok-names.ensures.found tree it in sym found.git ∙ own.0) in
+    subst (λ (o : Option (List ℕ)). Visits known terms next lists lists pending pending o) (sym c.only_if-then-is_shut.ensures)
+    (visit_ends known terms next lists pending c.lists_folder-is_listed-then-is_shut.result next.path.items refl
+    (λ tree it. folder_ends known terms next lists pending c.in-Some.folder.now start own.1.0 ignored c.is_ignored_folder-is_ignored.ensures tree (shut_by_repository terms tree c.in-Some.folder.now ignored (git tree it) own.1))
+    (λ tree it. folder_listed known terms next lists pending c.in-Some.folder.now start own.1.0 ignored c.is_ignored_folder-is_ignored.ensures c.lists_folder-is_listed-then-is_shut.result c.lists_folder-is_listed-then-is_shut.ensures tree (shut_by_repository terms tree c.in-Some.folder.now ignored (git tree it) own.1)))
+
 pub returns-clause-visits : goal.returns-clause-visits
-returns-clause-visits g c = record {
-  folder = c.in-Some.folder.now;
-  start = sym c.deref.ensures.value ∙ c.in-Some.ensures;
-  may = λ tree known. (let found = c.in_ok-names.ensures.found tree known in
-      subst (λ b. (c.in-Some.folder.now ≡ []) ⊎ (b ≡ false)) found.git (open_by c.is_shut.result c.in_ok-names.names.has_git c.in-Some.folder.now c.is_shut.ensures c.if-is_shut.false));
-  enters = enters_weaker (λ tree. g.S.FileSource.shows c.names_in.new.source tree × AreFoundIn tree c.in-Some.folder.now c.in_ok-names.names) (g.S.FileSource.shows c.args.source.now)
-      (λ tree known. (c.names_in.ensures.stays tree known, c.in_ok-names.ensures.found tree known)) _ _ _ _ _ _ _ c.in_ok-enter.ensures.enters;
-}
+returns-clause-visits g c =
+    let terms = terms_of c.args.self.now.on_way.terms in
+    let folder = c.in-Some.folder.now in
+    let ignored = c.is_ignored_folder-is_ignored.result in
+    inl (record {
+      folder = folder;
+      start = sym c.deref.ensures.value ∙ c.in-Some.ensures;
+      is_ignored = ignored;
+      flag = c.is_ignored_folder-is_ignored.ensures;
+      may = λ tree known. (let found = c.in_ok-names.ensures.found tree known in
+          not_shut terms tree folder ignored (λ told. false≢true (sym c.if-is_told.false ∙ c.is_told.ensures.1 told)) (λ git free. false≢true (sym c.if-is_shut.false ∙ c.is_shut.ensures.1 (found.git ∙ git, free))));
+      enters = enters_weaker (λ tree. g.S.FileSource.shows c.names_in.new.source tree × AreFoundIn tree folder c.in_ok-names.names) (g.S.FileSource.shows c.args.source.now)
+          (λ tree known. (c.names_in.ensures.stays tree known, c.in_ok-names.ensures.found tree known)) _ _ _ _ _ _ _ _ c.in_ok-enter.ensures.enters;
+    })

@@ -1,0 +1,75 @@
+//! Tracked paths, as `files -c` lists them.
+ghost use Rattle.std.specs.Prelude.{◌≡◌, ℕ, IfOk, List, OnOk, Some, false, map, take};
+ghost use Rattle.std.specs.Borrow.{Bor};
+ghost use Rattle.gix_glob.specs.EntryLists.{entry_list_of};
+ghost use Rattle.gix_glob.specs.Watched.{has_failed, inner};
+ghost use Rattle.tree_commands.specs.TrackedFiles.{paths_asked};
+ghost use Rattle.globtree.specs.Answers.{AreFronts, ListsIgnored, ListsTracked};
+
+use crate::check_ignore::told_fault;
+use anyhow::Result;
+use git_index::Index;
+use gix_glob::search::Watched;
+use glob_lines::IgnoreLines;
+use glob_trees::Tree;
+use std::alloc::Global;
+use std::io::Write;
+use std::rt::Files;
+use told_paths::Standpoint;
+use tree_answers::Form;
+use tree_commands::tracked_files::{tracked_at, write_ignored, write_paths};
+use tree_files::{CheckFault, FileKinds, FolderFiles};
+
+/// Lists the tracked paths at or below a folder.
+pub(crate) fn list_tracked<O: Write>(
+    alloc: Global,
+    standpoint: &Standpoint,
+    form: Form,
+    tracked: &Index,
+    folder: &str,
+    output: &mut Watched<O>,
+) -> Result<()>
+    requires { has_failed output.old ≡ false }
+    ensures { OnOk result (ListsTracked standpoint.now form tracked.now folder.now (O.contents (inner output.old)) (O.contents (inner output.new))) }
+{
+    let paths = asked_paths(alloc, standpoint, tracked, folder)?;
+    let told = write_paths(alloc, standpoint, form, &paths, output);
+    told.map_err(|fault| told_fault(alloc, fault))
+}
+
+/// Lists those of them that are ignored, by the patterns of a tree.
+pub(crate) fn list_tracked_ignored<R: Files + Eprint, O: Write>(
+    rt: &R,
+    alloc: Global,
+    standpoint: &Standpoint,
+    form: Form,
+    tracked: &Index,
+    tree: Tree<IgnoreLines, FolderFiles<'_, R>>,
+    folder: &str,
+    output: &mut Watched<O>,
+) -> Result<()>
+    requires working { has_failed output.old ≡ false }
+    requires before { AreFronts tree.front_count (take tree.front_count (map (entry_list_of (λ _. tt)) tree.lists)) }
+    ensures { OnOk result (ListsIgnored standpoint.now tree.entry.rules form tracked.now folder.now (O.contents (inner output.old)) (O.contents (inner output.new))) }
+{
+    let paths = asked_paths(alloc, standpoint, tracked, folder)?;
+    let kinds = FileKinds::of_tracked(rt, alloc);
+    let (_sources, told) = write_ignored(alloc, standpoint, form, tree, kinds, &paths, output);
+    told.map_err(|fault| told_fault(alloc, fault))
+}
+
+/// The tracked paths at or below a folder.
+fn asked_paths<'a>(
+    alloc: Global,
+    standpoint: &Standpoint,
+    tracked: &'a Index,
+    folder: &str,
+) -> Result<Vec<&'a [u8]>>
+    ensures { IfOk result (λ paths. paths_asked standpoint.now folder.now tracked.entry.now ≡ Some (map (λ (path : Bor (List ℕ)). path.now) paths.items)) }
+{
+    let told = folder.as_bytes();
+    match tracked_at(alloc, standpoint, tracked.entries(), told) {
+        Ok(paths) => Ok(paths),
+        Err(fault) => Err(CheckFault::of_lead(alloc, told, fault).into()),
+    }
+}

@@ -1,0 +1,59 @@
+//! The variables of the environment by which Git reads pathspecs otherwise: `check-ignore` takes none that is true.
+ghost use Rattle.std.specs.Prelude.{◌≡◌, [], IfOk, IsTrue, OnOk, false};
+ghost use Rattle.std.specs.Io.KnownBytes.{Consumes};
+ghost use Rattle.gix_glob.specs.Watched.{has_failed, inner};
+
+use anyhow::{Result, bail};
+use gix_glob::search::Watched;
+use repository_files::is_true;
+use std::alloc::Global;
+use std::io;
+use std::io::Read;
+use std::rt::Env;
+
+/// The variables.
+const NAMES: [&str; 4] = [
+    "GIT_LITERAL_PATHSPECS",
+    "GIT_GLOB_PATHSPECS",
+    "GIT_NOGLOB_PATHSPECS",
+    "GIT_ICASE_PATHSPECS",
+];
+
+/// Refuses a variable that is true, and one that is no boolean, as Git does where a path is asked.
+pub(crate) fn refuse_settings<R: Env>(rt: &R, alloc: Global) -> Result<()> {
+    'names: for name in NAMES {
+        if is_true(rt, alloc, name)? {
+            bail!("{name} is true: check-ignore takes no such setting");
+        }
+    }
+    Ok(())
+}
+
+/// The same, where paths are read: an input without a path isn't refused, and nothing is taken of it.
+pub(crate) fn refuse_settings_for<R: Env, I: Read>(
+    rt: &R,
+    alloc: Global,
+    input: &mut Watched<I>,
+) -> Result<()>
+    requires { has_failed input.old ≡ false }
+    ensures working { OnOk result (has_failed input.new ≡ false) }
+    ensures kept { OnOk result (Consumes (I.remaining (inner input.old)) (I.remaining (inner input.new)) []) }
+{
+    let Err(refusal) = refuse_settings(rt, alloc) else {
+        return Ok(());
+    };
+    if is_at_end(input)? {
+        return Ok(());
+    }
+    Err(refusal)
+}
+
+/// Whether nothing is left of an input; else a byte of it is gone.
+fn is_at_end<I: Read>(input: &mut Watched<I>) -> io::Result<bool>
+    requires { has_failed input.old ≡ false }
+    ensures working { IfOk result (λ _. has_failed input.new ≡ false) }
+    ensures kept { IfOk result (λ is_end. IsTrue is_end → Consumes (I.remaining (inner input.old)) (I.remaining (inner input.new)) []) }
+{
+    let mut byte = [0];
+    Ok(input.read(&mut byte)? == 0)
+}

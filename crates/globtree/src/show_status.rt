@@ -1,0 +1,91 @@
+//! The command `status`.
+ghost use Rattle.std.specs.Prelude.{◌≡◌, [], IfOk, map, string_bytes};
+ghost use Rattle.gix_glob.specs.Watched.{inner};
+ghost use Rattle.tree_words.specs.Operands.{operands_among};
+ghost use Rattle.globtree.specs.Answers.{AnswersStatus, IsAtTop};
+ghost use Rattle.globtree.specs.Running.{IsAnswered, form_by};
+
+use crate::fronts::{Fronts, case_of, fronts_of};
+use crate::index_use::IndexUse;
+use crate::listing::{copies_of, run_listing};
+use crate::running::ANSWERED;
+use anyhow::{Context, Result, bail};
+use gix_glob::search::Watched;
+use std::alloc::Global;
+use std::io::Write;
+use std::rt::{Clock, Env, Files};
+use told_paths::Standpoint;
+use tree_answers::Form;
+use tree_commands::files::Listing;
+use tree_commands::files::choosing::{Chosen, Folders};
+use tree_commands::files::mark::Mark;
+use tree_words::status::{IgnoredFiles, StatusFlags, UntrackedFiles};
+use tree_words::{Options, operands_of};
+
+/// Tells which files aren't tracked, and which are ignored.
+pub(crate) fn show_status<R: Files + Env + Clock + Eprint + AllocGlobal + Clone + Drop, O: Write>(
+    rt: &R,
+    alloc: Global,
+    options: Options<'_>,
+    flags: StatusFlags,
+    words: &[String],
+    shows_progress: bool,
+    output: &mut Watched<O>,
+) -> Result<u8>
+    ensures status { IfOk result IsAnswered }
+    ensures alone { IfOk result (λ _. operands_among (map string_bytes words.now) ≡ []) }
+    ensures answered { IfOk result (λ _. AnswersStatus flags (O.contents (inner output.old)) (O.contents (inner output.new))) }
+{
+    let operands = operands_of(alloc, words).context("the words")?.words;
+    if let Some(message) = flags.disagreement(operands.len()) {
+        bail!("{message}");
+    }
+    let fronts = fronts_of(rt, alloc, options, IndexUse::Paths)?;
+    if !flags.tells_untracked() {
+        return Ok(ANSWERED);
+    }
+    let listing = listing_of(alloc, options, flags, &fronts, Mark::Untracked)?;
+    let status = run_listing(rt, alloc, listing, &fronts, ".", shows_progress, output)?;
+    if !flags.tells_ignored() {
+        return Ok(status);
+    }
+    // what can't be read for those that aren't ignored can't be for these, which lie in more folders
+    let listing = listing_of(alloc, options, flags, &fronts, Mark::Ignored)?;
+    run_listing(rt, alloc, listing, &fronts, ".", shows_progress, output)
+}
+
+/// What is asked of a listing from the top of the files that this mark stands before.
+fn listing_of(
+    alloc: Global,
+    options: Options<'_>,
+    flags: StatusFlags,
+    fronts: &Fronts,
+    mark: Mark,
+) -> Result<Listing>
+    ensures { IfOk result (λ listing. (listing.mark ≡ mark) × (listing.form ≡ form_by flags.nul fronts.now.quoting) × IsAtTop listing.standpoint) }
+{
+    if matches!(flags.untracked, UntrackedFiles::Normal) {
+        bail!("-unormal isn't known: give -uall");
+    }
+    let chosen = match mark {
+        Mark::Ignored => Chosen::Ignored,
+        Mark::Untracked | Mark::Bare => Chosen::Unignored,
+    };
+    let folders = match flags.ignored {
+        IgnoredFiles::Matching => Folders::NamedIfIgnored,
+        IgnoredFiles::Traditional | IgnoredFiles::No => Folders::Entered,
+    };
+    Ok(Listing {
+        standpoint: Standpoint {
+            top: Vec::new(alloc),
+            here: Vec::new(alloc),
+            is_inside: true,
+        },
+        form: Form::ended_by(flags.nul, fronts.quoting),
+        mark,
+        chosen,
+        folders,
+        fronts: copies_of(alloc, &fronts.lists)?,
+        case: case_of(options, fronts.folds),
+    })
+}

@@ -1,0 +1,50 @@
+//! What a word spells: a path, told from the top or from the current folder.
+ghost use Rattle.std.specs.Prelude.{◌≡◌, false, IsTrue, Some, option_map};
+ghost use Rattle.pathspecs.specs.Spelling.{seen, spelt_behind_colon, spelt_by};
+
+use crate::signs::spelt_by_signs;
+use crate::words::spelt_by_words;
+
+/// A path as a word spells it.
+#[derive(Debug, Clone, Copy, PartialEq, Eq)]
+pub struct Pathspec<'a> {
+    /// Whether it is told from the top, and not from the current folder.
+    pub is_from_top: bool,
+    /// The path, which may have no bytes.
+    pub path: &'a [u8],
+}
+
+impl<'a> Pathspec<'a> {
+    /// What a word spells. A colon stands before what isn't of the path: `:/x` and `:(top)x` are `x` told from the top, and `:x`, `::x` and
+    /// `:()x` are `x`. `None` where the word has no bytes, and where something else stands behind the colon.
+    pub fn spelt_by(word: &'a [u8]) -> Option<Pathspec<'a>>
+        ensures { option_map seen result ≡ spelt_by word.now }
+    {
+        match word {
+            [] => None,
+            [b':', text @ ..] => spelt_behind_colon(text),
+            _ => Some(Pathspec {
+                is_from_top: false,
+                path: word,
+            }),
+        }
+    }
+}
+
+/// Whether a word is itself the path that it spells, told from the current folder: so it is where it has bytes, and no colon in front.
+#[inline]
+pub fn is_path(word: &[u8]) -> bool
+    ensures { IsTrue result → spelt_by word.now ≡ Some (record { is_from_top = false; path = word.now }) }
+{
+    !word.is_empty() && word[0] != b':'
+}
+
+/// What is spelt behind the colon.
+fn spelt_behind_colon(text: &[u8]) -> Option<Pathspec<'_>>
+    ensures { option_map seen result ≡ spelt_behind_colon text.entry.now }
+{
+    match text.strip_prefix(b"(") {
+        Some(words) => spelt_by_words(words),
+        None => spelt_by_signs(text),
+    }
+}

@@ -1,0 +1,23 @@
+//! Which paths a listing chooses, and how it tells folders.
+
+/// Which paths are listed.
+#[derive(Clone, Copy, Debug, PartialEq, Eq)]
+pub enum Chosen {
+    /// Those that aren't ignored. An ignored folder isn't gone into, though tracked paths lie in it.
+    Unignored,
+    /// Those that are ignored. A folder is gone into whether it is or not, and what lies in an ignored one is.
+    Ignored,
+    /// Each path: no pattern counts.
+    All,
+}
+
+/// How a folder is told that is no repository of its own, and in which no tracked path lies. One in which a tracked path lies is gone into.
+#[derive(Clone, Copy, Debug, PartialEq, Eq)]
+pub enum Folders {
+    /// It is gone into.
+    Entered,
+    /// It is told by its name, and isn't gone into.
+    Named,
+    /// It is told by its name where it is ignored, and the ignored paths are chosen; else it is gone into.
+    NamedIfIgnored,
+}

@@ -1,0 +1,61 @@
+//! What decides, beside patterns, which paths a listing meets.
+ghost use Rattle.std.specs.Prelude.{◌≡◌, ◌↔◌, IsTrue};
+ghost use Rattle.tree_commands.specs.declared.files.choosing.Chosen.TheVariants as choices;
+ghost use Rattle.tree_commands.specs.Files.{IsHidden};
+ghost use Rattle.tree_commands.specs.Private.Listing.{IsNamedBy};
+
+use crate::files::choosing::{Chosen, Folders};
+use crate::files::source::EntryKind;
+use git_index::Index;
+use gix_glob::pattern::Case;
+
+/// What decides, beside patterns, which paths are met, and how folders are told.
+#[derive(Drop)]
+pub(crate) struct Terms<'a> {
+    pub(crate) case: Case,
+    pub(crate) chosen: Chosen,
+    pub(crate) folders: Folders,
+    pub(crate) tracked: &'a Index,
+}
+
+/// Whether what isn't ignored is chosen: then nothing ignored is met.
+pub(crate) fn leaves_out(chosen: Chosen) -> bool
+    ensures { IsTrue result ↔ chosen ≡ choices.Unignored }
+{
+    matches!(chosen, Chosen::Unignored)
+}
+
+/// Whether what is ignored is chosen.
+pub(crate) fn wants_ignored(chosen: Chosen) -> bool
+    ensures { IsTrue result ↔ chosen ≡ choices.Ignored }
+{
+    matches!(chosen, Chosen::Ignored)
+}
+
+/// Whether all is chosen, and no pattern counts.
+pub(crate) fn takes_all(chosen: Chosen) -> bool
+    ensures { IsTrue result ↔ chosen ≡ choices.All }
+{
+    matches!(chosen, Chosen::All)
+}
+
+/// Whether what stands at a path is passed over.
+pub(crate) fn is_hidden(tracked: &Index, path: &[u8], kind: EntryKind) -> bool
+    ensures { IsTrue result ↔ IsHidden tracked.now path.now kind }
+{
+    match kind {
+        EntryKind::Folder => tracked.is_submodule(path),
+        EntryKind::File => tracked.is_tracked(path),
+    }
+}
+
+/// Whether a folder is told by its name, although it is no repository, if no tracked path lies in it.
+pub(crate) fn is_named(folders: Folders, chosen: Chosen, is_ignored: bool) -> bool
+    ensures { IsTrue result ↔ IsNamedBy folders chosen is_ignored }
+{
+    match folders {
+        Folders::Entered => false,
+        Folders::Named => true,
+        Folders::NamedIfIgnored => wants_ignored(chosen) && is_ignored,
+    }
+}

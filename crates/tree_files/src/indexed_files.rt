@@ -1,0 +1,59 @@
+//! Files of patterns that Git takes from the index where the work tree doesn't have them.
+ghost use Rattle.std.specs.Prelude.{◌≡◌, ◌⊎◌, ◌↔◌, false, IsTrue, List, OnOk, ℕ};
+ghost use Rattle.tree_files.specs.Indexed.{is_indexed};
+
+use crate::fault::CheckFault;
+use crate::standing::{file_in, path_text};
+use std::alloc::{AllocError, Global};
+use std::collections::BTreeSet;
+use std::fs;
+use std::rt::Files;
+
+/// The folders whose own file of patterns lies in the index, from which it isn't read.
+#[derive(Drop)]
+pub struct IndexedFiles {
+    alloc: Global,
+    folders: BTreeSet<Vec<u8>>,
+}
+
+impl IndexedFiles {
+    /// None is in the index.
+    pub fn none(alloc: Global) -> IndexedFiles
+        ensures { (folder : List ℕ) → is_indexed result folder ≡ false }
+    {
+        IndexedFiles {
+            alloc,
+            folders: BTreeSet::new(alloc),
+        }
+    }
+
+    /// Adds the folder of a file that is in the index.
+    ///
+    /// # Errors
+    /// Only where memory was refused.
+    pub fn add(&mut self, folder: &[u8]) -> Result<(), AllocError>
+        ensures { OnOk result ((other : List ℕ) → IsTrue (is_indexed self.new other) ↔ (IsTrue (is_indexed self.old other) ⊎ (other ≡ folder.now))) }
+    {
+        let folder = Vec::from_slice(self.alloc, folder)?;
+        self.folders.insert(folder)?;
+        Ok(())
+    }
+
+    /// Refuses a folder whose file of this name is in the index, and not in the work tree, where a link isn't followed.
+    pub(crate) fn check<R: Files>(
+        &self,
+        rt: &R,
+        folder: &[u8],
+        name: &str,
+    ) -> Result<(), CheckFault> {
+        if !self.folders.contains(folder) {
+            return Ok(());
+        }
+        let folder = path_text(self.alloc, folder)?;
+        let file = file_in(self.alloc, folder.as_str(), name)?;
+        match fs::symlink_metadata(rt, file.as_str()) {
+            Ok(found) if !found.is_symlink() => Ok(()),
+            _ => Err(CheckFault::InIndexAlone(file)),
+        }
+    }
+}
