@@ -140,7 +140,8 @@ type Entries = &'static [(u32, &'static [u8])];
 fn index_of(alloc: Global, entries: Entries) -> Result<Index, IndexFault> {
     let mut bytes = Vec::new(alloc);
     bytes.extend_from_slice(b"DIRC\0\0\0\x02")?;
-    bytes.extend_from_slice(&(entries.len() as u32).to_be_bytes())?;
+    let count = (entries.len() as u64).to_be_bytes();
+    bytes.extend_from_slice(&count[4..])?;
     for (mode, path) in entries {
         push_entry(&mut bytes, *mode, path)?;
     }
@@ -154,7 +155,8 @@ fn push_entry(bytes: &mut Vec<u8>, mode: u32, path: &[u8]) -> Result<(), AllocEr
     bytes.extend_from_slice(&[0; 24])?;
     bytes.extend_from_slice(&mode.to_be_bytes())?;
     bytes.extend_from_slice(&[0; 32])?;
-    bytes.extend_from_slice(&(path.len() as u16).to_be_bytes())?;
+    let length = (path.len() as u64).to_be_bytes();
+    bytes.extend_from_slice(&length[6..])?;
     bytes.extend_from_slice(path)?;
     let zeros = [0; 8];
     let count = 8 - (path.len() % 8 + 6) % 8;

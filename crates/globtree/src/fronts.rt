@@ -1,5 +1,5 @@
 //! The lists of patterns that count before those of all folders, and the tree that they begin.
-ghost use Rattle.std.specs.Prelude.{◌≡◌, ◌≢◌, ◌&&◌, ◌∷◌, [], IfOk, IfSome, length, map, not, option_map};
+ghost use Rattle.std.specs.Prelude.{◌≡◌, ◌≢◌, ◌&&◌, ◌∷◌, [], IfOk, IfSome, length, map, option_map};
 ghost use Rattle.std.specs.Vec.{vec_items};
 ghost use Rattle.gix_glob.specs.EntryLists.{entry_list_of};
 ghost use Rattle.glob_lists.specs.Rules.{by_git};
@@ -65,6 +65,7 @@ pub(crate) fn fronts_of<R: Files + Env + Eprint + AllocGlobal>(
     let Taken { tracked, indexed } = take_from_index(rt, alloc, &tree.index, index)?;
     let WorkTree {
         standpoint,
+        is_outside,
         folds,
         quoting,
         excludes: file,
@@ -72,7 +73,7 @@ pub(crate) fn fronts_of<R: Files + Env + Eprint + AllocGlobal>(
         git_folder,
         ..
     } = tree;
-    let excludes_are_elsewhere = named.is_none() && is_elsewhere(&standpoint, &file);
+    let excludes_are_elsewhere = named.is_none() && is_elsewhere(is_outside, &file);
     let outer = outer_excludes(rt, alloc, named, file)?;
     let own = excludes(rt, alloc, own_excludes)?;
     let lists = both(alloc, outer, own)?;
@@ -89,11 +90,11 @@ pub(crate) fn fronts_of<R: Files + Env + Eprint + AllocGlobal>(
 }
 
 /// Whether Git, to list files, tells the file of excludes from another folder: a relative path, outside of the work tree.
-fn is_elsewhere(standpoint: &Standpoint, file: &Option<Vec<u8>>) -> bool
-    ensures { result ≡ (not standpoint.now.is_inside && is_relative_file (option_map vec_items file.now)) }
+fn is_elsewhere(is_outside: bool, file: &Option<Vec<u8>>) -> bool
+    ensures { result ≡ (is_outside && is_relative_file (option_map vec_items file.now)) }
 {
     match file {
-        Some(path) => !standpoint.is_inside && !path.is_empty() && !path.starts_with(b"/"),
+        Some(path) => is_outside && !path.is_empty() && !path.starts_with(b"/"),
         None => false,
     }
 }

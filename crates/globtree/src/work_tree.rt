@@ -20,7 +20,7 @@ use opened_repository::{Opened, told_from};
 use repository_files::variable;
 use std::alloc::Global;
 use std::rt::{Env, Files};
-use told_paths::{Quoting, Standpoint};
+use told_paths::{Quoting, Standpoint, below_folder};
 use tree_files::path_text;
 use tree_words::Options;
 
@@ -29,6 +29,8 @@ use tree_words::Options;
 pub(crate) struct WorkTree {
     /// Where paths are told from.
     pub(crate) standpoint: Standpoint,
+    /// Whether the current folder lies outside of the work tree of a repository.
+    pub(crate) is_outside: bool,
     /// Whether the configuration says that the case of letters doesn't count.
     pub(crate) folds: bool,
     /// Which names stand in quotes, by the configuration.
@@ -65,6 +67,7 @@ fn named_tree<R: Files + Env + AllocGlobal>(rt: &R, alloc: Global, top: &str) ->
     let top = go_to_top(rt, alloc, top)?;
     Ok(WorkTree {
         standpoint: standpoint_at(alloc, &here, top)?,
+        is_outside: false,
         folds: false,
         quoting: Quoting::Full,
         excludes: users_file(rt, alloc, b"ignore")?,
@@ -95,14 +98,16 @@ fn tree_of_repository<R: Files + Env + AllocGlobal>(
     let top = opened.top.as_deref().context("there is no work tree")?;
     let top = path_text(alloc, &told_from(alloc, &current, top)?)?;
     let top = go_to_top(rt, alloc, top.as_str())?;
+    let is_outside = below_folder(&here, &top).is_none();
     let standpoint = standpoint_in(alloc, &here, top)?;
-    tree_at(alloc, standpoint, &current, opened)
+    tree_at(alloc, standpoint, is_outside, &current, opened)
 }
 
 /// The work tree of an opened repository, of which the configuration tells files from the top, and all else from this folder.
 fn tree_at(
     alloc: Global,
     standpoint: Standpoint,
+    is_outside: bool,
     current: &[u8],
     opened: Opened<Vec<u8>, Config>,
 ) -> Result<WorkTree>
@@ -119,6 +124,7 @@ fn tree_at(
     };
     Ok(WorkTree {
         standpoint,
+        is_outside,
         folds: opened.core.ignore_case,
         quoting: quoting_of(opened.core.quote_path),
         excludes: opened.core.excludes,
