@@ -228,7 +228,8 @@ class Comparison:
         is_fault = not is_answer(expected) and not is_answer(found) and not found.output
         if expected.status == found.status and ORIGIN.sub(b"file:", expected.output) == ORIGIN.sub(b"file:", found.output):
             return True
-        return is_fault or OF_FORMAT.search(found.errors) or b"/." in self.pair.made.variables.get(b"GIT_CONFIG_SYSTEM", b"")
+        is_unentered = expected.errors.startswith(b"fatal: cannot chdir to")
+        return is_fault or is_unentered or OF_FORMAT.search(found.errors) or b"/." in self.pair.made.variables.get(b"GIT_CONFIG_SYSTEM", b"")
 
     # ---- texts of faults
 
