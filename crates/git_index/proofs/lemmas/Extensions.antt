@@ -130,9 +130,6 @@ is_shorter bytes rest fits e =
 pub rest_fits : (bytes rest : List ℕ) → IsBytes bytes → extension_at bytes ≡ Ok rest → IsBytes rest
 rest_fits bytes rest fits e = let t = extension_takes bytes rest fits e in IsBytes-behind (extension_text t.x) rest bytes t.joined fits
 
-pub none_is_passed : (bytes : List ℕ) → ArePassedOver bytes bytes
-none_is_passed bytes = ([], tt, refl)
-
 -- nothing is passed over where passing over stops
 stops_by : (xs : List (List ℕ × List ℕ)) (bytes end : List ℕ) → Ends bytes → AllByRecursion IsExtension xs → bytes ≡ flat_map extension_text xs ++ end → bytes ≡ end
 stops_by [] bytes end ends all e = e

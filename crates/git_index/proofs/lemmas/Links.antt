@@ -88,17 +88,6 @@ stop_is_link format h b bytes stop passed holds =
       first = subst (λ (w : List ℕ). ArePassedOver bytes w) holds.6 passed;
     }
 
--- no link stops where a link does, and the other way
-pub stop_is_long : (hash : ℕ) (x : List ℕ × List ℕ) (stop : List ℕ) → StopsWith hash (Some x) stop → 8 ≤ length stop
-stop_is_long hash x stop holds =
-    let text = codes "link" ++ (to_be_bytes w32 (length (x.0 ++ x.1)) ++ (x.0 ++ x.1)) in
-    omega (arith, ap length holds.6, length-append text holds.1, length-append (codes "link") (to_be_bytes w32 (length (x.0 ++ x.1)) ++ (x.0 ++ x.1)), length-append (to_be_bytes w32 (length (x.0 ++ x.1))) (x.0 ++ x.1), wide32.len (length (x.0 ++ x.1)))
-
--- too few bytes hold no link
-pub short_stop : (hash : ℕ) (link : Option (List ℕ × List ℕ)) (stop : List ℕ) → length stop < 8 → StopsWith hash link stop → None ≡ link
-short_stop hash None stop short holds = refl
-short_stop hash (Some x) stop short holds = absurd (omega (arith, short, stop_is_long hash x stop holds))
-
 pub link_read : (hash : ℕ) (x : List ℕ × List ℕ) (stop : List ℕ) (holds : StopsWith hash (Some x) stop) → link_at hash stop ≡ Ok (x, holds.1)
 link_read hash x stop holds = ap (link_at hash) holds.6 ∙ link_again x.0 x.1 holds.1 hash holds.4 holds.5
 

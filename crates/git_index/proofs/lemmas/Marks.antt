@@ -123,11 +123,6 @@ plain_done count marks i left total le so_far =
     let none : pushed count marks (low_bits (64 - i) left) ≡ Ok marks = rw k refl in
     sym so_far ∙ none
 
--- a word where plain ones are due
-pub due_is : (due word : ℕ) → 0 < due → (bits_of due word ≡ low_bits 64 word) × (due_after due word ≡ due - 1)
-due_is zero word some = absurd (omega arith)
-due_is (suc due) word some = (refl, omega arith)
-
 abbrev pub AllFalse : List Bool → Type 0
 AllFalse bits = AllByRecursion (λ bit. bit ≡ false) bits
 
