@@ -294,6 +294,19 @@ def tracked_paths(format_, index, asked, literal):
     return [*rows.told(ran.stdout.startswith(b"\0")), None]
 
 
+def folded_paths(format_, index, path):
+    """What is listed of a file of this path, and of a file in a folder of this path."""
+    config = b"[core]\nrepositoryFormatVersion=1\nignoreCase=true\n[extensions]\nobjectFormat=%s\n" % format_
+
+    def lists(name, *words):
+        with rows.repository_of([(b".git/config", config), (b".git/index", index), (name, b"")]) as top:
+            ran = subprocess.run([PROGRAM, "ls-files" if IS_GIT else "files", "-o", "-z", *words], cwd=top, env=ALONE, capture_output=True, check=True)
+        return name in ran.stdout.split(b"\0")
+
+    below = path + b"/~"
+    return [*rows.told(not lists(path)), *rows.told(lists(below, "--directory")), *rows.told(not lists(below))]
+
+
 def pathspecs(word):
     """Which end of a word is the path, by a line for each end: its file says whence it is told. Paths with `.` or `..` aren't asked."""
     if re.search(rb"[:/)]\.\.?(/|$)", word):
@@ -376,4 +389,4 @@ def exclude_names(current, words, *fields):
 
 OF_PATTERNS = (matching, git_paths, trees, trees_told, git_told, git_attributes, attribute_states, all_states, attribute_streams, attribute_names)
 OF_CONFIGURATION = (config_files, config_includes, config_sources, core_settings, config_booleans)
-rows.answer({it.__name__: it for it in (*OF_PATTERNS, *OF_CONFIGURATION, repositories, work_trees, exclude_names, tracked_paths, pathspecs)})
+rows.answer({it.__name__: it for it in (*OF_PATTERNS, *OF_CONFIGURATION, repositories, work_trees, exclude_names, tracked_paths, folded_paths, pathspecs)})

@@ -182,6 +182,11 @@ pub(crate) const FILES: [(&str, usize, Subject); 60] = [
         Subject::Repository(RepositorySubject::TrackedPaths),
     ),
     (
+        "folded_paths",
+        3,
+        Subject::Repository(RepositorySubject::FoldedPaths),
+    ),
+    (
         "config_files",
         1,
         Subject::Repository(RepositorySubject::ConfigFiles),

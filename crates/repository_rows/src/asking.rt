@@ -13,6 +13,7 @@ pub enum RepositorySubject {
     IndexFiles,
     IndexPaths,
     TrackedPaths,
+    FoldedPaths,
     ConfigFiles,
     ConfigIncludes,
     ConfigSources,
@@ -36,6 +37,7 @@ pub fn ask_repositories(
         RepositorySubject::IndexFiles => index_files::index_files(alloc, question, answer),
         RepositorySubject::IndexPaths => index_files::index_paths(alloc, question, answer),
         RepositorySubject::TrackedPaths => tracked_rows::tracked_paths(alloc, question, answer),
+        RepositorySubject::FoldedPaths => tracked_rows::folded_paths(alloc, question, answer),
         RepositorySubject::ConfigFiles => config_files::config_files(alloc, question, answer),
         RepositorySubject::ConfigIncludes => config_includes::config_includes(
             alloc, question, answer,
