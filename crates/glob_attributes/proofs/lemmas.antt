@@ -12,9 +12,11 @@ pub mod LineLemmas
 pub mod MacroLemmas
 pub mod MarkingLemmas
 pub mod MatchedLemmas
+pub mod MemoryLemmas
 pub mod NamingLemmas
 pub mod NarrowingLemmas
 pub mod OneRowLemmas
+pub mod PartLemmas
 pub mod PatternLemmas
 pub mod PlaceLemmas
 pub mod RowLemmas

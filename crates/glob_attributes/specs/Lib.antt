@@ -9,6 +9,7 @@ pub mod Macros
 pub mod Names
 pub mod Narrowing
 pub mod Patterns
+pub mod Places
 pub mod Private
 pub mod Readings
 pub mod States

@@ -2,6 +2,7 @@
 pub mod Behind
 pub mod Filling
 pub mod Firsts
+pub mod Heads
 pub mod Narrowing
 pub mod Places
 pub mod Readings

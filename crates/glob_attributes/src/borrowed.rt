@@ -3,6 +3,7 @@
 mod head;
 mod last_word;
 mod line;
+mod memory;
 mod telling;
 mod view;
 

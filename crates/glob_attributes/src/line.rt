@@ -1,6 +1,7 @@
 //! What one line of an attribute file gives.
 ghost use Rattle.std.specs.Prelude.{◌≡◌, ◌≤◌, IfOk, length, option_map, position};
 ghost use Rattle.std.specs.List.{before_first};
+ghost use Rattle.glob_attributes.specs.Places.{IsPartOf};
 ghost use Rattle.glob_attributes.specs.Private.Readings.{assignments_of, is_macro, is_zero, macro_name, macro_reading, pattern_reading, says_nothing};
 ghost use Rattle.glob_attributes.specs.Readings.{line_gives};
 ghost use Rattle.glob_attributes.specs.Views.{seen_assignments, seen_reading};
@@ -85,7 +86,8 @@ pub(crate) fn says_nothing(inner: &[u8]) -> bool
 
 /// What stands before the first byte 0.
 pub(crate) fn before_zero(bytes: &[u8]) -> &[u8]
-    ensures { result.now ≡ before_first is_zero bytes.now }
+    ensures bytes { result.now ≡ before_first is_zero bytes.now }
+    ensures place { IsPartOf result bytes.entry }
 {
     match first_zero(bytes) {
         Some(place) => &bytes[..place],
@@ -151,7 +153,8 @@ fn read_pattern(alloc: Global, head: &[u8], rest: &[u8]) -> Result<LineReading, 
 /// The name of the macro that a head defines, valid or not: behind `[attr]` and blanks, up to the next blank or byte 0.
 pub(crate) fn macro_name(head: &[u8]) -> &[u8]
     requires { 6 ≤ length head.now }
-    ensures { result.now ≡ macro_name head.now }
+    ensures bytes { result.now ≡ macro_name head.now }
+    ensures place { IsPartOf result head.entry }
 {
     split_at_blank(before_zero(after_blanks(&head[6..]))).0
 }

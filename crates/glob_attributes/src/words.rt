@@ -2,6 +2,7 @@
 ghost use Rattle.std.specs.Prelude.{◌≡◌, ◌∷◌, [], MatchOption, drop, not, position};
 ghost use Rattle.std.specs.List.{before_first, position_or_len};
 ghost use Rattle.std.specs.Iterator.{YieldsFirstRef, item_count};
+ghost use Rattle.glob_attributes.specs.Places.{IsPartOf};
 ghost use Rattle.glob_attributes.specs.Words.{after_blanks, is_blank, words_of};
 
 /// The words of a text, in order.
@@ -54,11 +55,12 @@ pub(crate) fn is_blank(b: u8) -> bool
 
 /// What follows the blanks at the front of a text.
 pub(crate) fn after_blanks(text: &[u8]) -> &[u8]
-    ensures { result.now ≡ after_blanks text.now }
+    ensures bytes { result.now ≡ after_blanks text.now }
+    ensures place { IsPartOf result text.entry }
 {
     match first_other(text) {
         Some(place) => &text[place..],
-        None => &[],
+        None => &text[text.len()..],
     }
 }
 
@@ -66,10 +68,12 @@ pub(crate) fn after_blanks(text: &[u8]) -> &[u8]
 pub(crate) fn split_at_blank(text: &[u8]) -> (&[u8], &[u8])
     ensures word { result.0.now ≡ before_first is_blank text.now }
     ensures rest { result.1.now ≡ drop (position_or_len is_blank text.now) text.now }
+    ensures word_place { IsPartOf result.0 text.entry }
+    ensures rest_place { IsPartOf result.1 text.entry }
 {
     match first_blank(text) {
-        Some(place) => text.split_at(place),
-        None => (text, &[]),
+        Some(place) => (&text[..place], &text[place..]),
+        None => (text, &text[text.len()..]),
     }
 }
 

@@ -1,13 +1,15 @@
 -- What a line gives, by what its text begins with.
-use Rattle.std.proofs.Common.{◌≡◌, ℕ, ◌<◌, ◌≤◌, Bool, true, false, cond, List, length, map, None, Some, refl, sym, ap, ◌∙◌, arith}
+use Rattle.std.proofs.Common.{◌≡◌, ℕ, ◌<◌, ◌≤◌, Bool, true, false, cond, List, length, map, Option, None, Some, refl, sym, ap, ◌∙◌, arith}
 use Rattle.std.specs.Prelude.{◌&&◌, not, codes, nat_eq, nat_le, nat_lt}
 use Rattle.std.specs.List.{before_first, list_all, starts_with}
 use Rattle.std.proofs.lemmas.Bool.{and_parts, ltb-true, le-leb, lt-leb}
 use Rattle.glob_attributes.specs.declared.line.Silence.TheVariants.{TooLong, MacroBelowTop, MacroName, AttributeName, Negative}
 use Rattle.glob_attributes.specs.Assignments.{Assigned, assignment_of}
+use Rattle.glob_attributes.specs.Borrowed.{spelled_head}
 use Rattle.glob_attributes.specs.Equations.Heads.{head_of}
 use Rattle.glob_attributes.specs.Names.{is_name}
 use Rattle.glob_attributes.specs.Readings.{Gives, a_macro, a_pattern, line_gives, nothing, silent}
+use Rattle.glob_attributes.specs.Private.Heads.{spelled}
 use Rattle.glob_attributes.specs.Private.Readings.{assigning, is_macro, is_zero, macro_name, macro_reading, pattern_reading, says_nothing}
 use Rattle.glob_attributes.specs.Words.{after_blanks, words_of}
 
@@ -103,3 +105,14 @@ module _ (is_top : Bool) (line text inner : List ℕ) (h : IsInner line text inn
 
   pub gives-pattern : (head rest : List ℕ) → says_nothing inner ≡ false → length text < 2048 → (head, rest) ≡ head_of inner → is_macro head ≡ false → pattern_reading head rest ≡ line_gives is_top line
   gives-pattern head rest says short is other = pattern_gives is_top head rest other ∙ gives-head head rest says short is
+
+-- ---- what the head of a line spells between quotes
+
+abbrev spelled_by : List ℕ → List ℕ → Option (List ℕ)
+spelled_by text inner = cond (nat_le 2048 (length text)) None (spelled inner)
+
+spelled_head-inner : (line text inner : List ℕ) → IsInner line text inner → spelled_by text inner ≡ spelled_head line
+spelled_head-inner line text inner h = ap (spelled_by text) h.inner_is ∙ ap (λ t. spelled_by t (after_blanks t)) h.text_is
+
+pub spelled-inner : (line text inner : List ℕ) → IsInner line text inner → length text < 2048 → spelled_head line ≡ spelled inner
+spelled-inner line text inner h short = sym (spelled_head-inner line text inner h) ∙ ap (λ t. cond t None (spelled inner)) (lt-leb 2048 (length text) short)

@@ -1,7 +1,7 @@
 -- The first place of a text at which a test passes.
-use Rattle.std.proofs.Common.{◌≡◌, ⊎_elim, ℕ, suc, ◌+◌, ◌<◌, ◌≤◌, Bool, true, false, cond, not, List, [], ◌∷◌, length, take, drop, None, Some, refl, sym, ap, ◌∙◌, take_all, le_refl, arith}
+use Rattle.std.proofs.Common.{◌≡◌, ⊎_elim, ℕ, suc, ◌+◌, ◌-◌, ◌<◌, ◌≤◌, Bool, true, false, cond, not, List, [], ◌∷◌, length, take, drop, None, Some, refl, sym, ap, ◌∙◌, take_all, le_refl, arith}
 use Rattle.std.specs.Prelude.{position, nat_lt, ◌||◌}
-use Rattle.std.proofs.lemmas.List.{drop_all}
+use Rattle.std.proofs.lemmas.List.{drop_all, take_rest}
 use Rattle.std.specs.List.{after_first, before_first, list_any, position_or_len, prefix_len}
 use Rattle.std.proofs.lemmas.Bool.{cases_Bool, ltb-true, ltb-false, lt-ltb, le-ltb}
 use Rattle.std.proofs.lemmas.List.Sums.{prefix_len-le-length}
@@ -12,6 +12,10 @@ shift a b =
     (λ yes. let less = ltb-true a b yes in yes ∙ sym (lt-ltb (1 + a) (suc b) (omega arith)))
     (λ no. let more = ltb-false a b no in no ∙ sym (le-ltb (1 + a) (suc b) (omega arith)))
     (cases_Bool (nat_lt a b))
+
+-- nothing stands behind the end, as a slice of it has it
+pub end_empty : (text : List ℕ) → take (length text - length text) (drop (length text) text) ≡ []
+end_empty text = take_rest text (length text) ∙ drop_all (length text) text (le_refl _)
 
 module _ (p : ℕ → Bool) where
   -- a byte that passes is the first place; another one leaves it to the bytes after it

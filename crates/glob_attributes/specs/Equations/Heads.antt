@@ -55,6 +55,10 @@ quoted_from zero (b ∷ bytes) =
     if b == quote then Some ([], bytes)
     else option_and_then (λ unit. option_map (with_front (unit.0 ∷ [])) (quoted_from unit.1 bytes)) (unit_at (b ∷ bytes))
 
+-- the head between quotes that a text begins with, and what follows it
+abbrev pub quoted_of : List ℕ → Option (List ℕ × List ℕ)
+quoted_of text = if starts_with nat_eq text (codes "\"") then quoted_from 0 (drop 1 text) else None
+
 -- the head of a text that doesn't begin with a quoted one, and what follows it
 abbrev pub bare_head : List ℕ → List ℕ × List ℕ
 bare_head text = (before_first is_blank text, drop (position_or_len is_blank text) text)

@@ -1,8 +1,10 @@
 //! What one line of an attribute file gives, as parts of the line.
-ghost use Rattle.std.specs.Prelude.{◌≡◌, ◌≤◌, IfSome, IsTrue, is_some, length, true, false};
+ghost use Rattle.std.specs.Prelude.{◌≡◌, ◌≤◌, ℕ, IfSome, List, MatchOption, false, is_some, length, true};
+ghost use Rattle.std.specs.Borrow.{Bor};
 ghost use Rattle.glob_attributes.specs.Private.Readings.{assignments_of};
 ghost use Rattle.glob_lists.specs.declared.rules.Reading.{Reading};
-ghost use Rattle.glob_attributes.specs.Borrowed.{GivesParts};
+ghost use Rattle.glob_attributes.specs.Borrowed.{GivesParts, LieIn, memory_for, place_of, spelled_head};
+ghost use Rattle.glob_attributes.specs.Places.{IsLeft, IsPartOf};
 ghost use Rattle.glob_attributes.specs.Readings.{line_gives};
 ghost use Rattle.glob_attributes.specs.Private.Readings.{macro_reading, pattern_reading};
 
@@ -32,6 +34,8 @@ pub enum LineParts<'a> {
     },
     /// The line assigns to the paths that match a pattern.
     Pattern {
+        /// What the pattern is read from.
+        bytes: &'a [u8],
         /// The pattern.
         pattern: PatternView<'a>,
         /// The words.
@@ -40,15 +44,18 @@ pub enum LineParts<'a> {
 }
 
 /// Reads a line of an attribute file, given without its ending, as [`read_line`](crate::read_line) does, and its pattern by a reading. A
-/// quoted head is decoded into `memory`; `None` where that is too short for it. As many bytes as the line has suffice.
+/// quoted head is decoded into the front of `memory`, which keeps what is behind it; `None` where that is too short for it. As many
+/// bytes as the line has suffice.
 pub fn line_parts<'a>(
     line: &'a [u8],
     is_top: bool,
     reading: Reading,
-    memory: &'a mut [u8],
+    memory: &mut &'a mut [u8],
 ) -> Option<LineParts<'a>>
     ensures read { IfSome result (GivesParts reading (line_gives is_top line.now)) }
-    ensures room { length line.now ≤ length memory.old → is_some result ≡ true }
+    ensures room { memory_for line.now ≤ length memory.old.now → is_some result ≡ true }
+    ensures left { MatchOption result (memory.new ≡ memory.old) (λ parts. IsLeft (memory_for line.now) memory.old memory.new) }
+    ensures lies { IfSome result (LieIn (place_of (spelled_head line.now) memory.old line.entry) line.entry) }
 {
     let text = before_zero(line);
     let inner = after_blanks(text);
@@ -69,7 +76,8 @@ pub fn line_parts<'a>(
 /// What the head and the rest of a line give that defines a macro.
 fn macro_parts<'a>(head: &'a [u8], words: &'a [u8], is_top: bool) -> LineParts<'a>
     requires { 6 ≤ length head.now }
-    ensures { (reading : Reading) → GivesParts reading (macro_reading is_top head.now words.now) result }
+    ensures gives { (reading : Reading) → GivesParts reading (macro_reading is_top head.now words.now) result }
+    ensures lies { (bytes line : Bor (List ℕ)) → IsPartOf head.entry bytes → IsPartOf words.entry line → LieIn bytes line result }
 {
     if !is_top {
         return LineParts::Silent(Silence::MacroBelowTop);
@@ -86,7 +94,8 @@ fn macro_parts<'a>(head: &'a [u8], words: &'a [u8], is_top: bool) -> LineParts<'
 
 /// What the head and the rest of a line give that has a pattern.
 fn pattern_parts<'a>(head: &'a [u8], words: &'a [u8], reading: Reading) -> LineParts<'a>
-    ensures { GivesParts reading (pattern_reading head.now words.now) result }
+    ensures gives { GivesParts reading (pattern_reading head.now words.now) result }
+    ensures lies { (bytes line : Bor (List ℕ)) → IsPartOf head.entry bytes → IsPartOf words.entry line → LieIn bytes line result }
 {
     if !has_names(words) {
         return LineParts::Silent(Silence::AttributeName);
@@ -94,8 +103,10 @@ fn pattern_parts<'a>(head: &'a [u8], words: &'a [u8], reading: Reading) -> LineP
     if head.starts_with(b"!") {
         return LineParts::Silent(Silence::Negative);
     }
+    let bytes = before_zero(head);
     LineParts::Pattern {
-        pattern: view_as(before_zero(head), reading),
+        bytes,
+        pattern: view_as(bytes, reading),
         words,
     }
 }

@@ -10,13 +10,13 @@ use Rattle.glob_attributes.proofs.line.read_line.Goals as goal
 pub returns-then-says_nothing : goal.returns-then-says_nothing
 returns-then-says_nothing c =
     gives-nothing c.args.is_top c.args.line.now c.before_zero-text.result.now c.after_blanks-inner.result.now
-    (record { text_is = c.before_zero-text.ensures; inner_is = c.after_blanks-inner.ensures })
+    (record { text_is = c.before_zero-text.ensures.bytes; inner_is = c.after_blanks-inner.ensures.bytes })
     (sym c.says_nothing.ensures ∙ c.if-says_nothing.true)
 
 pub returns-then-text-ge-LINE_LIMIT : goal.returns-then-text-ge-LINE_LIMIT
 returns-then-text-ge-LINE_LIMIT c =
     gives-too_long c.args.is_top c.args.line.now c.before_zero-text.result.now c.after_blanks-inner.result.now
-    (record { text_is = c.before_zero-text.ensures; inner_is = c.after_blanks-inner.ensures })
+    (record { text_is = c.before_zero-text.ensures.bytes; inner_is = c.after_blanks-inner.ensures.bytes })
     (sym c.says_nothing.ensures ∙ c.if-says_nothing.false) c.if-text-ge-LINE_LIMIT.true
 
 pub read_macro-requires : goal.read_macro-requires
@@ -31,7 +31,7 @@ returns-then-is_macro c =
     let same : head ≡ c.deref.result.now = c.deref-then-is_macro.ensures.value ∙ sym c.deref.ensures.value in
     subst (λ (g : Gives). IfOk c.read_macro.result (λ reading. seen_reading reading ≡ g))
     (gives-macro c.args.is_top c.args.line.now c.before_zero-text.result.now c.after_blanks-inner.result.now
-    (record { text_is = c.before_zero-text.ensures; inner_is = c.after_blanks-inner.ensures }) head rest
+    (record { text_is = c.before_zero-text.ensures.bytes; inner_is = c.after_blanks-inner.ensures.bytes }) head rest
     (sym c.says_nothing.ensures ∙ c.if-says_nothing.false) c.if-text-ge-LINE_LIMIT.false
     (ap (λ l. (l, rest)) c.deref-then-is_macro.ensures.value ∙ c.in_ok-head.ensures)
     (ap is_macro same ∙ sym c.is_macro.ensures ∙ c.if-is_macro.true))
@@ -44,7 +44,7 @@ returns c =
     let same : head ≡ c.deref.result.now = c.deref-else-is_macro.ensures.value ∙ sym c.deref.ensures.value in
     subst (λ (g : Gives). IfOk c.read_pattern.result (λ reading. seen_reading reading ≡ g))
     (gives-pattern c.args.is_top c.args.line.now c.before_zero-text.result.now c.after_blanks-inner.result.now
-    (record { text_is = c.before_zero-text.ensures; inner_is = c.after_blanks-inner.ensures }) head rest
+    (record { text_is = c.before_zero-text.ensures.bytes; inner_is = c.after_blanks-inner.ensures.bytes }) head rest
     (sym c.says_nothing.ensures ∙ c.if-says_nothing.false) c.if-text-ge-LINE_LIMIT.false
     (ap (λ l. (l, rest)) c.deref-else-is_macro.ensures.value ∙ c.in_ok-head.ensures)
     (ap is_macro same ∙ sym c.is_macro.ensures ∙ c.if-is_macro.false))

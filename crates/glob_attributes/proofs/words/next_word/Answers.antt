@@ -9,13 +9,13 @@ pub returns-then-is_empty : goal.returns-then-is_empty
 returns-then-is_empty c =
     let text = c.args.text.now in
     let rest = c.after_blanks-rest.result.now in
-    sym (words_of-after_blanks text) ∙ ap words_of (sym c.after_blanks-rest.ensures) ∙ words_of-none rest (eqb-true _ _ (sym c.is_empty.ensures ∙ c.if-is_empty.true))
+    sym (words_of-after_blanks text) ∙ ap words_of (sym c.after_blanks-rest.ensures.bytes) ∙ words_of-none rest (eqb-true _ _ (sym c.is_empty.ensures ∙ c.if-is_empty.true))
 
 pub returns : goal.returns
 returns c =
     let text = c.args.text.now in
     let rest = c.after_blanks-rest.result.now in
-    let is : rest ≡ after_blanks text = c.after_blanks-rest.ensures in
+    let is : rest ≡ after_blanks text = c.after_blanks-rest.ensures.bytes in
     let some : 0 < length rest = let other = eqb-false _ _ (sym c.is_empty.ensures ∙ c.if-is_empty.false) in omega (arith, other) in
     let begins : BeginsWithByte rest = subst BeginsWithByte (sym is) (after_blanks-first text (subst (λ t. 0 < length t) is some)) in
     sym (words_of-after_blanks text) ∙ ap words_of (sym is) ∙ words_of-first rest begins
