@@ -10,6 +10,7 @@ pub mod AttributePuts
 pub mod AttributeRuns
 pub mod AttributeSteps
 pub mod AttributeTexts
+pub mod AttributeTold
 pub mod AttributeWalks
 pub mod BeginLemmas
 pub mod EntryLemmas

@@ -1,14 +1,19 @@
 //! What answers each told path by the states of its attributes.
-ghost use Rattle.std.specs.Prelude.{◌≡◌, ◌≢◌, ◌++◌, ℕ, List, [], Some, IfOk, OnOk, false, map};
+ghost use Rattle.std.specs.Prelude.{◌≡◌, ◌≢◌, ◌++◌, ℕ, List, [], Some, IfOk, IsTrue, OnOk, false, map};
 ghost use Rattle.std.specs.Io.{StartsWith};
+ghost use Rattle.std.specs.List.{list_any};
 ghost use Rattle.std.specs.Vec.{vec_items};
 ghost use Rattle.glob_attributes.specs.Views.{assignment_with};
 ghost use Rattle.glob_attributes.specs.States.{state_in};
 ghost use Rattle.glob_lists.specs.Paths.{IsPlainPath};
 ghost use Rattle.record_streams.specs.Records.{Adds};
+ghost use Rattle.told_paths.specs.declared.quoting.Quoting.TheVariants.{Full};
 ghost use Rattle.told_paths.specs.Paths.{names_folder, parts_of};
+ghost use Rattle.told_paths.specs.Quoting.{is_unusual};
 ghost use Rattle.told_paths.specs.Standpoints.{led};
 ghost use Rattle.tree_answers.specs.Attributes.{label_text};
+ghost use Rattle.tree_answers.specs.Lines.{name_text};
+ghost use Rattle.tree_answers.specs.Records.{LeadsAsTold};
 ghost use Rattle.tree_commands.specs.CheckAttr.{or_dot, states_text, told_states};
 ghost use Rattle.tree_commands.specs.Private.AttributeWays.{HasGoneTo, HasRead, asked_by};
 ghost use Rattle.tree_commands.specs.Private.AttributeAnswers.{IsReady, labels_of, shown_text, unspecified_text};
@@ -55,9 +60,9 @@ impl<'q, 'm, S: AttributeFolders, Q: Question> PathAnswerer for AttributeAnswere
         &mut self,
         text: &mut Vec<u8>,
         told: &[u8],
-        _is_usual: bool,
+        is_usual: bool,
     ) -> Result<(), AttributeFault<S::Fault>> {
-        self.asker.answer_path(text, told)
+        self.asker.answer_path(text, told, is_usual)
     }
 }
 
@@ -90,7 +95,7 @@ pub(crate) struct AttributeAsker<'q, 'm, S, Q> {
 }
 
 impl<'q, 'm, S: AttributeFolders, Q: Question> AttributeAsker<'q, 'm, S, Q> {
-    /// Appends what is written about a told path.
+    /// Appends what is written about a told path. Usual names that are told from the top are the path itself.
     ///
     /// # Errors
     /// Where the path leads nowhere, the source fails, or memory was refused.
@@ -98,8 +103,12 @@ impl<'q, 'm, S: AttributeFolders, Q: Question> AttributeAsker<'q, 'm, S, Q> {
         &mut self,
         text: &mut Vec<u8>,
         told: &[u8],
+        is_usual: bool,
     ) -> Result<(), AttributeFault<S::Fault>>
         requires ready { IsReady Q.files Q.asked Q.case Q.shows Q.allows S.shows self.old }
+        requires plain { IsTrue is_usual → IsPlainPath told.now }
+        requires usual { IsTrue is_usual → list_any (is_unusual Full) told.now ≡ false }
+        requires leads { IsTrue is_usual → LeadsAsTold told.now }
         ensures ready { IsReady Q.files Q.asked Q.case Q.shows Q.allows S.shows self.new }
         ensures written { OnOk result (Adds (Q.allows told.now) text.old.items text.new.items) }
         ensures kept { StartsWith text.new.items text.old.items }
@@ -107,6 +116,54 @@ impl<'q, 'm, S: AttributeFolders, Q: Question> AttributeAsker<'q, 'm, S, Q> {
         if self.is_spent {
             return Err(AttributeFault::Spent);
         }
+        if is_usual && self.standpoint.is_at_top() {
+            return self.answer_usual(text, told);
+        }
+        self.answer_led(text, told)
+    }
+
+    /// Appends what is written about a path that is told by usual names, and leads where it is told.
+    ///
+    /// # Errors
+    /// Where the source fails, or memory was refused.
+    fn answer_usual(
+        &mut self,
+        text: &mut Vec<u8>,
+        told: &[u8],
+    ) -> Result<(), AttributeFault<S::Fault>>
+        requires ready { IsReady Q.files Q.asked Q.case Q.shows Q.allows S.shows self.old }
+        requires unspent { self.old.is_spent ≡ false }
+        requires plain { IsPlainPath told.now }
+        requires usual { list_any (is_unusual Full) told.now ≡ false }
+        requires leads { led self.old.standpoint.now (or_dot told.now) ≡ Some told.now }
+        requires file { names_folder false (parts_of (or_dot told.now)) ≡ false }
+        ensures ready { IsReady Q.files Q.asked Q.case Q.shows Q.allows S.shows self.new }
+        ensures written { OnOk result (Adds (Q.allows told.now) text.old.items text.new.items) }
+        ensures kept { StartsWith text.new.items text.old.items }
+    {
+        self.path.clear();
+        self.path.extend_from_slice(told)?;
+        self.go()?;
+        self.append_assigned(text, told, true, false)?;
+        Ok(())
+    }
+
+    /// Appends what is written about a told path that has to be led to.
+    ///
+    /// # Errors
+    /// Where the path leads nowhere, the source fails, or memory was refused.
+    #[inline(never)]
+    fn answer_led(
+        &mut self,
+        text: &mut Vec<u8>,
+        told: &[u8],
+    ) -> Result<(), AttributeFault<S::Fault>>
+        requires ready { IsReady Q.files Q.asked Q.case Q.shows Q.allows S.shows self.old }
+        requires unspent { self.old.is_spent ≡ false }
+        ensures ready { IsReady Q.files Q.asked Q.case Q.shows Q.allows S.shows self.new }
+        ensures written { OnOk result (Adds (Q.allows told.now) text.old.items text.new.items) }
+        ensures kept { StartsWith text.new.items text.old.items }
+    {
         let is_folder = self.lead(told)?;
         if self.path.is_empty() {
             self.append_for_top(text, told)?;
@@ -117,7 +174,7 @@ impl<'q, 'm, S: AttributeFolders, Q: Question> AttributeAsker<'q, 'm, S, Q> {
             return Ok(());
         }
         self.go()?;
-        self.append_assigned(text, told, is_folder)?;
+        self.append_assigned(text, told, false, is_folder)?;
         Ok(())
     }
 
@@ -166,6 +223,7 @@ impl<'q, 'm, S: AttributeFolders, Q: Question> AttributeAsker<'q, 'm, S, Q> {
         &self,
         text: &mut Vec<u8>,
         told: &[u8],
+        is_usual: bool,
         is_folder: bool,
     ) -> Result<(), AllocError>
         requires ready { IsReady Q.files Q.asked Q.case Q.shows Q.allows S.shows self.now }
@@ -173,6 +231,7 @@ impl<'q, 'm, S: AttributeFolders, Q: Question> AttributeAsker<'q, 'm, S, Q> {
         requires gone { HasGoneTo Q.files Q.asked Q.shows S.shows self.now.walk self.now.path.items }
         requires leads { led self.now.standpoint.now (or_dot told.now) ≡ Some self.now.path.items }
         requires folder { is_folder ≡ names_folder false (parts_of (or_dot told.now)) }
+        requires usual { IsTrue is_usual → list_any (is_unusual Full) told.now ≡ false }
         ensures written { OnOk result (Adds (Q.allows told.now) text.old.items text.new.items) }
         ensures kept { StartsWith text.new.items text.old.items }
     {
@@ -184,7 +243,7 @@ impl<'q, 'm, S: AttributeFolders, Q: Question> AttributeAsker<'q, 'm, S, Q> {
             self.walk.macros,
             &path,
         )?;
-        self.append_states(text, told, &assigned)
+        self.append_states(text, told, is_usual, &assigned)
     }
 
     /// Appends the states of the attributes of the top.
@@ -202,7 +261,7 @@ impl<'q, 'm, S: AttributeFolders, Q: Question> AttributeAsker<'q, 'm, S, Q> {
         let top = RepositoryPath::top();
         let rules = self.index.rules();
         let assigned = PathAttributes::new(self.alloc, &self.top, self.walk.macros, &top, rules)?;
-        self.append_states(text, told, &assigned)
+        self.append_states(text, told, false, &assigned)
     }
 
     /// Appends the states that are asked for.
@@ -213,15 +272,17 @@ impl<'q, 'm, S: AttributeFolders, Q: Question> AttributeAsker<'q, 'm, S, Q> {
         &self,
         text: &mut Vec<u8>,
         told: &[u8],
+        is_usual: bool,
         assigned: &PathAttributes<'_>,
     ) -> Result<(), AllocError>
-        requires { map vec_items self.now.labels.items ≡ labels_of self.now.form (asked_by self.now.walk.asking) }
+        requires labels { map vec_items self.now.labels.items ≡ labels_of self.now.form (asked_by self.now.walk.asking) }
+        requires usual { IsTrue is_usual → list_any (is_unusual Full) told.now ≡ false }
         ensures written { OnOk result ((names : List (List ℕ)) → HasRead self.now.walk.asking names →
             text.new.items ≡ text.old.items ++ states_text self.now.form told.now (told_states (asked_by self.now.walk.asking) names assigned.now)) }
         ensures kept { StartsWith text.new.items text.old.items }
     {
         let mut quoted = Vec::new(self.alloc);
-        let shown = path_text(&mut quoted, told, self.form)?;
+        let shown = shown_path(&mut quoted, told, is_usual, self.form)?;
         match &self.walk.asking {
             Asking::Names(names) => {
                 append_named(text, shown, names, &self.labels, assigned, self.form)
@@ -249,6 +310,25 @@ impl<'q, 'm, S: AttributeFolders, Q: Question> AttributeAsker<'q, 'm, S, Q> {
         let shown = path_text(&mut quoted, told, self.form)?;
         append_unspecified(text, shown, &self.labels, self.form)
     }
+}
+
+/// A path as it stands before each of its attributes. Usual names stand as they are told.
+///
+/// # Errors
+/// Only where memory was refused.
+fn shown_path<'t>(
+    quoted: &'t mut Vec<u8>,
+    told: &'t [u8],
+    is_usual: bool,
+    form: Form,
+) -> Result<&'t [u8], AllocError>
+    requires { IsTrue is_usual → list_any (is_unusual Full) told.now ≡ false }
+    ensures { IfOk result (λ text. text.now ≡ name_text form told.entry.now) }
+{
+    if is_usual {
+        return Ok(told);
+    }
+    path_text(quoted, told, form)
 }
 
 /// What is told, or a dot where it has no bytes: these lead nowhere else.

@@ -13,7 +13,7 @@ use Rattle.tree_commands.proofs.check_attr.answering.AttributeAsker.append_state
 pub append_named-requires : goal.append_named-requires
 append_named-requires g c =
     let form = c.args.self.now.form in
-    ap (map vec_items) c.deref.ensures.value ∙ c.requires ∙ ap (λ a. labels_of form (asked_by a)) c.in-Names.is
+    ap (map vec_items) c.deref.ensures.value ∙ c.requires.labels ∙ ap (λ a. labels_of form (asked_by a)) c.in-Names.is
     ∙ map_twice (label_text form) (λ (name : Bor (List ℕ)). name.now) c.in-Names.names.now
 
 pub returns-in-Names-clause-written : goal.returns-in-Names-clause-written
