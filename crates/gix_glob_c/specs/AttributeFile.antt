@@ -1,6 +1,6 @@
 -- What a call takes off an attribute file.
 use Rattle.std.specs.Prelude.{◌≡◌, ℕ, ◌≤◌, Bool, ◌&&◌, ◌==◌, nat_le, List, length}
-use Rattle.std.specs.Borrow.{MutBor}
+use Rattle.std.specs.Borrow.{Bor, MutBor}
 use Rattle.glob_lines.specs.Ignore.{EndsIgnoreLine}
 use Rattle.glob_lines.specs.Lines.{CutsLine}
 use Rattle.glob_lists.specs.declared.rules.Reading.{Reading}
@@ -64,11 +64,15 @@ pub record TakesAttributes (reading : Reading) (is_top : Bool) (bytes rest : Lis
   pub cut : CutsLine EndsIgnoreLine bytes line rest
   pub reads : ReadsAttributes reading (line_gives is_top line) old new old_macro new_macro number
 
--- A line was taken off the lines: how much of the memory is left, and where its texts lie. The pattern's text and the macro's name are
--- parts of the head. A quoted head lies where the memory began, and any other in the lines, as the words do.
+-- The pattern's text and the macro's name are parts of the head, and the words a part of the lines.
+pub record TextsLie (head lines : Bor (List ℕ)) (out : GlobAttributeLine) (definition : TextMacro) (number : ℕ) : Type 0 where
+  pub pattern_lies : number ≡ 2 → IsPartOf out.pattern.text head × IsPartOf out.words lines
+  pub macro_lies : number ≡ 3 → IsPartOf definition.name head × IsPartOf definition.words lines
+
+-- A line was taken off the lines: how much of the memory is left, and where its texts lie. A head in quotes lies where the memory began,
+-- and any other in the lines.
 pub record LiesInMemory (lines : GlobLines) (rest : List ℕ) (old new : MutBor (List ℕ)) (out : GlobAttributeLine) (definition : TextMacro) (number : ℕ) : Type 0 where
   pub line : List ℕ
   pub cut : CutsLine EndsIgnoreLine (unread_of lines) line rest
   pub left : IsLeft (memory_for line) old new
-  pub pattern_lies : number ≡ 2 → IsPartOf out.pattern.text (place_of (spelled_head line) old lines.rest) × IsPartOf out.words lines.rest
-  pub macro_lies : number ≡ 3 → IsPartOf definition.name (place_of (spelled_head line) old lines.rest) × IsPartOf definition.words lines.rest
+  pub texts : TextsLie (place_of (spelled_head line) old lines.rest) lines.rest out definition number

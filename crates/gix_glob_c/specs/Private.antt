@@ -1,4 +1,3 @@
 -- Words that only private clauses cite: what the functions of the crate say to one another.
 pub mod Finding
-pub mod Memory
 pub mod Parts

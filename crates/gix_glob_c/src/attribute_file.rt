@@ -5,9 +5,8 @@ ghost use Rattle.glob_lines.specs.Memory.{end_of};
 ghost use Rattle.glob_lists.specs.declared.rules.Reading.TheVariants.{Crate, Git};
 ghost use Rattle.glob_attributes.specs.Borrowed.{GivesParts, LieIn};
 ghost use Rattle.glob_attributes.specs.Readings.{Gives};
-ghost use Rattle.gix_glob_c.specs.AttributeFile.{IsTaken, LiesInMemory, ReadsAttributes, TakesAttributes, is_too_large, number_of};
+ghost use Rattle.gix_glob_c.specs.AttributeFile.{IsTaken, LiesInMemory, ReadsAttributes, TakesAttributes, TextsLie, is_too_large, number_of};
 ghost use Rattle.gix_glob_c.specs.IgnoreFile.{unread_of};
-ghost use Rattle.gix_glob_c.specs.Private.Memory.{TextsLie};
 
 use crate::ignore_file::{END, GlobLines, NOTHING, PATTERN, unread};
 use crate::parsed::{GlobPattern, part_of, parts_of};

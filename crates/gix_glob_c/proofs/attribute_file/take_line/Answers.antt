@@ -69,8 +69,7 @@ returns-clause-memory c = λ taken.
       cut = subst (λ (b : List ℕ). CutsLine EndsIgnoreLine b line.now c.in-Some.rest.now) c.unread-bytes.ensures.bytes
           (subst (λ (l : List ℕ). CutsLine EndsIgnoreLine bytes.now l c.in-Some.rest.now) (sym c.front_part-line.ensures.bytes) c.in-Some.ensures.line);
       left = c.in-Some-line_parts.ensures.left;
-      pattern_lies = lies.pattern_lies;
-      macro_lies = lies.macro_lies;
+      texts = lies;
     }
 
 pub returns-clause-unmoved : goal.returns-clause-unmoved
