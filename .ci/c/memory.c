@@ -9,6 +9,7 @@ static void nothing_may_be_null(void)
     struct gix_glob_state state = GIX_GLOB_STATE_INIT;
     struct gix_glob_attribute_line line = GIX_GLOB_ATTRIBUTE_LINE_INIT;
     struct gix_glob_macro macro = GIX_GLOB_MACRO_INIT;
+    struct gix_glob_memory no_memory = gix_glob_memory_of(NULL, 0);
     const struct gix_glob_text none = gix_glob_text_of(NULL, 0);
     const struct gix_glob_path path = {OF("a"), false};
     struct gix_glob_list list = gix_glob_list_of(NULL, 0, none);
@@ -21,7 +22,7 @@ static void nothing_may_be_null(void)
     check(!gix_glob_matches_path(none, none, false, false), "no line, and no path", 0);
     check(gix_glob_parse_ignore_line(&lines, &pattern) == GIX_GLOB_LINE_END, "no file", 0);
     check(gix_glob_parse_ignore_line_as_git(&lines, &pattern) == GIX_GLOB_LINE_END, "no file", 1);
-    check(gix_glob_parse_attribute_line(&lines, gix_glob_memory_of(NULL, 0), &line, &macro, true) == GIX_GLOB_LINE_END, "no file", 2);
+    check(gix_glob_parse_attribute_line(&lines, &no_memory, &line, &macro, true) == GIX_GLOB_LINE_END, "no file", 2);
     check(gix_glob_last_match(&list, OF("a"), false, false) == GIX_GLOB_NONE, "no pattern", 0);
     check(gix_glob_prepare_list(&list, block, sizeof block), "no pattern is prepared", 0);
     check(gix_glob_last_match(&list, OF("a"), false, false) == GIX_GLOB_NONE, "no pattern", 1);

@@ -60,14 +60,13 @@ static void load(const char *file)
         most += bytes[i] == '\n';
     struct gix_glob_attribute_line *lines = (struct gix_glob_attribute_line *)cleared(most, sizeof *lines);
     struct gix_glob_macro *macros = (struct gix_glob_macro *)cleared(most + 1, sizeof *macros);
-    uint8_t *heads = (uint8_t *)cleared(len + 1, 1); /* what is quoted in the file is decoded at the same place of these */
+    struct gix_glob_memory heads = gix_glob_memory_of(cleared(len + 1, 1), len); /* for what is quoted in the file */
     struct gix_glob_lines left = gix_glob_lines_of(bytes, len);
     macros[0] = binary;
     for (;;) {
         lines[count] = no_line;
         macros[macro_count] = no_macro;
-        const struct gix_glob_memory memory = gix_glob_memory_of(heads + (len - left.rest.len), left.rest.len);
-        const enum gix_glob_line kind = gix_glob_parse_attribute_line(&left, memory, &lines[count], &macros[macro_count], true);
+        const enum gix_glob_line kind = gix_glob_parse_attribute_line(&left, &heads, &lines[count], &macros[macro_count], true);
         if (kind == GIX_GLOB_LINE_END)
             break;
         if (kind == GIX_GLOB_LINE_FILE_TOO_LARGE) {

@@ -387,7 +387,7 @@ struct gix_glob_macro {
 #define GIX_GLOB_MACRO_INIT { GIX_GLOB_TEXT(), GIX_GLOB_TEXT() }
 #define GIX_GLOB_MACRO_BINARY { GIX_GLOB_TEXT("binary"), GIX_GLOB_TEXT("-diff -merge -text") }
 
-/* Memory for heads of lines. */
+/* Memory for heads of lines: what is left of it. */
 struct gix_glob_memory {
     uint8_t *bytes;
     size_t len;
@@ -403,19 +403,19 @@ static inline struct gix_glob_memory gix_glob_memory_of(void *bytes, size_t len)
 
 /* Takes the next line off an attribute file and reads it by the rules of those files.
  *   lines   the lines that are left, by gix_glob_lines_of
- *   memory  for the head of the line, where it is quoted: the head is decoded into its front, and bytes past as many as the line has stay
- *           as they were. So many bytes as are left suffice: gix_glob_memory_of(heads + (len - lines.rest.len), lines.rest.len) of
- *           `heads` that has as many bytes as the file, `len`, serves each line in turn
+ *   memory  for the head of the line, where it is quoted: the head is decoded into its front and taken off it, and no byte behind is
+ *           written; any other line leaves it as it was. As many bytes as the file has suffice for all its lines, one after the other
  *   line    receives what a line with a pattern gives; any other line leaves it as it was
  *   macro   receives what a line with a macro gives; any other line leaves it as it was
  *   is_top  whether the file may define macros: it isn't that of a folder below the top
- * Answers what the line gives. At NO_MEMORY `lines` stay as they were, too. */
-GIX_GLOB_TELLS enum gix_glob_line gix_glob_parse_attribute_line(struct gix_glob_lines *lines, struct gix_glob_memory memory,
+ * A pattern's text and a macro's name lie where the memory began, if the head is quoted, and else in the file, as the words do.
+ * Answers what the line gives. At NO_MEMORY all stays as it was. */
+GIX_GLOB_TELLS enum gix_glob_line gix_glob_parse_attribute_line(struct gix_glob_lines *lines, struct gix_glob_memory *memory,
                                                                 struct gix_glob_attribute_line *line, struct gix_glob_macro *macro,
                                                                 bool is_top);
 
 /* The same, with the pattern as Git reads it. */
-GIX_GLOB_TELLS enum gix_glob_line gix_glob_parse_attribute_line_as_git(struct gix_glob_lines *lines, struct gix_glob_memory memory,
+GIX_GLOB_TELLS enum gix_glob_line gix_glob_parse_attribute_line_as_git(struct gix_glob_lines *lines, struct gix_glob_memory *memory,
                                                                        struct gix_glob_attribute_line *line, struct gix_glob_macro *macro,
                                                                        bool is_top);
 

@@ -95,7 +95,7 @@ pub extern "C" fn gix_glob_parse_as_git<'a>(line: &'a [u8], out: &mut GlobPatter
 }
 
 /// A pattern that was read of a line, with the text where it lies in the line.
-fn part_of<'a>(line: &'a [u8], view: PatternView<'_>) -> PatternView<'a>
+pub(crate) fn part_of<'a>(line: &'a [u8], view: PatternView<'_>) -> PatternView<'a>
     requires { HasBefore line.now view.text.now (length (slash_if (is_for_directories view.mode))) }
     ensures text { result.text.now ≡ view.entry.text.now }
     ensures mode { result.mode ≡ view.entry.mode }

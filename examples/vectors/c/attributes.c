@@ -28,18 +28,19 @@ static struct reader reader_of(const struct field *bytes, bool is_top)
 }
 
 /* Reads a line. The heads that are quoted are kept as long as the row is asked. */
-static bool read_line(struct reader *reader, struct text *heads)
+static bool read_line(struct reader *reader, struct gix_glob_memory *heads)
 {
-    const size_t left = reader->left.rest.len;
-    lacks_room |= left > sizeof heads->bytes - heads->len;
-    if (lacks_room)
-        return false;
     reader->kind = (reads_as_git ? gix_glob_parse_attribute_line_as_git : gix_glob_parse_attribute_line)(
-        &reader->left, gix_glob_memory_of(heads->bytes + heads->len, left), &reader->line, &reader->macro, reader->is_top);
-    if (reader->kind == GIX_GLOB_LINE_END || reader->kind == GIX_GLOB_LINE_FILE_TOO_LARGE)
-        return false;
-    heads->len += left - reader->left.rest.len;
-    return true;
+        &reader->left, heads, &reader->line, &reader->macro, reader->is_top);
+    lacks_room |= reader->kind == GIX_GLOB_LINE_NO_MEMORY;
+    return !lacks_room && reader->kind != GIX_GLOB_LINE_END && reader->kind != GIX_GLOB_LINE_FILE_TOO_LARGE;
+}
+
+/* Memory for the heads of files whose lines are asked about one after the other. */
+static struct gix_glob_memory memory_for_heads(void)
+{
+    static uint8_t bytes[MOST_BYTES];
+    return gix_glob_memory_of(bytes, sizeof bytes);
 }
 
 /* What files say, from the weakest to the strongest. */
@@ -48,14 +49,16 @@ struct sources {
     struct gix_glob_attribute_list lists[MOST_LISTS];
     struct gix_glob_macro macros[MOST_MACROS];
     size_t line_count, list_count, macro_count;
-    struct text heads;
+    uint8_t head_bytes[MOST_BYTES];
+    struct gix_glob_memory heads;
 };
 
 static struct sources sources;
 
 static void clear_sources(void)
 {
-    sources.line_count = sources.list_count = sources.heads.len = 0;
+    sources.line_count = sources.list_count = 0;
+    sources.heads = gix_glob_memory_of(sources.head_bytes, sizeof sources.head_bytes);
     sources.macros[0] = (struct gix_glob_macro)GIX_GLOB_MACRO_BINARY;
     sources.macro_count = 1;
 }
@@ -175,8 +178,9 @@ static void add_line(struct text *text, const struct reader *reader, const char 
 /* What one line gives. A line of nothing stands before it, since a file's first line may have a byte order mark. */
 static void one_line(const struct field *fields, struct text *text)
 {
-    static struct text file, heads;
-    file.len = heads.len = 0;
+    static struct text file;
+    struct gix_glob_memory heads = memory_for_heads();
+    file.len = 0;
     add_word(&file, "\n");
     add(&file, fields[1].bytes, fields[1].len);
     struct reader reader = reader_of(&(struct field){file.bytes, file.len, false}, is(&fields[0], "top"));
@@ -187,9 +191,9 @@ static void one_line(const struct field *fields, struct text *text)
 /* What the lines of a file give that are of one kind, or of all that say nothing where `kind` is GIX_GLOB_LINE_TOO_LONG. */
 static void lines_of_kind(const struct field *bytes, bool is_top, enum gix_glob_line kind, struct text *text)
 {
-    static struct text heads;
+    struct gix_glob_memory heads = memory_for_heads();
     struct reader reader = reader_of(bytes, is_top);
-    for (heads.len = 0; read_line(&reader, &heads);) {
+    while (read_line(&reader, &heads)) {
         if (kind == GIX_GLOB_LINE_TOO_LONG ? reader.kind < kind : reader.kind != kind)
             continue;
         if (kind != GIX_GLOB_LINE_MACRO) {
@@ -204,10 +208,10 @@ static void lines_of_kind(const struct field *bytes, bool is_top, enum gix_glob_
 /* What the lines that match a path assign. */
 static void matched_lines(const struct field *fields, struct text *text)
 {
-    static struct text heads;
+    struct gix_glob_memory heads = memory_for_heads();
     struct reader reader = reader_of(&fields[0], true);
     const struct gix_glob_path path = path_of(&fields[1]);
-    for (heads.len = 0; read_line(&reader, &heads);)
+    while (read_line(&reader, &heads))
         if (reader.kind == GIX_GLOB_LINE_PATTERN &&
             gix_glob_pattern_matches_path(&reader.line.pattern, path.text, path.is_dir, false))
             add_words(text, reader.line.words);

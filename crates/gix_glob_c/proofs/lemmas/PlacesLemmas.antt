@@ -1,6 +1,6 @@
 -- Where texts stand in others.
-use Rattle.std.proofs.Common.{◌≡◌, ⊎_elim, ℕ, ◌+◌, ◌-◌, ◌≤◌, Bool, true, false, cond, List, [], ◌∷◌, ◌++◌, length, drop, ap, sym, refl, subst, ◌∙◌, append_assoc, take-append-drop, arith, Option, None, Some, nat_eq}
-use Rattle.std.specs.Borrow.{Bor}
+use Rattle.std.proofs.Common.{◌≡◌, ⊎_elim, ℕ, ◌+◌, ◌-◌, ◌≤◌, Bool, true, false, cond, List, [], ◌∷◌, ◌++◌, length, drop, ap, sym, refl, subst, ◌∙◌, append_assoc, append-nil, bit_and, take-append-drop, arith, Option, None, Some, nat_eq}
+use Rattle.std.specs.Borrow.{Bor, MutBor}
 use Rattle.std.specs.List.{concat, position_or_len}
 use Rattle.std.proofs.lemmas.List.Folds.{concat-append}
 use Rattle.glob_patterns.specs.declared.mode.Mode.{Mode}
@@ -18,12 +18,19 @@ use Rattle.std.proofs.lemmas.Bool.{cases_Bool}
 use Rattle.std.proofs.lemmas.List.{length-drop}
 use Rattle.std.proofs.lemmas.Option.{none-some, same_Some}
 use Rattle.gix_glob.specs.Bytes.{backslash}
+use Rattle.glob_attributes.specs.declared.borrowed.line.LineParts.{LineParts}
+use Rattle.glob_attributes.specs.declared.borrowed.line.LineParts.TheVariants as parts
+use Rattle.glob_attributes.specs.Borrowed.{LieIn, place_of}
+use Rattle.glob_attributes.specs.Patterns.{IsPatternAs}
+use Rattle.glob_attributes.proofs.lemmas.PartLemmas.{part_of_part, part_of_place}
+use Rattle.glob_lists.specs.declared.rules.Reading.{Reading}
+use Rattle.glob_lists.specs.declared.rules.Reading.TheVariants.{Crate, Git}
 use Rattle.gix_glob_c.specs.Places.{IsPartOf}
 use Rattle.gix_glob_c.specs.Private.Parts.{BeginsSo, HasBefore}
 
 -- a line has the text of its pattern before a slash, or at its end
-pub read_before : (line text : List ℕ) (mode : Mode) (place : Option ℕ) → Reads line true text mode place → HasBefore line text (length (slash_if (is_for_directories mode)))
-read_before line text mode place r = record {
+pub read_before : (line text : List ℕ) (may_negate : Bool) (mode : Mode) (place : Option ℕ) → Reads line may_negate text mode place → HasBefore line text (length (slash_if (is_for_directories mode)))
+read_before line text may_negate mode place r = record {
   before = r.sign ++ r.lead;
   behind = r.tail;
   joined = r.joined ∙ sym (append_assoc r.sign r.lead (text ++ r.tail));
@@ -37,6 +44,20 @@ git_read_before line text mode place r = record {
   joined = r.joined ∙ sym (append_assoc r.sign r.lead (text ++ r.tail));
   many = sym (ap length (ap slash_if (is_for_directories-sum mode _ _ _ _ _ r.bits) ∙ slash_if-lead r.tail _ r.trails));
 }
+
+-- the same of the pattern of a line of an attribute file; white space alone is its own text
+pub attribute_read_before : (reading : Reading) (bytes text : List ℕ) (mode : Mode) (place : Option ℕ) → IsPatternAs reading bytes text mode place → HasBefore bytes text (length (slash_if (is_for_directories mode)))
+attribute_read_before Git bytes text mode place r = git_read_before bytes text mode place r
+attribute_read_before Crate bytes text mode place r =
+    ⊎_elim
+    (λ read. read_before bytes text false mode place read)
+    (λ blank. record {
+      before = [];
+      behind = [];
+      joined = sym blank.1 ∙ sym (append-nil text);
+      many = ap (λ (bits : ℕ). length (slash_if (bit_and bits 4 == 4))) (sym blank.2);
+    })
+    r
 
 -- the units of a line are all of it
 units_whole : (line : List ℕ) → concat (units_of line) ≡ line
@@ -76,17 +97,6 @@ git_line_begins bytes (Some text) rest h = λ other same.
     subst (BeginsSo bytes) (same_Some text other same)
     (begins_longer bytes h.line text (h.cut.ending ++ rest) h.cut.joined (begins_longer h.line body text (return_of h.line) h.gives.returned in_body))
 
--- ---- parts of parts
-
-pub part_of_part : (text middle bytes : Bor (List ℕ)) → IsPartOf text middle → IsPartOf middle bytes → IsPartOf text bytes
-part_of_part text middle bytes inner outer = record {
-  place = outer.place + inner.place;
-  begins = inner.begins
-      ∙ ap (λ (at : ℕ × ℕ). (at.0, at.1 + inner.place)) outer.begins
-      ∙ ap (λ n. (bytes.ref_ptr.0, n)) (omega arith);
-  inside = omega (arith, inner.inside, outer.inside);
-}
-
 -- what ends where the bytes end, and is no longer, is a part of them
 pub part_at_end : (text bytes : Bor (List ℕ)) → end_of text ≡ end_of bytes → length text.now ≤ length bytes.now → IsPartOf text bytes
 part_at_end text bytes ends shorter =
@@ -108,3 +118,11 @@ mark_shorter bytes =
     (λ (is : marked ≡ true). (let same = ap by_test is in omega (arith, same, length-drop 3 bytes)))
     (λ (other : marked ≡ false). (let same = ap by_test other in omega (arith, same)))
     (cases_Bool marked)
+
+-- what lies in a part of the lines, and in a memory, lies in the lines, and in that memory
+pub lies_wider : (parts : LineParts) (spelled : Option (List ℕ)) (memory : MutBor (List ℕ)) (line lines : Bor (List ℕ)) → IsPartOf line lines
+    → LieIn (place_of spelled memory line) line parts → LieIn (place_of spelled memory lines) lines parts
+lies_wider parts.Nothing spelled memory line lines inside lie = tt
+lies_wider (parts.Silent silence) spelled memory line lines inside lie = tt
+lies_wider (parts.Macro name words) spelled memory line lines inside lie = (part_of_place spelled memory name line lines inside lie.0, part_of_part words line lines lie.1 inside)
+lies_wider (parts.Pattern bytes pattern words) spelled memory line lines inside lie = (part_of_place spelled memory bytes line lines inside lie.0, part_of_part words line lines lie.1 inside)

@@ -27,7 +27,7 @@ unit_short : (b : ℕ) (bytes : List ℕ) (unit : Option (ℕ × ℕ)) (found : 
 unit_short b bytes None found shorter is = absurd (cc)
 unit_short b bytes (Some u) found shorter is = more_spelled b bytes u.0 (quoted_from u.1 bytes) found (shorter u.1) is
 
-pub quoted_short : (skip : ℕ) (bytes : List ℕ) (found : List ℕ × List ℕ) → quoted_from skip bytes ≡ Some found → length found.0 ≤ length bytes
+quoted_short : (skip : ℕ) (bytes : List ℕ) (found : List ℕ × List ℕ) → quoted_from skip bytes ≡ Some found → length found.0 ≤ length bytes
 quoted_short zero [] found is = absurd (cc)
 quoted_short (suc skip) [] found is = absurd (cc)
 quoted_short (suc skip) (b ∷ bytes) found is = let less = quoted_short skip bytes found is in omega (arith, less)

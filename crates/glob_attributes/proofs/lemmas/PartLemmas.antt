@@ -4,9 +4,6 @@ use Rattle.std.specs.Borrow.{Bor, MutBor}
 use Rattle.glob_attributes.specs.Borrowed.{place_of}
 use Rattle.glob_attributes.specs.Places.{IsPartOf}
 
-pub whole_part : (text : Bor (List ℕ)) → IsPartOf text text
-whole_part text = record { place = 0; begins = ap (λ n. (text.ref_ptr.0, n)) (omega arith); inside = omega arith }
-
 pub part_of_part : (text middle bytes : Bor (List ℕ)) → IsPartOf text middle → IsPartOf middle bytes → IsPartOf text bytes
 part_of_part text middle bytes inner outer = record {
   place = outer.place + inner.place;

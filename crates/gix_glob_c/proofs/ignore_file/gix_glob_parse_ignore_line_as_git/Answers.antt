@@ -5,7 +5,8 @@ use Rattle.std.specs.Option.{ForSome, option_copied}
 use Rattle.std.specs.Prelude.{◌==◌}
 use Rattle.gix_glob_c.specs.Private.Parts.{BeginsSo}
 use Rattle.gix_glob_c.specs.declared.ignore_file.TheConstants.{PATTERN}
-use Rattle.gix_glob_c.proofs.lemmas.PlacesLemmas.{git_line_begins, part_of_part}
+use Rattle.glob_attributes.proofs.lemmas.PartLemmas.{part_of_part}
+use Rattle.gix_glob_c.proofs.lemmas.PlacesLemmas.{git_line_begins}
 use Rattle.gix_glob_c.proofs.ignore_file.gix_glob_parse_ignore_line_as_git.Goals as goal
 
 pub read_git_text-requires : goal.read_git_text-requires

@@ -1,5 +1,5 @@
 -- A part of the front is a part of the bytes.
-use Rattle.gix_glob_c.proofs.lemmas.PlacesLemmas.{part_of_part}
+use Rattle.glob_attributes.proofs.lemmas.PartLemmas.{part_of_part}
 use Rattle.gix_glob_c.proofs.ignore_file.read_git_text.Goals as goal
 
 pub returns-in-Some-clause-place : goal.returns-in-Some-clause-place
