@@ -26,3 +26,7 @@ alike entries path = filter (λ e. bytes_eq (folded e.path) (folded path)) entri
 -- the last of them is a submodule
 abbrev pub IsSubmoduleFolded : List Tracked → List ℕ → Type 0
 IsSubmoduleFolded entries path = (e : Tracked) × (last_or None (alike entries path) ≡ Some e) × (e.kind ≡ Submodule)
+
+-- a list has the same entries of each path as another one, in the same order
+abbrev pub AreAlike : List Tracked → List Tracked → Type 0
+AreAlike entries others = (path : List ℕ) → alike entries path ≡ alike others path

@@ -3,30 +3,44 @@ ghost use Rattle.std.specs.Prelude.{◌≡◌, ◌↔◌, ◌++◌, IfOk, IsTrue
 ghost use Rattle.std.specs.List.{last_or};
 ghost use Rattle.git_index.specs.Entries.{InOrder, tracked};
 ghost use Rattle.git_index.specs.Private.Search.{IsFirstFrom};
-ghost use Rattle.tracked_paths.specs.Folding.{HasBelowFolded, alike, folded};
-ghost use Rattle.tracked_paths.specs.Private.Folds.{LiesBelowFolded, bare, lent};
+ghost use Rattle.tracked_paths.specs.Folding.{AreAlike, HasBelowFolded, alike, folded};
+ghost use Rattle.tracked_paths.specs.Private.Folds.{LiesBelowFolded, bare};
 
 use crate::folding::{compare, compare_parts};
 use git_index::{Entry, Kind};
 use std::alloc::{AllocError, Global};
 
-/// Entries in the order of their paths without case. Those of one path stay in the order that they have.
-pub fn sorted(alloc: Global, entries: &[Entry]) -> Result<Vec<&Entry>, AllocError>
-    ensures ordered { IfOk result (λ sorted. InOrder (map bare (map lent sorted.items))) }
-    ensures same { IfOk result (λ sorted. (path : List ℕ) → alike (map lent sorted.items) path ≡ alike (map tracked entries.now) path) }
+/// The same entry in memory of its own.
+fn copied(entry: &Entry) -> Result<Entry, AllocError>
+    ensures { IfOk result (λ copy. tracked copy ≡ tracked entry.now) }
+{
+    Ok(Entry {
+        path: entry.path.clone()?,
+        stage: entry.stage,
+        kind: entry.kind,
+        assume_valid: entry.assume_valid,
+        skip_worktree: entry.skip_worktree,
+        intent_to_add: entry.intent_to_add,
+    })
+}
+
+/// Copies of entries, in the order of their paths without case. Those of one path stay in the order that they have.
+pub fn sorted(alloc: Global, entries: &[Entry]) -> Result<Vec<Entry>, AllocError>
+    ensures ordered { IfOk result (λ sorted. InOrder (map bare (map tracked sorted.items))) }
+    ensures same { IfOk result (λ sorted. AreAlike (map tracked sorted.items) (map tracked entries.now)) }
 {
     let mut sorted = Vec::with_capacity(alloc, entries.len())?;
     for entry in entries {
-        sorted.push(entry)?;
+        sorted.push(copied(entry)?)?;
     }
     sorted.sort_by(|left, right| compare(&left.path, &right.path))?;
     Ok(sorted)
 }
 
 /// The place of the first entry whose path isn't before the one that is told in two parts.
-fn first_from(sorted: &[&Entry], front: &[u8], end: &[u8]) -> usize
-    requires { InOrder (map bare (map lent sorted.now)) }
-    ensures { IsFirstFrom (map bare (map lent sorted.now)) (folded (front.now ++ end.now)) result }
+fn first_from(sorted: &[Entry], front: &[u8], end: &[u8]) -> usize
+    requires { InOrder (map bare (map tracked sorted.now)) }
+    ensures { IsFirstFrom (map bare (map tracked sorted.now)) (folded (front.now ++ end.now)) result }
 {
     let mut low = 0;
     let mut high = sorted.len();
@@ -42,16 +56,16 @@ fn first_from(sorted: &[&Entry], front: &[u8], end: &[u8]) -> usize
 }
 
 /// What the last entry is that has this path.
-pub fn last_kind(sorted: &[&Entry], path: &[u8]) -> Option<Kind>
-    requires { InOrder (map bare (map lent sorted.now)) }
-    ensures { result ≡ option_map (λ e. e.kind) (last_or None (alike (map lent sorted.now) path.now)) }
+pub fn last_kind(sorted: &[Entry], path: &[u8]) -> Option<Kind>
+    requires { InOrder (map bare (map tracked sorted.now)) }
+    ensures { result ≡ option_map (λ e. e.kind) (last_or None (alike (map tracked sorted.now) path.now)) }
 {
     // no path stands between this one and the one that has a byte more, which is 0
     let behind = first_from(sorted, path, b"\0");
     if behind == 0 {
         return None;
     }
-    let last = sorted[behind - 1];
+    let last = &sorted[behind - 1];
     if compare(&last.path, path).is_ne() {
         return None;
     }
@@ -69,9 +83,9 @@ fn is_below(path: &[u8], folder: &[u8]) -> bool
 }
 
 /// Whether an entry's path goes on below this folder.
-pub fn has_below(sorted: &[&Entry], folder: &[u8]) -> bool
-    requires { InOrder (map bare (map lent sorted.now)) }
-    ensures { IsTrue result ↔ HasBelowFolded (map lent sorted.now) folder.now }
+pub fn has_below(sorted: &[Entry], folder: &[u8]) -> bool
+    requires { InOrder (map bare (map tracked sorted.now)) }
+    ensures { IsTrue result ↔ HasBelowFolded (map tracked sorted.now) folder.now }
 {
     let first = first_from(sorted, folder, b"/");
     if first >= sorted.len() {

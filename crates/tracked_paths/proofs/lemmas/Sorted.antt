@@ -11,25 +11,24 @@ use Rattle.std.proofs.lemmas.Cmp.{ranked}
 use Rattle.std.proofs.lemmas.List.{length-map}
 use Rattle.std.proofs.lemmas.Map.Text.{is_eq-slice_cmp}
 use Rattle.git_index.specs.declared.entry.Entry.{Entry}
-use Rattle.git_index.specs.Entries.{HasBelow, InOrder, Tracked}
+use Rattle.git_index.specs.Entries.{HasBelow, InOrder, Tracked, tracked}
 use Rattle.git_index.specs.Private.Search.{IsFirstFrom, path_at}
 use Rattle.git_index.proofs.lemmas.Search.{lesser, paths_rise}
 use Rattle.tracked_paths.specs.Folding.{HasBelowFolded, alike, folded}
-use Rattle.tracked_paths.specs.Private.Folds.{bare, lent}
+use Rattle.tracked_paths.specs.Private.Folds.{bare}
 use Rattle.tracked_paths.proofs.lemmas.Folding.{cmp}
-use denote.Ref.{Bor}
 
 -- ---- what stands at a place
 
-pub length_same : (sorted : List (Bor Entry)) → length (map bare (map lent sorted)) ≡ length sorted
-length_same sorted = length-map (map lent sorted) bare ∙ length-map sorted lent
+pub length_same : (sorted : List Entry) → length (map bare (map tracked sorted)) ≡ length sorted
+length_same sorted = length-map (map tracked sorted) bare ∙ length-map sorted tracked
 
-pub path_here : (sorted : List (Bor Entry)) (i : ℕ) (d : Bor Entry) → i < length sorted → path_at (map bare (map lent sorted)) i ≡ folded (get_or sorted i d).now.path.items
+pub path_here : (sorted : List Entry) (i : ℕ) (d : Entry) → i < length sorted → path_at (map bare (map tracked sorted)) i ≡ folded (get_or sorted i d).path.items
 path_here [] i d lt = absurd (omega arith)
 path_here (f ∷ sorted) zero d lt = refl
 path_here (f ∷ sorted) (suc i) d lt = path_here sorted i d (omega arith)
 
-pub entry_here : (sorted : List (Bor Entry)) (i : ℕ) (d : Bor Entry) → i < length sorted → slice_get (map lent sorted) i ≡ Some (lent (get_or sorted i d))
+pub entry_here : (sorted : List Entry) (i : ℕ) (d : Entry) → i < length sorted → slice_get (map tracked sorted) i ≡ Some (tracked (get_or sorted i d))
 entry_here [] i d lt = absurd (omega arith)
 entry_here (f ∷ sorted) zero d lt = refl
 entry_here (f ∷ sorted) (suc i) d lt = entry_here sorted i d (omega arith)

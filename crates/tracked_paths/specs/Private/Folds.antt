@@ -1,14 +1,8 @@
 -- Entries in the order of their paths without case.
 use Rattle.std.specs.Prelude.{◌≡◌, ℕ, false, List, ◌∷◌, ◌++◌}
 use Rattle.glob_matcher.specs.Bytes.{slash}
-use Rattle.git_index.specs.declared.entry.Entry.{Entry}
-use Rattle.git_index.specs.Entries.{Tracked, tracked}
+use Rattle.git_index.specs.Entries.{Tracked}
 use Rattle.tracked_paths.specs.Folding.{folded}
-use denote.Ref.{Bor}
-
--- what is lent
-abbrev pub lent : Bor Entry → Tracked
-lent entry = tracked entry.now
 
 -- an entry with its path without case, at a stage at which several may have one path
 abbrev pub bare : Tracked → Tracked

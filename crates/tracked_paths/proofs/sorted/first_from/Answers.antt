@@ -1,16 +1,17 @@
 use Rattle.std.proofs.Common.{◌≡◌, ◌+◌, ◌-◌, ◌/◌, ◌++◌, ◌<◌, ℕ, List, true, false, length, map, sym, ap, ◌∙◌, arith}
 use Rattle.std.specs.Ordering.{is_lt}
+use Rattle.git_index.specs.Entries.{tracked}
 use Rattle.git_index.specs.Private.Search.{path_at}
 use Rattle.git_index.proofs.lemmas.Search.{lower_half, upper_half}
 use Rattle.tracked_paths.specs.Folding.{folded}
-use Rattle.tracked_paths.specs.Private.Folds.{bare, lent}
+use Rattle.tracked_paths.specs.Private.Folds.{bare}
 use Rattle.tracked_paths.proofs.lemmas.Folding.{cmp}
 use Rattle.tracked_paths.proofs.lemmas.Sorted.{length_same, path_here}
 use Rattle.tracked_paths.proofs.sorted.first_from.Goals as goal
 
 pub loop-low-preserved-then-is_lt : goal.loop-low-preserved-then-is_lt
 loop-low-preserved-then-is_lt c =
-    let entries = map bare (map lent c.args.sorted.now) in
+    let entries = map bare (map tracked c.args.sorted.now) in
     let sought = folded (c.args.front.now ++ c.args.end.now) in
     let middle = c.loop-low.low + (c.loop-low.high - c.loop-low.low) / 2 in
     let within : middle < length c.args.sorted.now = omega arith in
@@ -25,7 +26,7 @@ loop-low-preserved-then-is_lt c =
 
 pub loop-low-preserved : goal.loop-low-preserved
 loop-low-preserved c =
-    let entries = map bare (map lent c.args.sorted.now) in
+    let entries = map bare (map tracked c.args.sorted.now) in
     let sought = folded (c.args.front.now ++ c.args.end.now) in
     let middle = c.loop-low.low + (c.loop-low.high - c.loop-low.low) / 2 in
     let within : middle < length c.args.sorted.now = omega arith in

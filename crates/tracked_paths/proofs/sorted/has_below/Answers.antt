@@ -1,16 +1,17 @@
 use Rattle.std.proofs.Common.{◌≡◌, ◌<◌, ℕ, List, length, map, sym, ap, subst, ◌∙◌, arith}
 use Rattle.std.proofs.lemmas.Bool.{false≢true}
+use Rattle.git_index.specs.Entries.{tracked}
 use Rattle.git_index.specs.Private.Search.{Continues, IsFirstFrom, path_at}
 use Rattle.git_index.proofs.lemmas.Search.{below_is_first, first_has_below}
 use Rattle.tracked_paths.specs.Folding.{folded}
-use Rattle.tracked_paths.specs.Private.Folds.{bare, lent}
+use Rattle.tracked_paths.specs.Private.Folds.{bare}
 use Rattle.tracked_paths.proofs.lemmas.Folding.{folded_slash}
 use Rattle.tracked_paths.proofs.lemmas.Sorted.{bare_below, below_bare, length_same, path_here}
 use Rattle.tracked_paths.proofs.sorted.has_below.Goals as goal
 
 pub returns-then-first-sorted : goal.returns-then-first-sorted
 returns-then-first-sorted c =
-    let entries = map lent c.args.sorted.now in
+    let entries = map tracked c.args.sorted.now in
     let folder = c.args.folder.now in
     let first = c.first_from-first.result in
     let found = subst (λ (w : List ℕ). IsFirstFrom (map bare entries) w first) (folded_slash folder) c.first_from-first.ensures in
@@ -18,7 +19,7 @@ returns-then-first-sorted c =
 
 pub returns : goal.returns
 returns c =
-    let entries = map lent c.args.sorted.now in
+    let entries = map tracked c.args.sorted.now in
     let folder = c.args.folder.now in
     let first = c.first_from-first.result in
     let found = subst (λ (w : List ℕ). IsFirstFrom (map bare entries) w first) (folded_slash folder) c.first_from-first.ensures in

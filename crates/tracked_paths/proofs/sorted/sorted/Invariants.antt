@@ -1,8 +1,7 @@
 use Rattle.std.proofs.Common.{◌≡◌, map, take}
 use Rattle.git_index.specs.Entries.{tracked}
-use Rattle.tracked_paths.specs.Private.Folds.{lent}
 use Rattle.tracked_paths.proofs.sorted.sorted.Given as goal
 
 -- the entries so far, in their order
 abbrev pub invariant-loop-entry : goal.invariant-loop-entry
-invariant-loop-entry l = map lent l.sorted.items ≡ take l.entry-index (map tracked l.entries)
+invariant-loop-entry l = map tracked l.sorted.items ≡ take l.entry-index (map tracked l.entries)

@@ -1,13 +1,13 @@
 use Rattle.std.proofs.Common.{map, sym}
-use Rattle.tracked_paths.specs.Private.Folds.{lent}
+use Rattle.git_index.specs.Entries.{tracked}
 use Rattle.tracked_paths.proofs.lemmas.Alike.{below_there}
 use Rattle.tracked_paths.proofs.folded_paths.FoldedPaths.has_below.Goals as goal
 
 pub returns : goal.returns
-returns c =
+returns c = λ entries same.
     let folder = c.args.folder.now in
-    let entries = map lent c.deref.result.now in
-    let same = rw (← c.deref.ensures.value, c.self.view_is) at c.self.invariant.1 in (
-      λ yes. below_there entries c.args.self.now same folder (c.has_below.ensures.0 yes),
-      λ below. c.has_below.ensures.1 (below_there c.args.self.now entries (λ path. sym (same path)) folder below),
+    let own = map tracked c.deref.result.now in
+    let alike = rw (← c.self.view_is, ← c.deref.ensures.value) at same in (
+      λ yes. below_there own entries alike folder (c.has_below.ensures.0 yes),
+      λ below. c.has_below.ensures.1 (below_there entries own (λ path. sym (alike path)) folder below),
     )
