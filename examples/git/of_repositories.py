@@ -36,7 +36,6 @@ ORIGIN = re.compile(rb"file:\"?[^\t\0]*/")
 TOLD = {
     "a slash behind GIT_DIR": lambda made, question: made.git_dir().endswith(b"/"),
     "`.git` as a link": lambda made, question: any(os.path.basename(link) == b".git" for link in made.links),
-    "`core.ignoreCase`": lambda made, question: question.words[0] in LISTINGS and made.index is not None and made.says(rb"(?i)ignorecase"),
 }
 # and what isn't read, by the fault that names it
 UNREAD = {

@@ -1,6 +1,5 @@
 """Repositories made at random, each from a number: how they are found, configuration, variables, words and faults."""
 import os
-import re
 import random
 
 from configuration_texts import Writer
@@ -89,14 +88,6 @@ class Repository(Shapes, Settings, Faults, Indexes):
             if path not in self.folders:
                 text = self.writer.text(entries)
                 self.files[path] = self.texts[path](text) if path in self.texts else text
-
-    def texts_that_count(self):
-        """All texts in which a setting may stand."""
-        return [*self.files.values(), *self.variables.values(), *(word for word in self.options if isinstance(word, bytes))]
-
-    def says(self, pattern):
-        """Whether a text has what is looked for."""
-        return any(re.search(pattern, text) for text in self.texts_that_count())
 
     def git_dir(self):
         """What the words or the environment tell of the git folder."""

@@ -6,7 +6,7 @@ import struct
 from configuration_texts import Chances
 
 FILE, EXECUTABLE, LINK, SUBMODULE = 0o100644, 0o100755, 0o120000, 0o160000
-TRACKED = [b"a", b"b", b"c", b"f", b"x.o", b"A", b"B.O", b"ig", b"d/a", b"d/b", b"d/x.o", b"d/e/c", b"n/a", b"a*", b"d*/a", b"k[1]/x", b"m/x/y.o", b"\xc3\xa4", b"b\\"]
+TRACKED = [b"a", b"b", b"c", b"f", b"x.o", b"A", b"B.O", b"ig", b"d/a", b"d/b", b"d/x.o", b"d/e/c", b"n/a", b"D/b", b"D/E", b"F", b"N/b", b"e", b"a*", b"d*/a", b"k[1]/x", b"m/x/y.o", b"\xc3\xa4", b"b\\"]
 # paths that are asked where there is an index
 ASKED = [
     b".", b"*", b"a*", b"?", b"*.o", b"d/*", b"d*", b"[ab]", b"[ab]/x", b"\\a", b"d\\/a", b"*/x", b"m", b"m/", b"m/x", b"m/*.o", b"m*o", b"s", b"s/", b"s/x",
@@ -109,7 +109,7 @@ class Indexes(Chances):
                 bits = tuple(int(self.chance(0.15)) for _ in range(3))
                 entries.append((name, self.random.choice((FILE, FILE, EXECUTABLE, LINK)), 0, bits))
         if self.marked(0.25, "a submodule in the index"):
-            entries.append((b"s", SUBMODULE, 0, (0, 0, 0)))
+            entries.append((self.one_of(b"s", b"s", b"S", b"N"), SUBMODULE, 0, (0, 0, 0)))
         return sorted(entries, key=lambda entry: (entry[0], entry[2]))
 
     def spoil_index(self):

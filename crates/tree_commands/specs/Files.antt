@@ -6,7 +6,7 @@ use Rattle.std.specs.List.{Contains, list_any}
 use Rattle.std.specs.Ordering.{nat_cmp}
 use Rattle.std.specs.declared.cmp.Ordering.TheVariants.{Less}
 use Rattle.std.specs.Str.{bytes_eq}
-use Rattle.git_index.specs.Entries.{HasBelow, IsSubmodule, IsTracked, Tracked}
+use Rattle.git_index.specs.Entries.{IsTracked}
 use Rattle.gix_glob.specs.declared.pattern.Case.{Case}
 use Rattle.gix_glob.specs.declared.pattern.Case.TheVariants.{Sensitive, Fold}
 use Rattle.gix_glob.specs.declared.search.pattern.list.List as patterns
@@ -33,6 +33,7 @@ use Rattle.tree_commands.specs.declared.files.source.EntryKind.{EntryKind}
 use Rattle.tree_commands.specs.declared.files.source.EntryKind.TheVariants as kinds
 use Rattle.tree_commands.specs.FileTrees.{FileTree}
 use Rattle.tree_commands.specs.Ignoring.{IsIgnored}
+use Rattle.tree_commands.specs.Lookups.{HasEntry, HasEntryBelow, IsOfSubmodule, LookedUp}
 
 -- what decides, beside patterns, which paths are met and listed: whether the case of letters counts, which paths are chosen, how folders are
 -- told, and what the index tracks
@@ -40,7 +41,7 @@ pub record Terms : Type 0 where
   pub case : Case
   pub chosen : Chosen
   pub folders : Folders
-  pub tracked : List Tracked
+  pub tracked : LookedUp
 
 -- the terms, and the lists that stand before those of all folders
 pub record Basis : Type 0 where
@@ -78,9 +79,9 @@ abbrev pub IsIgnoredAt : Basis → FileTree → List ℕ → Bool → Type 0
 IsIgnoredAt basis tree path is_dir = IsBelowIgnored basis tree path ⊎ IsIgnored (lists_to basis tree path) basis.terms.case path is_dir
 
 -- what is passed over, with all that lies in it: a tracked file, and the folder of a submodule
-abbrev pub IsHidden : List Tracked → List ℕ → EntryKind → Type 0
-IsHidden tracked path kinds.Folder = IsSubmodule tracked path
-IsHidden tracked path kinds.File = IsTracked tracked path
+abbrev pub IsHidden : LookedUp → List ℕ → EntryKind → Type 0
+IsHidden tracked path kinds.Folder = IsOfSubmodule tracked path
+IsHidden tracked path kinds.File = HasEntry tracked path
 
 -- what stands at a path is kept: these lists don't ignore it, where what isn't ignored is chosen, and it isn't passed over
 pub record IsKept (lists : List (EntryList (Unit {0}))) (terms : Terms) (path : List ℕ) (kind : EntryKind) : Type 0 where
@@ -110,7 +111,7 @@ IsNamed NamedIfIgnored chosen Ignores = (chosen ≡ Ignored) × Ignores
 -- a folder below the top isn't gone into: no tracked path lies in it, and it is a repository of its own, or told by its name
 pub record IsShut (terms : Terms) (tree : FileTree) (folder : Folder) (Ignores : Type 0) : Type 0 where
   pub below : folder ≢ []
-  pub free : ¬ HasBelow terms.tracked folder
+  pub free : ¬ HasEntryBelow terms.tracked folder
   pub why : (tree.has_git folder ≡ true) ⊎ IsNamed terms.folders terms.chosen Ignores
 
 -- the paths that are met from one on: this one, and what is found in each folder that is met and gone into
@@ -122,8 +123,8 @@ pub data IsMet (basis : Basis) (tree : FileTree) (start : List ℕ) : List ℕ �
 -- repository in which no tracked path lies
 pub record LetsPass (terms : Terms) (tree : FileTree) (folder : Folder) : Type 0 where
   pub other : (name : List ℕ) → IsLastName folder name → is_git terms.case name ≡ false
-  pub shown : ¬ IsSubmodule terms.tracked folder
-  pub entered : ¬ ((tree.has_git folder ≡ true) × (¬ HasBelow terms.tracked folder))
+  pub shown : ¬ IsOfSubmodule terms.tracked folder
+  pub entered : ¬ ((tree.has_git folder ≡ true) × (¬ HasEntryBelow terms.tracked folder))
 
 -- a listing that is to begin at a path below the top begins at `start`; a folder has to stand there if the path is told as a folder's
 pub record BeginsBelow (basis : Basis) (tree : FileTree) (path : List ℕ) (is_told : Bool) (start : List ℕ) : Type 0 where
@@ -146,8 +147,8 @@ pub record IsReached (standpoint : Standpoint) (basis : Basis) (tree : FileTree)
   pub begins : BeginsAt basis tree top (names_folder false (parts_of told)) start
   pub met : IsMet basis tree start path
 
--- A path that is met is listed: that of a file or a link, or of a folder that isn't gone into, unless a tracked file has its name. It is
--- ignored, where the ignored ones are chosen.
+-- A path that is met is listed: that of a file or a link, or of a folder that isn't gone into, unless a tracked file has its very name, in
+-- which case always counts. It is ignored, where the ignored ones are chosen.
 pub record IsListedFile (terms : Terms) (Ignores : List ℕ → Bool → Type 0) (path : List ℕ) : Type 0 where
   pub some : path ≢ []
   pub whole : ¬ EndsInSlash path
@@ -157,7 +158,7 @@ pub record IsListedFolder (terms : Terms) (tree : FileTree) (Ignores : List ℕ 
   pub folder : Folder
   pub start : path ≡ start_of folder
   pub shut : IsShut terms tree folder (Ignores folder true)
-  pub free : ¬ IsTracked terms.tracked folder
+  pub free : ¬ IsTracked terms.tracked.entries folder
   pub chosen : terms.chosen ≡ Ignored → Ignores folder true
 
 abbrev pub IsListedBy : Terms → FileTree → (List ℕ → Bool → Type 0) → List ℕ → Type 0

@@ -5,6 +5,7 @@ pub mod Files
 pub mod FileTrees
 pub mod Ignoring
 pub mod Listings
+pub mod Lookups
 pub mod Private
 pub mod Tops
 pub mod TrackedFiles

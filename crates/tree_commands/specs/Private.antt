@@ -5,6 +5,7 @@ pub mod AttributeRuns
 pub mod AttributeWays
 pub mod Faults
 pub mod Finding
+pub mod FoldedPaths
 pub mod Ignoring
 pub mod Listing
 pub mod ListingFaults

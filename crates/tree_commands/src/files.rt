@@ -24,6 +24,8 @@ mod entries;
 pub mod fault;
 mod ignoring;
 mod lister;
+mod looking_up;
+mod lookup;
 pub mod mark;
 mod names;
 mod pending;
@@ -37,6 +39,8 @@ use crate::files::entries::ListsOnWay;
 use crate::files::fault::FilesFault;
 use crate::files::ignoring::are_of_folders;
 use crate::files::lister::Lister;
+use crate::files::looking_up::folded_by;
+use crate::files::lookup::Lookup;
 use crate::files::mark::Mark;
 use crate::files::source::FileSource;
 use crate::files::terms::Terms;
@@ -119,11 +123,12 @@ pub fn run_files<S: FileSource, W: Write>(
     }
     let mut path = Vec::new(alloc);
     let is_told_folder = lead(alloc, &listing.standpoint, &mut path, told)?;
+    let folded = folded_by(alloc, listing.case, tracked)?;
     let terms = Terms {
         case: listing.case,
         chosen: listing.chosen,
         folders: listing.folders,
-        tracked,
+        tracked: Lookup::new(tracked, &folded),
     };
     let mut lister = Lister::new(alloc, listing.fronts, terms);
     lister.begin(source, path, is_told_folder)?;

@@ -1,7 +1,6 @@
 -- The way to the path at which a listing begins.
 use Rattle.std.proofs.Common.{◌≡◌, ◌≢◌, ◌⊎◌, inl, inr, ⊎_elim, ℕ, zero, suc, ◌+◌, ◌<◌, ◌≤◌, true, false, List, [], ◌∷◌, ◌++◌, length, map, take, refl, sym, ap, subst, ◌∙◌, arith}
 use Rattle.std.specs.Prelude.{◌↔◌, Bool, IsTrue, MatchBool, slice_index}
-use Rattle.git_index.specs.Entries.{HasBelow, IsSubmodule}
 use Rattle.std.proofs.lemmas.Bool.{cases_lt, false≢true}
 use Rattle.std.proofs.lemmas.List.{length-take-le, take_all, take_more}
 use Rattle.gix_glob.specs.Bytes.{HasByte, slash}
@@ -18,6 +17,7 @@ use Rattle.tree_commands.specs.declared.files.choosing.Chosen.TheVariants.{All, 
 use Rattle.tree_commands.specs.FileTrees.{FileTree}
 use Rattle.tree_commands.specs.Files.{Basis, IsBelowIgnored, LetsPass, Terms, is_git, lists_to}
 use Rattle.tree_commands.specs.Ignoring.{IsIgnored}
+use Rattle.tree_commands.specs.Lookups.{HasEntryBelow, IsOfSubmodule}
 use Rattle.tree_commands.specs.Private.Listing.{IsClear, PutsLists}
 use Rattle.tree_commands.proofs.lemmas.ListsLemmas.{lists_before_some, lists_in}
 
@@ -49,8 +49,8 @@ one_last_name path name other one two = ⊎_elim
 
 module _ (terms : Terms) (tree : FileTree) where
   -- by its last name, by the index, and by whether `.git` lies in it
-  pub passed_by : (folder name : List ℕ) → IsLastName folder name → is_git terms.case name ≡ false → ¬ IsSubmodule terms.tracked folder → (found : Bool) → found ≡ tree.has_git folder
-      → (own : Bool) → IsTrue own ↔ ((found ≡ true) × (¬ HasBelow terms.tracked folder)) → MatchBool own (¬ LetsPass terms tree folder) (LetsPass terms tree folder)
+  pub passed_by : (folder name : List ℕ) → IsLastName folder name → is_git terms.case name ≡ false → ¬ IsOfSubmodule terms.tracked folder → (found : Bool) → found ≡ tree.has_git folder
+      → (own : Bool) → IsTrue own ↔ ((found ≡ true) × (¬ HasEntryBelow terms.tracked folder)) → MatchBool own (¬ LetsPass terms tree folder) (LetsPass terms tree folder)
   passed_by folder name last other shown found is true tells = λ passed. (let it = tells.0 refl in passed.entered (sym is ∙ it.0, it.1))
   passed_by folder name last other shown found is false tells = record {
     other = λ text also. subst (λ n. is_git terms.case n ≡ false) (one_last_name folder name text last also) other;

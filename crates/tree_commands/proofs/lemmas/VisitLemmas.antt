@@ -129,7 +129,7 @@ module _ (Known : FileTree → Type 0) (terms : Terms) (next : Pending) (lists :
           let same : at.folder ≡ folder = one_folder at.folder folder (sym at.start ∙ is_start) in
           lists_it.1 (
             (λ told. (let known = told_ignored told in known.1 (subst (λ f. IsIgnoredNext terms lists next f true) same (at.chosen told)))),
-            subst (λ f. ¬ IsTracked terms.tracked f) same at.free,
+            subst (λ f. ¬ IsTracked terms.tracked.entries f) same at.free,
           ))
           by,
     )

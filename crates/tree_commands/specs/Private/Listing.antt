@@ -2,7 +2,7 @@
 use Rattle.std.specs.Prelude.{◌≡◌, ◌≢◌, ◌⊎◌, ◌↔◌, ℕ, ◌≤◌, Bool, true, false, not, if◌then◌else◌, IsTrue, List, [], ◌∷◌, ◌++◌, length, map, take, Option, None, Some, MatchBool, MatchOption}
 use Rattle.std.specs.List.{AllByRecursion}
 use Rattle.std.specs.Io.KnownBytes.{Appends}
-use Rattle.git_index.specs.Entries.{HasBelow, IsTracked}
+use Rattle.git_index.specs.Entries.{IsTracked}
 use Rattle.gix_glob.specs.declared.pattern.Case.{Case}
 use Rattle.gix_glob.specs.declared.search.pattern.list.List as patterns
 use Rattle.gix_glob.specs.Bytes.{EndsInSlash, slash}
@@ -14,12 +14,15 @@ use Rattle.told_paths.specs.Paths.{IsLastName}
 use Rattle.tree_commands.specs.declared.files.choosing.Chosen.{Chosen}
 use Rattle.tree_commands.specs.declared.files.choosing.Chosen.TheVariants.{All, Ignored, Unignored}
 use Rattle.tree_commands.specs.declared.files.choosing.Folders.{Folders}
+use Rattle.tree_commands.specs.declared.files.lookup.Lookup.{Lookup}
 use Rattle.tree_commands.specs.declared.files.pending.Pending.{Pending}
 use Rattle.tree_commands.specs.declared.files.source.EntryKind.{EntryKind}
 use Rattle.tree_commands.specs.declared.files.terms.Terms as held
 use Rattle.tree_commands.specs.FileTrees.{FileTree, names_in}
 use Rattle.tree_commands.specs.Files.{Basis, BeginsAt, BeginsBelow, ComesBefore, IsBelowIgnored, IsEntryName, IsFound, IsHidden, IsKept, IsListedBy, IsNamed, IsShut, LetsPass, Terms, is_folder, is_git, lists_to}
 use Rattle.tree_commands.specs.Ignoring.{IsIgnored}
+use Rattle.tree_commands.specs.Lookups.{HasEntryBelow, LookedUp}
+use Rattle.tree_commands.specs.Private.FoldedPaths.{case_by}
 
 -- a list as plain data, and lists, with nothing seen of the values
 abbrev pub seen_list : {T X : Type 0} → patterns.List T X → EntryList (Unit {0})
@@ -28,9 +31,13 @@ seen_list list = entry_list_of (λ _. tt) list
 abbrev pub seen_lists : {T X : Type 0} → List (patterns.List T X) → List (EntryList (Unit {0}))
 seen_lists lists = map (entry_list_of (λ _. tt)) lists
 
+-- the index as it is looked up in, as plain data
+abbrev pub looked : Lookup → LookedUp
+looked lookup = record { case = case_by lookup.folded; entries = lookup.index.now }
+
 -- the terms as plain data
 abbrev pub terms_of : held.Terms → Terms
-terms_of terms = record { case = terms.case; chosen = terms.chosen; folders = terms.folders; tracked = terms.tracked.now }
+terms_of terms = record { case = terms.case; chosen = terms.chosen; folders = terms.folders; tracked = looked terms.tracked }
 
 -- an element of a list
 abbrev pub Among : {X : Type 0} → List X → X → Type 0
@@ -154,7 +161,7 @@ pub record FlagsFolder (terms : Terms) (lists : List (EntryList (Unit {0}))) (ne
 
 -- a folder below the top in which no tracked path lies, and one that is told by its name
 abbrev pub IsFree : Terms → Folder → Type 0
-IsFree terms folder = (folder ≢ []) × (¬ HasBelow terms.tracked folder)
+IsFree terms folder = (folder ≢ []) × (¬ HasEntryBelow terms.tracked folder)
 
 abbrev pub IsNamedBy : Folders → Chosen → Bool → Type 0
 IsNamedBy folders chosen is_ignored = IsNamed folders chosen (IsTrue is_ignored)
@@ -167,7 +174,7 @@ abbrev pub ListsFile : Terms → List (EntryList (Unit {0})) → Pending → Boo
 ListsFile terms lists next is_listed = IsTrue is_listed ↔ (terms.chosen ≡ Ignored → IsIgnoredNext terms lists next next.path.items false)
 
 abbrev pub ListsFolder : Terms → Folder → Bool → Bool → Type 0
-ListsFolder terms folder is_ignored is_listed = IsTrue is_listed ↔ ((terms.chosen ≡ Ignored → IsTrue is_ignored) × (¬ IsTracked terms.tracked folder))
+ListsFolder terms folder is_ignored is_listed = IsTrue is_listed ↔ ((terms.chosen ≡ Ignored → IsTrue is_ignored) × (¬ IsTracked terms.tracked.entries folder))
 
 abbrev pub if_listed : Bool → List ℕ → Option (List ℕ)
 if_listed is_listed path = if is_listed then Some path else None

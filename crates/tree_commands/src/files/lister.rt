@@ -178,7 +178,7 @@ fn lists_file(on_way: &ListsOnWay<'_>, next: &Pending) -> bool
 fn lists_folder(terms: &Terms<'_>, folder: &[u8], is_ignored: bool) -> bool
     ensures { ListsFolder (terms_of terms.now) folder.now is_ignored result }
 {
-    (is_ignored || !wants_ignored(terms.chosen)) && !terms.tracked.is_tracked(folder)
+    (is_ignored || !wants_ignored(terms.chosen)) && !terms.tracked.has_very_entry(folder)
 }
 
 /// Whether a folder is told by its name, whatever lies in it that isn't tracked.

@@ -1,12 +1,12 @@
 //! Where a listing begins: at the top, or at a path below it that is told.
 ghost use Rattle.std.specs.Prelude.{◌≡◌, ◌≢◌, ◌∷◌, ◌++◌, ◌↔◌, [], length, true, IfOk, IsTrue, MatchBool, OnOk};
-ghost use Rattle.git_index.specs.Entries.{HasBelow};
 ghost use Rattle.gix_glob.specs.Bytes.{EndsInSlash};
 ghost use Rattle.glob_lists.specs.Deciding.{BasesAreFolders};
 ghost use Rattle.glob_lists.specs.Paths.{IsPlainPath};
 ghost use Rattle.glob_trees.specs.Ways.{GivesOnly};
 ghost use Rattle.tree_commands.specs.FileTrees.{FileTree, StaysKnown};
 ghost use Rattle.tree_commands.specs.Files.{LetsPass};
+ghost use Rattle.tree_commands.specs.Lookups.{HasEntryBelow};
 ghost use Rattle.tree_commands.specs.Private.Listing.{Begins, IsClear, LeavesOut, MayBegin, PutsListsTo, StandsAtStart, seen_lists, terms_of};
 
 use crate::files::asking::{has_git_in, kind_at};
@@ -106,7 +106,7 @@ fn kind_to_begin<S: FileSource>(
     let Some(kind) = kind_at_start(source, path, is_told_folder)? else {
         return Ok(None);
     };
-    if is_hidden(terms.tracked, path, kind) {
+    if is_hidden(&terms.tracked, path, kind) {
         return Ok(None);
     }
     Ok(Some(kind))
@@ -182,7 +182,7 @@ fn is_repository<S: FileSource>(
 
 /// Whether a folder is a repository in which no tracked path lies.
 fn is_own(terms: &Terms<'_>, folder: &[u8], has_git: bool) -> bool
-    ensures { IsTrue result ↔ (has_git ≡ true) × (¬ HasBelow (terms_of terms.now).tracked folder.now) }
+    ensures { IsTrue result ↔ (has_git ≡ true) × (¬ HasEntryBelow (terms_of terms.now).tracked folder.now) }
 {
     has_git && !terms.tracked.has_below(folder)
 }

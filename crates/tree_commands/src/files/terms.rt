@@ -2,11 +2,11 @@
 ghost use Rattle.std.specs.Prelude.{◌≡◌, ◌↔◌, IsTrue};
 ghost use Rattle.tree_commands.specs.declared.files.choosing.Chosen.TheVariants as choices;
 ghost use Rattle.tree_commands.specs.Files.{IsHidden};
-ghost use Rattle.tree_commands.specs.Private.Listing.{IsNamedBy};
+ghost use Rattle.tree_commands.specs.Private.Listing.{IsNamedBy, looked};
 
 use crate::files::choosing::{Chosen, Folders};
+use crate::files::lookup::Lookup;
 use crate::files::source::EntryKind;
-use git_index::Index;
 use gix_glob::pattern::Case;
 
 /// What decides, beside patterns, which paths are met, and how folders are told.
@@ -15,7 +15,7 @@ pub(crate) struct Terms<'a> {
     pub(crate) case: Case,
     pub(crate) chosen: Chosen,
     pub(crate) folders: Folders,
-    pub(crate) tracked: &'a Index,
+    pub(crate) tracked: Lookup<'a>,
 }
 
 /// Whether what isn't ignored is chosen: then nothing ignored is met.
@@ -40,12 +40,12 @@ pub(crate) fn takes_all(chosen: Chosen) -> bool
 }
 
 /// Whether what stands at a path is passed over.
-pub(crate) fn is_hidden(tracked: &Index, path: &[u8], kind: EntryKind) -> bool
-    ensures { IsTrue result ↔ IsHidden tracked.now path.now kind }
+pub(crate) fn is_hidden(tracked: &Lookup<'_>, path: &[u8], kind: EntryKind) -> bool
+    ensures { IsTrue result ↔ IsHidden (looked tracked.now) path.now kind }
 {
     match kind {
         EntryKind::Folder => tracked.is_submodule(path),
-        EntryKind::File => tracked.is_tracked(path),
+        EntryKind::File => tracked.has_entry(path),
     }
 }
 
