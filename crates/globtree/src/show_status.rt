@@ -64,17 +64,11 @@ fn listing_of(
 ) -> Result<Listing>
     ensures { IfOk result (λ listing. (listing.mark ≡ mark) × (listing.form ≡ form_by flags.nul fronts.now.quoting) × IsAtTop listing.standpoint) }
 {
-    if matches!(flags.untracked, UntrackedFiles::Normal) {
-        bail!("-unormal isn't known: give -uall");
-    }
     let chosen = match mark {
         Mark::Ignored => Chosen::Ignored,
         Mark::Untracked | Mark::Bare => Chosen::Unignored,
     };
-    let folders = match flags.ignored {
-        IgnoredFiles::Matching => Folders::NamedIfIgnored,
-        IgnoredFiles::Traditional | IgnoredFiles::No => Folders::Entered,
-    };
+    let folders = folders_by(flags, mark);
     Ok(Listing {
         standpoint: Standpoint {
             top: Vec::new(alloc),
@@ -88,4 +82,13 @@ fn listing_of(
         fronts: copies_of(alloc, &fronts.lists)?,
         case: case_of(options, fronts.folds),
     })
+}
+
+/// How folders are told that have no tracked path, where this mark stands before them.
+fn folders_by(flags: StatusFlags, mark: Mark) -> Folders {
+    match (flags.untracked, mark, flags.ignored) {
+        (_, Mark::Ignored, IgnoredFiles::Matching) => Folders::NamedIfIgnored,
+        (UntrackedFiles::Normal, _, _) => Folders::NamedIfFilled,
+        (UntrackedFiles::All | UntrackedFiles::No, _, _) => Folders::Entered,
+    }
 }

@@ -13,6 +13,7 @@ pub mod AttributeTexts
 pub mod AttributeWalks
 pub mod BeginLemmas
 pub mod EntryLemmas
+pub mod FillingLemmas
 pub mod FindingLemmas
 pub mod IgnoreLemmas
 pub mod IgnoringLemmas
