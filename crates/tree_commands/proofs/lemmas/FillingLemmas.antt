@@ -362,12 +362,12 @@ module _ (Known : FileTree → Type 0) (terms : Terms) (lists : List (EntryList 
           )
         where
           not_both : (b : Bool) → IsTrue b → ¬ IsTrue (not b)
-          not_both true yes no = false≢true no
-          not_both false yes no = false≢true yes
+          not_both true is out = false≢true out
+          not_both false is out = false≢true is
 
           not_by : (b : Bool) → ¬ IsTrue b → IsTrue (not b)
-          not_by true no = absurd (no refl)
-          not_by false no = refl
+          not_by true out = absurd (out refl)
+          not_by false out = refl
 
 -- the flag of a folder says whether it is ignored, by what is known of its path
 pub flag_says : (terms other : Terms) (lists more : List (EntryList (Unit {0}))) (place : Pending) (flag : Bool) → other ≡ terms → more ≡ lists → terms.chosen ≡ Ignored → EndsInSlash (path_of place)
@@ -399,8 +399,8 @@ asks_two Known Now terms other lists more place chosen old middle new stays as_t
 
 -- the path of a folder that is listed ends in a slash
 listed_ends : (terms : Terms) (tree : FileTree) (Ignores : List ℕ → Bool → Type 0) (path : List ℕ) → IsListedBy terms tree Ignores path → (folder : Folder) → path ≡ start_of folder → EndsInSlash path
-listed_ends terms tree Ignores path (inl file) folder is = subst EndsInSlash (sym is) (start_ends folder (λ none. file.some (is ∙ ap start_of none)))
-listed_ends terms tree Ignores path (inr at) folder is = subst EndsInSlash (sym at.start) (start_ends at.folder (let shut = at.shut in shut.below))
+listed_ends terms tree Ignores path (inl file) folder is = subst EndsInSlash (sym is) (start_ends folder (λ none. file.some (is ∙ none)))
+listed_ends terms tree Ignores path (inr at) folder is = record { front = at.folder; joined = at.start ∙ start_marked at.folder (let shut = at.shut in shut.below) }
 
 module _ (Known : FileTree → Type 0) (terms : Terms) (next : Pending) (lists new_lists : List (EntryList (Unit {0}))) (old new : List Pending) (path : List ℕ) (it : IsToList Known terms next lists new_lists old new path) where
   -- what is listed is told, where folders are told otherwise
@@ -447,6 +447,6 @@ module _ (Known : FileTree → Type 0) (terms : Terms) (next : Pending) (lists n
         gives_further (λ folder. path_of next ≡ start_of folder) (IsAsked Now other more place) (λ folder. (path_of next ≡ start_of folder) ⊎ OfStanding Known terms lists next (λ basis tree. IsSearched basis tree (path_of next) folder))
         first middle last (λ folder is. inl is)
         (λ folder asked. inr (at_next (λ basis tree. IsSearched basis tree (path_of next) folder) (λ tree known basis same stands.
-            let it = asked tree known basis same stands in
-            record { asks = ap (λ (t : Terms). t.folders) (same ∙ as_terms) ∙ asks; chosen = it.0; met = subst (λ p. IsMet (entering it.0 basis) tree p (start_of folder)) same_path it.1 })))
+        let it = asked tree known basis same stands in
+        record { asks = ap (λ (t : Terms). t.folders) (same ∙ as_terms) ∙ asks; chosen = it.0; met = subst (λ p. IsMet (entering it.0 basis) tree p (start_of folder)) same_path it.1 })))
         one two
