@@ -140,8 +140,9 @@ fn folders_by(flags: FilesFlags) -> Folders
     ensures { result ≡ folders_by flags }
 {
     if !flags.directory {
-        Folders::Entered
-    } else if flags.no_empty_directory {
+        return Folders::Entered;
+    }
+    if flags.no_empty_directory {
         Folders::NamedIfFilled
     } else {
         Folders::Named

@@ -40,6 +40,9 @@ pub(crate) fn show_status<R: Files + Env + Clock + Eprint + AllocGlobal + Clone 
     if let Some(message) = flags.disagreement(operands.len()) {
         bail!("{message}");
     }
+    if let Some(message) = unknown(flags) {
+        bail!("{message}");
+    }
     let fronts = fronts_of(rt, alloc, options, IndexUse::Paths)?;
     if !flags.tells_untracked() {
         return Ok(ANSWERED);
@@ -52,6 +55,19 @@ pub(crate) fn show_status<R: Files + Env + Clock + Eprint + AllocGlobal + Clone 
     // what can't be read for those that aren't ignored can't be for these, which lie in more folders
     let listing = listing_of(alloc, options, flags, &fronts, Mark::Ignored)?;
     run_listing(rt, alloc, listing, &fronts, ".", shows_progress, output)
+}
+
+/// What isn't known of these; `None` where all is.
+fn unknown(flags: StatusFlags) -> Option<&'static str> {
+    match (flags.untracked, flags.ignored) {
+        (UntrackedFiles::Unsaid, _) => {
+            Some("status.showUntrackedFiles isn't read: give -unormal, -uall or -uno")
+        }
+        (UntrackedFiles::Normal, IgnoredFiles::Traditional) => {
+            Some("--ignored isn't known with -unormal: give --ignored=matching or -uall")
+        }
+        _ => None,
+    }
 }
 
 /// What is asked of a listing from the top of the files that this mark stands before.
@@ -89,6 +105,6 @@ fn folders_by(flags: StatusFlags, mark: Mark) -> Folders {
     match (flags.untracked, mark, flags.ignored) {
         (_, Mark::Ignored, IgnoredFiles::Matching) => Folders::NamedIfIgnored,
         (UntrackedFiles::Normal, _, _) => Folders::NamedIfFilled,
-        (UntrackedFiles::All | UntrackedFiles::No, _, _) => Folders::Entered,
+        (_, _, _) => Folders::Entered,
     }
 }
