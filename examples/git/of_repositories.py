@@ -19,8 +19,10 @@ SHOWN = [["--list", "--show-origin", "-z"], ["--list"], ["--show-origin", "--get
 LISTED = [
     ["-c"], ["-o"], ["-c", "-o"], ["-co", "--exclude-standard"], ["-oi", "--exclude-standard"], ["-c", "-i", "--exclude-standard"],
     ["--cached", "-oi", "--exclude-standard"], ["-o", "--directory"], ["--others", "--directory", "--exclude-standard"], ["--exclude-standard"],
+    ["-o", "--directory", "--no-empty-directory"], ["-o", "--exclude-standard", "--directory", "--no-empty-directory"],
+    ["-oi", "--exclude-standard", "--directory", "--no-empty-directory"],
 ]
-STATUS = [["-uall"], ["-uall", "--ignored"], ["-u", "--ignored=matching"], ["--untracked-files=all", "--ignored=traditional"], ["-uno", "--ignored"]]
+STATUS = [["-uall"], ["-uall", "--ignored"], ["-u", "--ignored=matching"], ["--untracked-files=all", "--ignored=traditional"], ["-uno", "--ignored"], ["-unormal"], ["-unormal", "--ignored=matching"]]
 ATTRIBUTES = [["-a", "--"], ["one", "two", "--"], ["-z", "two", "--"], ["-a", "-z", "--"]]
 OUTSIDE = [b"../../../../../../x", b"/", b"", b"../../x", b"l/x"]
 # words that spell a path behind a colon, and words that spell none

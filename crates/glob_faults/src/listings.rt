@@ -166,6 +166,7 @@ fn push_entry(bytes: &mut Vec<u8>, mode: u32, path: &[u8]) -> Result<(), AllocEr
 /// A question: what is listed, what is to be written, and how many folders are asked for their names.
 #[derive(Clone, Copy, Drop)]
 struct Question {
+    tree: Tree,
     told: &'static [u8],
     chosen: Chosen,
     folders: Folders,
@@ -177,6 +178,7 @@ struct Question {
 
 /// What isn't ignored, where nothing is tracked, and each folder is gone into.
 const PLAIN: Question = Question {
+    tree: TREE,
     told: b".",
     chosen: Chosen::Unignored,
     folders: Folders::Entered,
@@ -191,7 +193,7 @@ fn ask(rt: &(impl Abort + AllocGlobal), question: Question, row: usize) -> Resul
     let alloc = rt.alloc();
     let mut source = InMemory {
         alloc,
-        tree: TREE,
+        tree: question.tree,
         asked: 0,
     };
     let standpoint = Standpoint {
@@ -344,6 +346,54 @@ fn files_are_listed_beside_an_index(rt: HostRuntime) -> Result<(), Fail> {
             chosen: Chosen::All,
             wanted: b".gitignore\nb.c\nb/.gitignore\nb/y\nb/z\nown/x\ny\n",
             asked: 3,
+            ..PLAIN
+        },
+    ];
+    for (row, question) in rows.into_iter().enumerate() {
+        ask(&rt, question, row)?;
+    }
+    Ok(())
+}
+
+/// Folders with and without files, of which some are ignored.
+const FOLDERS: Tree = &[
+    (b"d", Thing::Folder),
+    (b"d/e", Thing::Folder),
+    (b"d/e/x", Thing::File(b"")),
+    (b"f", Thing::Folder),
+    (b"g", Thing::Folder),
+    (b"g/x.o", Thing::File(b"")),
+    (b"h", Thing::Folder),
+    (b"h/a", Thing::File(b"")),
+    (b"h/x.o", Thing::File(b"")),
+    (b"k.o", Thing::Folder),
+    (b"k.o/y", Thing::File(b"")),
+    (b".gitignore", Thing::File(b"*.o\n")),
+];
+
+#[test]
+fn filled_folders_are_listed(rt: HostRuntime) -> Result<(), Fail> {
+    let rows: [Question; 3] = [
+        Question {
+            tree: FOLDERS,
+            folders: Folders::Named,
+            wanted: b".gitignore\nd/\nf/\ng/\nh/\n",
+            asked: 1,
+            ..PLAIN
+        },
+        Question {
+            tree: FOLDERS,
+            folders: Folders::NamedIfFilled,
+            wanted: b".gitignore\nd/\nh/\n",
+            asked: 6,
+            ..PLAIN
+        },
+        Question {
+            tree: FOLDERS,
+            chosen: Chosen::Ignored,
+            folders: Folders::NamedIfFilled,
+            wanted: b"g/\nk.o/\n",
+            asked: 9,
             ..PLAIN
         },
     ];

@@ -46,7 +46,7 @@ chosen_by flags = if flags.ignored then choices.Ignored else (if flags.exclude_s
 
 -- how folders are told that have no tracked path
 abbrev pub folders_by : FilesFlags → Folders
-folders_by flags = if flags.directory then folders.Named else folders.Entered
+folders_by flags = if flags.directory then (if flags.no_empty_directory then folders.NamedIfFilled else folders.Named) else folders.Entered
 
 -- how entries of a configuration are shown, by the options of `config`
 abbrev pub manner_by : ConfigFlags → Manner

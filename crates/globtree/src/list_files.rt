@@ -42,8 +42,8 @@ pub(crate) fn list_files<R: Files + Env + Clock + Eprint + AllocGlobal + Clone +
     if let Some(message) = flags.disagreement() {
         bail!("{message}");
     }
-    if names_folders_otherwise(flags) {
-        bail!("--directory isn't known with -i, nor with --no-empty-directory");
+    if tells_folders_twice(flags) {
+        bail!("--directory isn't known with -i, unless with --no-empty-directory");
     }
     let fronts = fronts_of(rt, alloc, options, index_by(flags))?;
     if counts_patterns(flags) && fronts.excludes_are_elsewhere {
@@ -70,9 +70,9 @@ fn counts_patterns(flags: FilesFlags) -> bool
     flags.exclude_standard || flags.are_usual()
 }
 
-/// Whether folders are to be told by their names as no listing knows it.
-fn names_folders_otherwise(flags: FilesFlags) -> bool {
-    flags.others && flags.directory && (flags.ignored || flags.no_empty_directory)
+/// Whether folders are to be told by their names and gone into, as no listing knows it.
+fn tells_folders_twice(flags: FilesFlags) -> bool {
+    flags.others && flags.directory && flags.ignored && !flags.no_empty_directory
 }
 
 /// What is taken from the index: which paths are tracked, unless all files are listed.
@@ -139,10 +139,13 @@ fn chosen_by(flags: FilesFlags) -> Chosen
 fn folders_by(flags: FilesFlags) -> Folders
     ensures { result ≡ folders_by flags }
 {
-    if flags.directory {
-        Folders::Named
+    if !flags.directory {
+        return Folders::Entered;
+    }
+    if flags.no_empty_directory {
+        Folders::NamedIfFilled
     } else {
-        Folders::Entered
+        Folders::Named
     }
 }
 

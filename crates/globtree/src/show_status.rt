@@ -40,6 +40,9 @@ pub(crate) fn show_status<R: Files + Env + Clock + Eprint + AllocGlobal + Clone 
     if let Some(message) = flags.disagreement(operands.len()) {
         bail!("{message}");
     }
+    if let Some(message) = unknown(flags) {
+        bail!("{message}");
+    }
     let fronts = fronts_of(rt, alloc, options, IndexUse::Paths)?;
     if !flags.tells_untracked() {
         return Ok(ANSWERED);
@@ -54,6 +57,19 @@ pub(crate) fn show_status<R: Files + Env + Clock + Eprint + AllocGlobal + Clone 
     run_listing(rt, alloc, listing, &fronts, ".", shows_progress, output)
 }
 
+/// What isn't known of these; `None` where all is.
+fn unknown(flags: StatusFlags) -> Option<&'static str> {
+    match (flags.untracked, flags.ignored) {
+        (UntrackedFiles::Unsaid, _) => {
+            Some("status.showUntrackedFiles isn't read: give -unormal, -uall or -uno")
+        }
+        (UntrackedFiles::Normal, IgnoredFiles::Traditional) => {
+            Some("--ignored isn't known with -unormal: give --ignored=matching or -uall")
+        }
+        _ => None,
+    }
+}
+
 /// What is asked of a listing from the top of the files that this mark stands before.
 fn listing_of(
     alloc: Global,
@@ -64,17 +80,11 @@ fn listing_of(
 ) -> Result<Listing>
     ensures { IfOk result (λ listing. (listing.mark ≡ mark) × (listing.form ≡ form_by flags.nul fronts.now.quoting) × IsAtTop listing.standpoint) }
 {
-    if matches!(flags.untracked, UntrackedFiles::Normal) {
-        bail!("-unormal isn't known: give -uall");
-    }
     let chosen = match mark {
         Mark::Ignored => Chosen::Ignored,
         Mark::Untracked | Mark::Bare => Chosen::Unignored,
     };
-    let folders = match flags.ignored {
-        IgnoredFiles::Matching => Folders::NamedIfIgnored,
-        IgnoredFiles::Traditional | IgnoredFiles::No => Folders::Entered,
-    };
+    let folders = folders_by(flags, mark);
     Ok(Listing {
         standpoint: Standpoint {
             top: Vec::new(alloc),
@@ -88,4 +98,13 @@ fn listing_of(
         fronts: copies_of(alloc, &fronts.lists)?,
         case: case_of(options, fronts.folds),
     })
+}
+
+/// How folders are told that have no tracked path, where this mark stands before them.
+fn folders_by(flags: StatusFlags, mark: Mark) -> Folders {
+    match (flags.untracked, mark, flags.ignored) {
+        (_, Mark::Ignored, IgnoredFiles::Matching) => Folders::NamedIfIgnored,
+        (UntrackedFiles::Normal, _, _) => Folders::NamedIfFilled,
+        (_, _, _) => Folders::Entered,
+    }
 }

@@ -14,6 +14,7 @@ pub mod AttributeTold
 pub mod AttributeWalks
 pub mod BeginLemmas
 pub mod EntryLemmas
+pub mod FillingLemmas
 pub mod FindingLemmas
 pub mod IgnoreLemmas
 pub mod IgnoringLemmas

@@ -24,9 +24,9 @@ use Rattle.tree_answers.specs.declared.form.Form.{Form}
 use Rattle.tree_answers.specs.declared.form.Form.TheVariants.{Lines, Records}
 use Rattle.tree_answers.specs.Lines.{behind, name_text}
 use Rattle.tree_commands.specs.declared.files.choosing.Chosen.{Chosen}
-use Rattle.tree_commands.specs.declared.files.choosing.Chosen.TheVariants.{Ignored, Unignored}
+use Rattle.tree_commands.specs.declared.files.choosing.Chosen.TheVariants.{All, Ignored, Unignored}
 use Rattle.tree_commands.specs.declared.files.choosing.Folders.{Folders}
-use Rattle.tree_commands.specs.declared.files.choosing.Folders.TheVariants.{Entered, Named, NamedIfIgnored}
+use Rattle.tree_commands.specs.declared.files.choosing.Folders.TheVariants.{Entered, Named, NamedIfFilled, NamedIfIgnored}
 use Rattle.tree_commands.specs.declared.files.mark.Mark.{Mark}
 use Rattle.tree_commands.specs.declared.files.mark.Mark.TheVariants as marks
 use Rattle.tree_commands.specs.declared.files.source.EntryKind.{EntryKind}
@@ -106,6 +106,7 @@ pub record IsEntryOf (basis : Basis) (tree : FileTree) (folder : Folder) (found 
 abbrev pub IsNamed : Folders → Chosen → Type 0 → Type 0
 IsNamed Entered chosen Ignores = ⊥
 IsNamed Named chosen Ignores = Unit {0}
+IsNamed NamedIfFilled chosen Ignores = Unit {0}
 IsNamed NamedIfIgnored chosen Ignores = (chosen ≡ Ignored) × Ignores
 
 -- a folder below the top isn't gone into: no tracked path lies in it, and it is a repository of its own, or told by its name
@@ -148,7 +149,8 @@ pub record IsReached (standpoint : Standpoint) (basis : Basis) (tree : FileTree)
   pub met : IsMet basis tree start path
 
 -- A path that is met is listed: that of a file or a link, or of a folder that isn't gone into, unless a tracked file has its very name, in
--- which case always counts. It is ignored, where the ignored ones are chosen.
+-- which case always counts. It is ignored, where the ignored ones are chosen; but of a folder that is told only if it is filled, what lies
+-- in it decides.
 pub record IsListedFile (terms : Terms) (Ignores : List ℕ → Bool → Type 0) (path : List ℕ) : Type 0 where
   pub some : path ≢ []
   pub whole : ¬ EndsInSlash path
@@ -159,13 +161,49 @@ pub record IsListedFolder (terms : Terms) (tree : FileTree) (Ignores : List ℕ 
   pub start : path ≡ start_of folder
   pub shut : IsShut terms tree folder (Ignores folder true)
   pub free : ¬ IsTracked terms.tracked.entries folder
-  pub chosen : terms.chosen ≡ Ignored → Ignores folder true
+  pub chosen : terms.chosen ≡ Ignored → terms.folders ≢ NamedIfFilled → Ignores folder true
 
 abbrev pub IsListedBy : Terms → FileTree → (List ℕ → Bool → Type 0) → List ℕ → Type 0
 IsListedBy terms tree Ignores path = IsListedFile terms Ignores path ⊎ IsListedFolder terms tree Ignores path
 
 abbrev pub IsListed : Basis → FileTree → List ℕ → Type 0
 IsListed basis tree path = IsListedBy basis.terms tree (IsIgnoredAt basis tree) path
+
+-- the basis of a listing that goes into all folders, of the paths that are chosen so
+abbrev pub entering : Chosen → Basis → Basis
+entering chosen basis = record { fronts = basis.fronts; terms = record { case = basis.terms.case; chosen = chosen; folders = Entered; tracked = basis.terms.tracked } }
+
+-- such a listing that begins at a folder lists something
+pub record HasListed (chosen : Chosen) (basis : Basis) (tree : FileTree) (folder : Folder) : Type 0 where
+  pub path : List ℕ
+  pub met : IsMet (entering chosen basis) tree (start_of folder) path
+  pub listed : IsListed (entering chosen basis) tree path
+
+-- A folder is filled: one of the paths that are chosen does. Where those are the ignored ones, all that lies in the folder is ignored besides.
+abbrev pub IsFilledBy : Chosen → Basis → FileTree → Folder → Type 0
+IsFilledBy All basis tree folder = HasListed All basis tree folder
+IsFilledBy Unignored basis tree folder = HasListed Unignored basis tree folder
+IsFilledBy Ignored basis tree folder = HasListed Ignored basis tree folder × (IsIgnoredAt basis tree folder true ⊎ (¬ HasListed Unignored basis tree folder))
+
+abbrev pub IsFilled : Basis → FileTree → Folder → Type 0
+IsFilled basis tree folder = IsFilledBy basis.terms.chosen basis tree folder
+
+-- a path that is listed is told; but where folders are told only if they are filled, that of a folder only if it is
+pub record IsTold (basis : Basis) (tree : FileTree) (path : List ℕ) : Type 0 where
+  pub listed : IsListed basis tree path
+  pub filled : basis.terms.folders ≡ NamedIfFilled → (folder : Folder) → path ≡ start_of folder → IsFilled basis tree folder
+
+-- A folder is searched, to know whether the one is filled whose path is listed: a listing from there that goes into all folders meets it.
+pub record IsSearched (basis : Basis) (tree : FileTree) (path : List ℕ) (folder : Folder) : Type 0 where
+  pub asks : basis.terms.folders ≡ NamedIfFilled
+  pub chosen : Chosen
+  pub met : IsMet (entering chosen basis) tree path (start_of folder)
+
+-- a folder may be asked for its names that is reached, or searched from a path that is
+pub record MayAsk (Reaches : List ℕ → Type 0) (basis : Basis) (tree : FileTree) (folder : Folder) : Type 0 where
+  pub path : List ℕ
+  pub reached : Reaches path
+  pub leads : (path ≡ start_of folder) ⊎ IsSearched basis tree path folder
 
 -- a path comes before another one, by its bytes
 abbrev pub ComesBefore : List ℕ → List ℕ → Type 0

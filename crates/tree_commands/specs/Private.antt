@@ -4,6 +4,7 @@ pub mod AttributeAnswers
 pub mod AttributeRuns
 pub mod AttributeWays
 pub mod Faults
+pub mod Filling
 pub mod Finding
 pub mod FoldedPaths
 pub mod Ignoring

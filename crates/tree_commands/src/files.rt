@@ -12,7 +12,7 @@ ghost use Rattle.told_paths.specs.Paths.{names_folder, parts_of};
 ghost use Rattle.told_paths.specs.Standpoints.{led};
 ghost use Rattle.tree_commands.specs.declared.files.fault.FilesFault.TheVariants as faults;
 ghost use Rattle.tree_commands.specs.FileTrees.{FileTree, StaysKnown};
-ghost use Rattle.tree_commands.specs.Files.{ComesBefore, IsListed, IsMet, IsReached, path_line};
+ghost use Rattle.tree_commands.specs.Files.{ComesBefore, IsMet, IsReached, IsTold, MayAsk, path_line};
 ghost use Rattle.tree_commands.specs.Listings.{asked_basis};
 ghost use Rattle.tree_commands.specs.Private.ListingFaults.{is_of_start};
 ghost use Rattle.tree_commands.specs.Private.Listing.{WritesOut, seen_lists, terms_of, with_line};
@@ -22,6 +22,7 @@ mod asking;
 pub mod choosing;
 mod entries;
 pub mod fault;
+mod filling;
 mod ignoring;
 mod lister;
 mod looking_up;
@@ -84,7 +85,7 @@ pub struct Listing {
 /// Listed are files and links, and, with a slash at the end, the folders that aren't gone into: those of repositories of their own in which no
 /// tracked path lies, and those that are told by their names, as `folders` of the listing says. A submodule's folder is neither. Where the paths
 /// that aren't ignored are chosen, an ignored folder isn't gone into either. What isn't gone into is asked for its names only to know whether it
-/// is a repository, and an ignored folder isn't. The paths come in the order of their bytes, each once.
+/// is a repository, or is filled where that counts, and an ignored folder isn't. The paths come in the order of their bytes, each once.
 ///
 /// `tracked` is the index; an empty one tracks nothing.
 ///
@@ -104,15 +105,15 @@ pub fn run_files<S: FileSource, W: Write>(
     ensures lists { OnOk result ((paths : List (List ℕ)) × AllPairs ComesBefore paths
         × Appends (W.contents (inner writer.old)) (W.contents (inner writer.new)) (flat_map (path_line listing.mark listing.standpoint listing.form) paths)
         × ((tree : FileTree) → S.shows source.old tree → (path : List ℕ) →
-        Contains paths path ↔ (IsReached listing.standpoint (asked_basis listing tracked.now) tree told.now path × IsListed (asked_basis listing tracked.now) tree path))) }
+        Contains paths path ↔ (IsReached listing.standpoint (asked_basis listing tracked.now) tree told.now path × IsTold (asked_basis listing tracked.now) tree path))) }
     // After a fault that is none of the writer's, a front of some of these lines was.
     ensures front { OnErr result (has_failed writer.new ≡ false → (paths : List (List ℕ)) × AllPairs ComesBefore paths
         × AppendsFront (W.contents (inner writer.old)) (W.contents (inner writer.new)) (flat_map (path_line listing.mark listing.standpoint listing.form) paths)
         × ((tree : FileTree) → S.shows source.old tree → (path : List ℕ) →
-        Contains paths path → (IsReached listing.standpoint (asked_basis listing tracked.now) tree told.now path × IsListed (asked_basis listing tracked.now) tree path))) }
-    // Each folder that the source is asked for its names is reached.
+        Contains paths path → (IsReached listing.standpoint (asked_basis listing tracked.now) tree told.now path × IsTold (asked_basis listing tracked.now) tree path))) }
+    // Each folder that the source is asked for its names is reached, or lies in one that is told only if it is filled.
     ensures asks { GivesOnly (λ folder. (tree : FileTree) → S.shows source.old tree →
-        IsReached listing.standpoint (asked_basis listing tracked.now) tree told.now (start_of folder)) (S.asked source.old) (S.asked source.new) }
+        MayAsk (IsReached listing.standpoint (asked_basis listing tracked.now) tree told.now) (asked_basis listing tracked.now) tree folder) (S.asked source.old) (S.asked source.new) }
     ensures stays { StaysKnown S.shows source.old source.new }
     ensures base { IsErrOf result faults.Base → ¬ BasesAreFolders (map (entry_list_of {V = Unit {0}} (λ _. tt)) listing.fronts.items) }
     ensures empty { IsErrOf result faults.Empty → told.now ≡ [] }
@@ -170,7 +171,7 @@ fn write_listed<S: FileSource, W: Write>(
     ensures front { OnErr result (has_failed writer.new ≡ false →
         WritesFront (path_line lines.old.mark lines.old.standpoint lines.old.form) (S.shows source.old) (terms_of lister.old.on_way.terms) (beginning_of lister.old) (W.contents (inner writer.old)) (W.contents (inner writer.new))) }
     ensures asks { GivesOnly (λ folder. OfKnown (S.shows source.old) (terms_of lister.old.on_way.terms) (beginning_of lister.old)
-        (λ basis tree start. IsMet basis tree start (start_of folder))) (S.asked source.old) (S.asked source.new) }
+        (λ basis tree start. MayAsk (IsMet basis tree start) basis tree folder)) (S.asked source.old) (S.asked source.new) }
     ensures stays { StaysKnown S.shows source.old source.new }
     ensures begun { IfErr result (λ fault. is_of_start fault ≡ false) }
 {
@@ -178,7 +179,7 @@ fn write_listed<S: FileSource, W: Write>(
         let Some(next) = lister.pending.pop() else {
             return as_written(lines.write_rest(writer));
         };
-        let listed = lister.visit(source, next)?;
+        let listed = lister.tell(source, next)?;
         write_line(lines, listed, writer)?;
     }
     Err(FilesFault::Endless)

@@ -35,10 +35,11 @@ pub record GoTogether (flags : StatusFlags) (operand_count : ℕ) : Type 0 where
 
 -- no option
 abbrev pub none : StatusFlags
-none = record { untracked = untracked.Normal; ignored = ignored.No; nul = false }
+none = record { untracked = untracked.Unsaid; ignored = ignored.No; nul = false }
 
 -- files are told that aren't tracked
 abbrev pub is_any_untracked : UntrackedFiles → Bool
+is_any_untracked untracked.Unsaid = true
 is_any_untracked untracked.No = false
 is_any_untracked untracked.Normal = true
 is_any_untracked untracked.All = true

@@ -7,9 +7,11 @@ use crate::flags::CommandFlags;
 /// Which files are told that aren't tracked.
 #[derive(Clone, Copy, Debug, PartialEq, Eq)]
 pub enum UntrackedFiles {
+    /// No option says which.
+    Unsaid,
     /// `-uno`: none.
     No,
-    /// `-unormal`: those in folders with tracked files; other folders by their names.
+    /// `-unormal`: those in folders with tracked files; other folders by their names, if anything to tell lies in them.
     Normal,
     /// `-uall`: each.
     All,
@@ -43,7 +45,7 @@ impl StatusFlags {
         ensures { result ≡ none }
     {
         StatusFlags {
-            untracked: UntrackedFiles::Normal,
+            untracked: UntrackedFiles::Unsaid,
             ignored: IgnoredFiles::No,
             nul: false,
         }

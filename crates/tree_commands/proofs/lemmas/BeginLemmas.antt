@@ -20,7 +20,7 @@ use Rattle.tree_commands.specs.declared.files.pending.Pending.{Pending}
 use Rattle.tree_commands.specs.declared.files.source.EntryKind.{EntryKind}
 use Rattle.tree_commands.specs.declared.files.source.EntryKind.TheVariants as kinds
 use Rattle.tree_commands.specs.FileTrees.{FileTree}
-use Rattle.tree_commands.specs.Files.{Basis, BeginsAt, BeginsBelow, ComesBefore, IsBelowIgnored, IsHidden, IsListed, IsMet, IsReached, begins, is_folder, lists_to}
+use Rattle.tree_commands.specs.Files.{Basis, BeginsAt, BeginsBelow, ComesBefore, IsBelowIgnored, IsHidden, IsListed, IsMet, IsReached, IsSearched, IsTold, MayAsk, begins, entering, is_folder, lists_to}
 use Rattle.tree_commands.specs.Ignoring.{IsIgnored}
 use Rattle.tree_commands.specs.Private.Listing.{AreAscending, Begins, BeginsSomewhere, IsClear, IsLevel, LeavesOut, MayVisit, PutsLists, PutsListsTo, Stands, StandsAtStart, path_of}
 use Rattle.tree_commands.specs.Private.UnderWay.{IsHalfway, OfKnown, WritesAll, WritesFront}
@@ -52,13 +52,22 @@ module _ (basis : Basis) (tree : FileTree) where
   listed_is_more path (inl file) is = file.whole (record { front = []; joined = is })
   listed_is_more path (inr at) is = slash_is_no_start at.folder (sym is ∙ at.start)
 
+  told_is_more : (path : List ℕ) → IsTold basis tree path → path ≢ slash ∷ []
+  told_is_more path told = listed_is_more path told.listed
+
   nothing_to_list : (lists : List (EntryList (Unit {0}))) → IsHalfway basis tree (slash ∷ []) [] [] lists
   nothing_to_list lists = record {
     sound = λ path never. absurd never;
     met = λ next never. absurd never;
     standing = λ next never. absurd never;
-    complete = λ path met leaf. absurd (listed_is_more path leaf (slash_meets_itself path met));
+    complete = λ path met leaf. absurd (told_is_more path leaf (slash_meets_itself path met));
   }
+
+-- a folder that is asked for its names is led to from another path
+leads_from_more : (basis : Basis) (tree : FileTree) (path : List ℕ) (folder : Folder) → (path ≡ start_of folder) ⊎ IsSearched basis tree path folder → path ≢ slash ∷ []
+leads_from_more basis tree path folder (inl is) one = slash_is_no_start folder (sym one ∙ is)
+leads_from_more basis tree path folder (inr searched) one =
+    slash_is_no_start folder (sym (slash_meets_itself (entering searched.chosen basis) tree (start_of folder) (subst (λ p. IsMet (entering searched.chosen basis) tree p (start_of folder)) one searched.met)))
 
 -- ---- what is pending at the beginning
 
@@ -112,24 +121,29 @@ module _ (standpoint : Standpoint) (basis : Basis) (told top : List ℕ) (is_tol
     starts pending (inr some) = subst (λ ps. Starts standpoint basis tree told ps lists) (sym some.one) (starts_somewhere pending some)
 
   module _ (pending : List Pending) (at : Begins Known basis top is_told lists pending) (line : List ℕ → List ℕ) (Now : FileTree → Type 0) (stays : (tree : FileTree) → Known tree → Now tree) (old new : Option (List ℕ)) where
-    pub all_is_listed : (all : WritesAll line Now basis.terms (record { pending = pending; lists = lists }) old new) → (tree : FileTree) → Known tree → (path : List ℕ) → Contains all.listed path ↔ (IsReached standpoint basis tree told path × IsListed basis tree path)
+    pub all_is_listed : (all : WritesAll line Now basis.terms (record { pending = pending; lists = lists }) old new) → (tree : FileTree) → Known tree → (path : List ℕ) → Contains all.listed path ↔ (IsReached standpoint basis tree told path × IsTold basis tree path)
     all_is_listed all tree known path =
         let from = starts tree known pending at in
         let exact = all.exact tree (stays tree known) basis refl from.start from.halfway path in (
-          (λ there. let it = exact.0 (among_contained all.listed path there) in (from.reached path (listed_is_more basis tree path it.1) it.0, it.1)),
+          (λ there. let it = exact.0 (among_contained all.listed path there) in (from.reached path (told_is_more basis tree path it.1) it.0, it.1)),
           (λ it. contains_among all.listed path (exact.1 (from.met path it.0, it.1))),
         )
 
-    pub some_is_listed : (front : WritesFront line Now basis.terms (record { pending = pending; lists = lists }) old new) → (tree : FileTree) → Known tree → (path : List ℕ) → Contains front.listed path → (IsReached standpoint basis tree told path × IsListed basis tree path)
+    pub some_is_listed : (front : WritesFront line Now basis.terms (record { pending = pending; lists = lists }) old new) → (tree : FileTree) → Known tree → (path : List ℕ) → Contains front.listed path → (IsReached standpoint basis tree told path × IsTold basis tree path)
     some_is_listed front tree known path there =
         let from = starts tree known pending at in
         let it = front.sound tree (stays tree known) basis refl from.start from.halfway path (among_contained front.listed path there) in
-        (from.reached path (listed_is_more basis tree path it.1) it.0, it.1)
+        (from.reached path (told_is_more basis tree path it.1) it.0, it.1)
 
-    pub folder_is_reached : (folder : Folder) → OfKnown Now basis.terms (record { pending = pending; lists = lists }) (λ given there start. IsMet given there start (start_of folder)) → (tree : FileTree) → Known tree → IsReached standpoint basis tree told (start_of folder)
-    folder_is_reached folder met tree known =
+    pub folder_is_reached : (folder : Folder) → OfKnown Now basis.terms (record { pending = pending; lists = lists }) (λ given there start. MayAsk (IsMet given there start) given there folder) → (tree : FileTree) → Known tree → MayAsk (IsReached standpoint basis tree told) basis tree folder
+    folder_is_reached folder asked tree known =
         let from = starts tree known pending at in
-        from.reached (start_of folder) (λ is. slash_is_no_start folder (sym is)) (met tree (stays tree known) basis refl from.start from.halfway)
+        let it = asked tree (stays tree known) basis refl from.start from.halfway in
+        record {
+          path = it.path;
+          reached = from.reached it.path (leads_from_more basis tree it.path folder it.leads) it.reached;
+          leads = it.leads;
+        }
 
 -- ---- the path at which it begins
 

@@ -11,7 +11,7 @@ use Rattle.glob_trees.proofs.lemmas.Folders.{above_above, as_long_is_same, short
 use Rattle.tree_commands.specs.declared.files.choosing.Chosen.{Chosen}
 use Rattle.tree_commands.specs.declared.files.choosing.Chosen.TheVariants.{All, Ignored, Unignored}
 use Rattle.tree_commands.specs.declared.files.choosing.Folders.{Folders}
-use Rattle.tree_commands.specs.declared.files.choosing.Folders.TheVariants.{Entered, Named, NamedIfIgnored}
+use Rattle.tree_commands.specs.declared.files.choosing.Folders.TheVariants.{Entered, Named, NamedIfFilled, NamedIfIgnored}
 use Rattle.tree_commands.specs.declared.files.pending.Pending.{Pending}
 use Rattle.tree_commands.specs.FileTrees.{FileTree}
 use Rattle.tree_commands.specs.Files.{Basis, IsBelowIgnored, IsIgnoredAt, IsListedBy, IsListedFile, IsListedFolder, IsNamed, IsShut, Terms, lists_to}
@@ -78,6 +78,7 @@ module _ (basis : Basis) (tree : FileTree) (folder : Folder) (name : List ℕ) (
 named_as : (terms : Terms) (A B : Type 0) → (terms.chosen ≡ Ignored → A → B) → (folders : Folders) → IsNamed folders terms.chosen A → IsNamed folders terms.chosen B
 named_as terms A B turned Entered named = named
 named_as terms A B turned Named named = tt
+named_as terms A B turned NamedIfFilled named = tt
 named_as terms A B turned NamedIfIgnored named = (named.0, turned named.0 named.1)
 
 module _ (terms : Terms) (tree : FileTree) where
@@ -105,7 +106,7 @@ module _ (terms : Terms) (tree : FileTree) where
       start = at.start;
       shut = shut_as at.folder (A at.folder true) (B at.folder true) (λ told. turned told at.folder true (marked at.folder at.start (let shut = at.shut in shut.below))) at.shut;
       free = at.free;
-      chosen = λ told. turned told at.folder true (marked at.folder at.start (let shut = at.shut in shut.below)) (at.chosen told);
+      chosen = λ told other. turned told at.folder true (marked at.folder at.start (let shut = at.shut in shut.below)) (at.chosen told other);
     })
 
     pub end_as : IsEnd terms tree A path → IsEnd terms tree B path

@@ -11,7 +11,7 @@ use Rattle.tree_commands.specs.declared.files.choosing.Chosen.{Chosen}
 use Rattle.tree_commands.specs.declared.files.choosing.Chosen.TheVariants.{Unignored}
 use Rattle.tree_commands.specs.declared.files.pending.Pending.{Pending}
 use Rattle.tree_commands.specs.FileTrees.{FileTree}
-use Rattle.tree_commands.specs.Files.{Basis, ComesBefore, IsEntryOf, IsFound, IsListed, IsMet, Terms, is_folder, lies, lists_to}
+use Rattle.tree_commands.specs.Files.{Basis, ComesBefore, IsEntryOf, IsFound, IsMet, IsTold, Terms, is_folder, lies, lists_to}
 use Rattle.tree_commands.specs.Ignoring.{IsIgnored}
 use Rattle.tree_commands.specs.Private.Listing.{Among, AreAscending, AreDescending, EndsInName, Enters, FlagsFolder, IsLevel, LeadsOn, MayVisit, Stands, path_of, reads_list}
 use Rattle.tree_commands.specs.Private.UnderWay.{Above, IsHalfway, IsStack, IsUnderWay, Precedes, count_of}
@@ -112,6 +112,13 @@ module _ (terms : Terms) (listed : List (List ℕ)) (pending : List Pending) (ne
   pub count_next : next.list_count ≤ length lists
   count_next = under.counts next is_next
 
+  -- no other path has more lists
+  pub count_most : (other : Pending) → Among (pending ++ next ∷ []) other → other.list_count ≤ next.list_count
+  count_most other among = ⊎_elim
+      (λ (old : Among pending other). let above = stack_top path_of count_of pending next under.stacked other old in above.counts)
+      (λ (one : Among (next ∷ []) other). ⊎_elim (λ (is : next ≡ other). subst (λ (n : Pending). n.list_count ≤ next.list_count) is (omega arith)) (λ (never : ⊥). absurd never) one)
+      (among_cases pending (next ∷ []) other among)
+
   -- or its folder was entered
   module _ (folder : Folder) (is_start : path_of next ≡ start_of folder) (Known : FileTree → Type 0) (is_ignored : Bool) (new_lists : List (EntryList (Unit {0}))) (new : List Pending) (enters : Enters Known terms folder next.list_count is_ignored lists new_lists pending new) where
     -- what is found in it
@@ -197,12 +204,12 @@ module _ (basis : Basis) (tree : FileTree) (start : List ℕ) (listed : List (Li
   stays_in : (other : Pending) → Among pending other → Among (pending ++ next ∷ []) other
   stays_in other among = among_left pending (next ∷ []) other among
 
-  pub halfway_listed : IsListed basis tree (path_of next) → IsHalfway basis tree start (listed ++ path_of next ∷ []) pending lists
+  pub halfway_listed : IsTold basis tree (path_of next) → IsHalfway basis tree start (listed ++ path_of next ∷ []) pending lists
   halfway_listed leaf = record {
     sound = λ path among. ⊎_elim
         (λ (old : Among listed path). halfway.sound path old)
         (λ (one : Among (path_of next ∷ []) path). ⊎_elim
-        (λ (is : path_of next ≡ path). subst (λ p. IsMet basis tree start p × IsListed basis tree p) is (halfway.met next (among_last pending next), leaf))
+        (λ (is : path_of next ≡ path). subst (λ p. IsMet basis tree start p × IsTold basis tree p) is (halfway.met next (among_last pending next), leaf))
         (λ (never : ⊥). absurd never)
         one)
         (among_cases listed (path_of next ∷ []) path among);
@@ -214,7 +221,7 @@ module _ (basis : Basis) (tree : FileTree) (start : List ℕ) (listed : List (Li
         (λ (waiting : Among pending from.0). inr (from.0, waiting, from.2))
         (λ (one : Among (next ∷ []) from.0). ⊎_elim
         (λ (is : next ≡ from.0).
-        let same : path ≡ path_of next = end_meets_itself basis tree (subst (λ (p : Pending). IsMet basis tree (path_of p) path) (sym is) from.2) (ends_listed basis tree (path_of next) leaf) in
+        let same : path ≡ path_of next = end_meets_itself basis tree (subst (λ (p : Pending). IsMet basis tree (path_of p) path) (sym is) from.2) (ends_listed basis tree (path_of next) leaf.listed) in
         inl (subst (Among (listed ++ path_of next ∷ [])) (sym same) (among_last listed (path_of next))))
         (λ (never : ⊥). absurd never)
         one)
@@ -223,7 +230,7 @@ module _ (basis : Basis) (tree : FileTree) (start : List ℕ) (listed : List (Li
   }
 
   -- or it was passed over
-  pub halfway_passed : IsEndOf basis tree (path_of next) → ¬ IsListed basis tree (path_of next) → IsHalfway basis tree start listed pending lists
+  pub halfway_passed : IsEndOf basis tree (path_of next) → ¬ IsTold basis tree (path_of next) → IsHalfway basis tree start listed pending lists
   halfway_passed ends unlisted = record {
     sound = halfway.sound;
     met = λ other among. halfway.met other (stays_in other among);
@@ -235,7 +242,7 @@ module _ (basis : Basis) (tree : FileTree) (start : List ℕ) (listed : List (Li
         (λ (one : Among (next ∷ []) from.0). ⊎_elim
         (λ (is : next ≡ from.0).
         let same : path ≡ path_of next = end_meets_itself basis tree (subst (λ (p : Pending). IsMet basis tree (path_of p) path) (sym is) from.2) ends in
-        absurd (unlisted (subst (IsListed basis tree) same shut)))
+        absurd (unlisted (subst (IsTold basis tree) same shut)))
         (λ (never : ⊥). absurd never)
         one)
         (among_cases pending (next ∷ []) from.0 from.1))
@@ -338,7 +345,7 @@ module _ (basis : Basis) (tree : FileTree) (start : List ℕ) (listed : List (Li
           (λ (one : Among (next ∷ []) from.0). ⊎_elim
           (λ (is : next ≡ from.0).
           let met_here : IsMet basis tree (start_of folder) path = subst (λ s. IsMet basis tree s path) is_start (subst (λ (p : Pending). IsMet basis tree (path_of p) path) (sym is) from.2) in
-          let first = meets_entry basis tree folder path may met_here (ends_listed basis tree path shut) in
+          let first = meets_entry basis tree folder path may met_here (ends_listed basis tree path shut.listed) in
           let waits_for = entry_waits first.0 first.1 in
           inr (waits_for.0, among_right pending enters.puts.batch waits_for.0 waits_for.1, subst (λ s. IsMet basis tree s path) (sym waits_for.2) first.2))
           (λ (never : ⊥). absurd never)

@@ -1,22 +1,25 @@
 -- The lines of a listing, as they are written.
-use Rattle.std.proofs.Common.{◌≡◌, ◌≢◌, ◌⊎◌, inl, inr, ⊎_elim, ℕ, Bool, List, [], ◌∷◌, ◌++◌, length, take, refl, sym, ap, subst, ◌∙◌, append_assoc, append-nil}
+use Rattle.std.proofs.Common.{◌≡◌, ◌≢◌, ◌⊎◌, inl, inr, ⊎_elim, ℕ, ◌≤◌, Bool, List, [], ◌∷◌, ◌++◌, length, take, refl, sym, ap, subst, ◌∙◌, append_assoc, append-nil, arith}
 use Rattle.std.specs.Prelude.{◌↔◌, IsTrue, Option, None, Some}
 use Rattle.std.specs.Io.KnownBytes.{Appends}
 use Rattle.std.specs.List.{flat_map}
-use Rattle.std.proofs.lemmas.List.{flat_map_more, take_at}
+use Rattle.std.proofs.lemmas.List.{flat_map_more, length-take-le, take-take, take_at}
 use Rattle.gix_glob.specs.Bytes.{EndsInSlash}
 use Rattle.gix_glob.specs.EntryLists.{EntryList}
 use Rattle.glob_lines.specs.Transfers.{AppendsFront}
-use Rattle.glob_trees.specs.Ways.{Folder, start_of}
+use Rattle.glob_trees.specs.Ways.{Folder, GivesOnly, start_of}
 use Rattle.tree_commands.specs.declared.files.choosing.Chosen.TheVariants.{Ignored}
 use Rattle.tree_commands.specs.declared.files.pending.Pending.{Pending}
 use Rattle.tree_commands.specs.FileTrees.{FileTree}
-use Rattle.tree_commands.specs.Files.{Basis, IsIgnoredAt, IsListed, IsListedBy, IsMet, IsShut, Terms}
-use Rattle.tree_commands.specs.Private.Listing.{Among, Enters, FlagsFolder, IsEnd, IsEntered, IsIgnoredNext, IsMarked, IsPassedOver, IsToList, Visits, WritesOut, path_of, with_line}
+use Rattle.tree_commands.specs.Files.{Basis, IsIgnoredAt, IsListed, IsListedBy, IsMet, IsSearched, IsShut, IsTold, MayAsk, Terms}
+use Rattle.tree_commands.specs.Private.Filling.{IsToTell, IsUnfilled, OfStanding, Tells}
+use Rattle.tree_commands.specs.Private.Listing.{Among, Enters, FlagsFolder, IsEnd, IsEntered, IsIgnoredNext, IsLevel, IsMarked, IsPassedOver, Stands, WritesOut, path_of, with_line}
 use Rattle.tree_commands.specs.Private.UnderWay.{Beginning, IsHalfway, IsWriting, OfKnown, WritesAll, WritesFront}
 use Rattle.tree_commands.proofs.lemmas.AmongLemmas.{among_last}
 use Rattle.tree_commands.proofs.lemmas.LevelLemmas.{end_as, listed_as, next_ignored, open_by_flag}
-use Rattle.tree_commands.proofs.lemmas.ListingLemmas.{halfway_entered, halfway_listed, halfway_passed, may_next, under_way_entered, under_way_listed, under_way_passed}
+use Rattle.tree_commands.proofs.lemmas.ListingLemmas.{count_most, count_next, halfway_entered, halfway_listed, halfway_passed, may_next, under_way_entered, under_way_listed, under_way_passed}
+use Rattle.tree_commands.proofs.lemmas.MetLemmas.{ends_listed}
+use Rattle.tree_commands.proofs.lemmas.SourceLemmas.{gives_further}
 use Rattle.tree_commands.proofs.lemmas.StackLemmas.{stack_top}
 
 appends_more : (old middle new : Option (List ℕ)) (one more : List ℕ) → Appends old middle one → Appends middle new more → Appends old new (one ++ more)
@@ -28,6 +31,12 @@ appends_more (Some xs) (Some ys) (Some zs) one more first next = next ∙ ap (λ
 pub appends_none : (old : Option (List ℕ)) → Appends old old []
 appends_none None = tt
 appends_none (Some xs) = sym (append-nil xs)
+
+stands_shortened : (basis : Basis) (tree : FileTree) (lists : List (EntryList (Unit {0}))) (count : ℕ) (next : Pending) → next.list_count ≤ count → Stands basis tree lists next → Stands basis tree (take count lists) next
+stands_shortened basis tree lists count next few it = record {
+  top = λ is. take-take next.list_count count lists few ∙ it.top is;
+  level = λ path is_dir marked. subst (λ (ls : List (EntryList (Unit {0}))). IsLevel basis.terms.chosen basis tree ls next.is_below path) (sym (take-take next.list_count count lists few)) (it.level path is_dir marked);
+}
 
 module _ (line : List ℕ → List ℕ) (Known : FileTree → Type 0) (terms : Terms) (beginning : Beginning) (old : Option (List ℕ)) where
   module _ (new : Option (List ℕ)) (text : List ℕ) (pending : List Pending) (lists : List (EntryList (Unit {0}))) where
@@ -80,16 +89,25 @@ module _ (line : List ℕ → List ℕ) (Known : FileTree → Type 0) (terms : T
       from_listed listed = subst (λ (t : Terms). IsListedBy t tree (IsIgnoredNext t lists next) (path_of next)) same
           (listed_as basis.terms tree (IsIgnoredAt basis tree) (IsIgnoredNext basis.terms lists next) (path_of next) unended (λ told path is_dir marked. (let both = says_ignored told path is_dir marked in both.1)) listed)
 
+      stands_next : Stands basis tree lists next
+      stands_next = let now = now_halfway in now.standing next (among_last pending next)
+
+      to_told : (new_lists : List (EntryList (Unit {0}))) (new_pending : List Pending) (path : List ℕ) → IsToTell Now terms next lists new_lists pending new_pending path → IsTold basis tree (path_of next)
+      to_told new_lists new_pending path is = record {
+        listed = to_listed (subst (IsListedBy terms tree (IsIgnoredNext terms lists next)) is.listed.same (is.listed.listed tree (stays tree known)));
+        filled = λ asks folder start. is.filled (sym (ap (λ (t : Terms). t.folders) same) ∙ asks) folder start tree (stays tree known) basis same stands_next;
+      }
+
       to_end : IsEnd terms tree (IsIgnoredNext terms lists next) (path_of next) → IsEnd basis.terms tree (IsIgnoredAt basis tree) (path_of next)
       to_end ends = end_as basis.terms tree (IsIgnoredNext basis.terms lists next) (IsIgnoredAt basis tree) (path_of next) unended (λ told path is_dir marked. (let both = says_ignored told path is_dir marked in both.0))
           (subst (λ (t : Terms). IsEnd t tree (IsIgnoredNext t lists next) (path_of next)) (sym same) ends)
 
     -- the next path was listed, and its line is written or is left
-    pub writes_listed : (new : Option (List ℕ)) (new_pending : List Pending) (new_lists : List (EntryList (Unit {0}))) (path more left written : List ℕ) → IsToList Now terms next lists new_lists pending new_pending path
+    pub writes_listed : (new : Option (List ℕ)) (new_pending : List Pending) (new_lists : List (EntryList (Unit {0}))) (path more left written : List ℕ) → IsToTell Now terms next lists new_lists pending new_pending path
         → more ≡ text ++ line path → Appends middle new written → more ≡ written ++ left → IsWriting line Known terms beginning old new left new_pending new_lists
     writes_listed new new_pending new_lists path more left written is appended out cut =
-        subst (λ (ls : List (EntryList (Unit {0}))). IsWriting line Known terms beginning old new left new_pending ls) (sym is.lists)
-        (subst (λ (ps : List Pending). IsWriting line Known terms beginning old new left ps lists) (sym is.pending) here)
+        subst (λ (ls : List (EntryList (Unit {0}))). IsWriting line Known terms beginning old new left new_pending ls) (sym is.listed.lists)
+        (subst (λ (ps : List Pending). IsWriting line Known terms beginning old new left ps lists) (sym is.listed.pending) here)
       where
         here : IsWriting line Known terms beginning old new left pending lists
         here = record {
@@ -100,11 +118,11 @@ module _ (line : List ℕ → List ℕ) (Known : FileTree → Type 0) (terms : T
           joined = sym (flat_map_more line [] it.listed (path_of next))
               ∙ ap (λ l. l ++ line (path_of next)) it.joined
               ∙ append_assoc it.written text (line (path_of next))
-              ∙ ap (λ l. it.written ++ l) (ap (λ p. text ++ line p) (sym is.same) ∙ sym appended ∙ cut)
+              ∙ ap (λ l. it.written ++ l) (ap (λ p. text ++ line p) (sym is.listed.same) ∙ sym appended ∙ cut)
               ∙ sym (append_assoc it.written written left);
           halfway = λ tree known basis same start halfway.
               halfway_listed basis tree start it.listed pending next lists (it.halfway tree known basis same start halfway)
-              (to_listed tree known basis same start halfway (subst (IsListedBy terms tree (IsIgnoredNext terms lists next)) is.same (is.listed tree (stays tree known))));
+              (to_told tree known basis same start halfway new_lists new_pending path is);
         }
 
     -- or it was passed over
@@ -123,7 +141,26 @@ module _ (line : List ℕ → List ℕ) (Known : FileTree → Type 0) (terms : T
           halfway = λ tree known basis same start halfway.
               halfway_passed basis tree start it.listed pending next lists (it.halfway tree known basis same start halfway)
               (to_end tree known basis same start halfway (is.ends tree (stays tree known)))
-              (λ listed. is.unlisted tree (stays tree known) (from_listed tree known basis same start halfway listed));
+              (λ told. is.unlisted tree (stays tree known) (from_listed tree known basis same start halfway told.listed));
+        }
+
+    -- or its folder isn't filled
+    pub writes_unfilled : (new_pending : List Pending) (new_lists : List (EntryList (Unit {0}))) → IsUnfilled Now terms next lists new_lists pending new_pending → IsWriting line Known terms beginning old middle text new_pending new_lists
+    writes_unfilled new_pending new_lists is =
+        subst (λ (ls : List (EntryList (Unit {0}))). IsWriting line Known terms beginning old middle text new_pending ls) (sym is.listed.lists)
+        (subst (λ (ps : List Pending). IsWriting line Known terms beginning old middle text ps lists) (sym is.listed.pending) here)
+      where
+        here : IsWriting line Known terms beginning old middle text pending lists
+        here = record {
+          listed = it.listed;
+          under_way = under_way_passed terms it.listed pending next lists it.under_way;
+          written = it.written;
+          appended = it.appended;
+          joined = it.joined;
+          halfway = λ tree known basis same start halfway.
+              halfway_passed basis tree start it.listed pending next lists (it.halfway tree known basis same start halfway)
+              (ends_listed basis tree (path_of next) (to_listed tree known basis same start halfway (is.listed.listed tree (stays tree known))))
+              (λ told. is.unfilled tree (stays tree known) basis same (stands_next tree known basis same start halfway) (told.filled (ap (λ (t : Terms). t.folders) same ∙ is.asks) is.folder is.start));
         }
 
     -- or its folder was entered
@@ -149,15 +186,74 @@ module _ (line : List ℕ → List ℕ) (Known : FileTree → Type 0) (terms : T
             (it.under_way.counts next (among_last pending next))
             Now (stays tree known) new_lists new_pending (subst (λ (t : Terms). Enters Now t is.folder next.list_count is.is_ignored lists new_lists pending new_pending) (sym same) is.enters)
 
-    pub writes_nothing : (new_pending : List Pending) (new_lists : List (EntryList (Unit {0}))) → IsEntered Now terms next lists new_lists pending new_pending ⊎ IsPassedOver Now terms next lists new_lists pending new_pending
+    pub writes_nothing : (new_pending : List Pending) (new_lists : List (EntryList (Unit {0}))) → IsUnfilled Now terms next lists new_lists pending new_pending ⊎ (IsEntered Now terms next lists new_lists pending new_pending ⊎ IsPassedOver Now terms next lists new_lists pending new_pending)
         → IsWriting line Known terms beginning old middle text new_pending new_lists
-    writes_nothing new_pending new_lists (inl entered) = writes_entered new_pending new_lists entered
-    writes_nothing new_pending new_lists (inr passed) = writes_passed new_pending new_lists passed
+    writes_nothing new_pending new_lists (inl unfilled) = writes_unfilled new_pending new_lists unfilled
+    writes_nothing new_pending new_lists (inr (inl entered)) = writes_entered new_pending new_lists entered
+    writes_nothing new_pending new_lists (inr (inr passed)) = writes_passed new_pending new_lists passed
 
-    -- what is written beside it goes on what was
+    -- a path that is to be told is met, and told
+    pub told_is_met : (new_pending : List Pending) (new_lists : List (EntryList (Unit {0}))) (path : List ℕ) → IsToTell Now terms next lists new_lists pending new_pending path
+        → OfKnown Known terms beginning (λ basis tree start. IsMet basis tree start (path_of next) × IsTold basis tree (path_of next))
+    told_is_met new_pending new_lists path is = λ tree known basis same start halfway.
+        let now = it.halfway tree known basis same start halfway in (now.met next (among_last pending next), to_told tree known basis same start halfway new_lists new_pending path is)
+
+    -- a folder that is asked for its names is met, or searched from a path that is
     pub asked_is_met : (folder : Folder) → path_of next ≡ start_of folder → OfKnown Known terms beginning (λ basis tree start. IsMet basis tree start (start_of folder))
     asked_is_met folder is = λ tree known basis same start halfway.
         let now = it.halfway tree known basis same start halfway in subst (IsMet basis tree start) is (now.met next (among_last pending next))
+
+    pub asked_is_led : (folder : Folder) → (path_of next ≡ start_of folder) ⊎ OfStanding Now terms lists next (λ basis tree. IsSearched basis tree (path_of next) folder) → OfKnown Known terms beginning (λ basis tree start. MayAsk (IsMet basis tree start) basis tree folder)
+    asked_is_led folder which = λ tree known basis same start halfway. record {
+      path = path_of next;
+      reached = let now = it.halfway tree known basis same start halfway in now.met next (among_last pending next);
+      leads = ⊎_elim
+          (λ (is : path_of next ≡ start_of folder). inl is)
+          (λ (searched : OfStanding Now terms lists next (λ basis tree. IsSearched basis tree (path_of next) folder)). inr (searched tree (stays tree known) basis same (stands_next tree known basis same start halfway)))
+          which;
+    }
+
+  -- lists behind those that count may be left out
+  pub shortened : (middle : Option (List ℕ)) (text : List ℕ) (pending : List Pending) (lists : List (EntryList (Unit {0}))) (count : ℕ) → count ≤ length lists → ((next : Pending) → Among pending next → next.list_count ≤ count)
+      → IsWriting line Known terms beginning old middle text pending lists → IsWriting line Known terms beginning old middle text pending (take count lists)
+  shortened middle text pending lists count fits most it = record {
+    listed = it.listed;
+    under_way = record {
+      may = it.under_way.may;
+      counts = λ next among. (let few = most next among in omega (arith, few, length-take-le count lists fits));
+      stacked = it.under_way.stacked;
+      behind = it.under_way.behind;
+      ordered = it.under_way.ordered;
+    };
+    written = it.written;
+    appended = it.appended;
+    joined = it.joined;
+    halfway = λ tree known basis same start halfway.
+        let now = it.halfway tree known basis same start halfway in record {
+          sound = now.sound;
+          met = now.met;
+          standing = λ next among. stands_shortened basis tree lists count next (most next among) (now.standing next among);
+          complete = now.complete;
+        };
+  }
+
+  -- only those count that the next path has
+  pub short_of : (middle : Option (List ℕ)) (text : List ℕ) (next : Pending) (pending : List Pending) (lists : List (EntryList (Unit {0}))) → IsWriting line Known terms beginning old middle text (pending ++ next ∷ []) lists
+      → IsWriting line Known terms beginning old middle text (pending ++ next ∷ []) (take next.list_count lists)
+  short_of middle text next pending lists it =
+      shortened middle text (pending ++ next ∷ []) lists next.list_count (count_next terms it.listed pending next lists it.under_way) (count_most terms it.listed pending next lists it.under_way) it
+
+  -- what was asked before and is asked for the next path is led to
+  pub asks_on : (Now : FileTree → Type 0) (stays : (tree : FileTree) → Known tree → Now tree) (middle : Option (List ℕ)) (text : List ℕ) (next : Pending) (pending : List Pending) (lists : List (EntryList (Unit {0}))) → IsWriting line Known terms beginning old middle text (pending ++ next ∷ []) lists
+      → (first before after : Folder → Type 0) → GivesOnly (λ folder. OfKnown Known terms beginning (λ basis tree start. MayAsk (IsMet basis tree start) basis tree folder)) first before → (other : Terms) → other ≡ terms
+      → GivesOnly (λ folder. (path_of next ≡ start_of folder) ⊎ OfStanding Now other (take next.list_count lists) next (λ basis tree. IsSearched basis tree (path_of next) folder)) before after
+      → GivesOnly (λ folder. OfKnown Known terms beginning (λ basis tree start. MayAsk (IsMet basis tree start) basis tree folder)) first after
+  asks_on Now stays middle text next pending lists it first before after known other same asked =
+      gives_further (λ folder. OfKnown Known terms beginning (λ basis tree start. MayAsk (IsMet basis tree start) basis tree folder))
+      (λ folder. (path_of next ≡ start_of folder) ⊎ OfStanding Now terms (take next.list_count lists) next (λ basis tree. IsSearched basis tree (path_of next) folder))
+      (λ folder. OfKnown Known terms beginning (λ basis tree start. MayAsk (IsMet basis tree start) basis tree folder)) first before after (λ folder led. led)
+      (λ folder which. asked_is_led Now stays middle text next pending (take next.list_count lists) (short_of middle text next pending lists it) folder which) known
+      (subst (λ (t : Terms). GivesOnly (λ folder. (path_of next ≡ start_of folder) ⊎ OfStanding Now t (take next.list_count lists) next (λ basis tree. IsSearched basis tree (path_of next) folder)) before after) same asked)
 
   -- of the text a front is written
   writes_out : (middle new : Option (List ℕ)) (text left written : List ℕ) (pending : List Pending) (lists : List (EntryList (Unit {0}))) → IsWriting line Known terms beginning old middle text pending lists
@@ -173,7 +269,7 @@ module _ (line : List ℕ → List ℕ) (Known : FileTree → Type 0) (terms : T
 
   -- the next path was visited, and of what is to be written a front is
   pub writes_on : (Now : FileTree → Type 0) (stays : (tree : FileTree) → Known tree → Now tree) (middle new : Option (List ℕ)) (text left : List ℕ) (next : Pending) (pending new_pending : List Pending) (lists new_lists : List (EntryList (Unit {0})))
-      (listed : Option (List ℕ)) → IsWriting line Known terms beginning old middle text (pending ++ next ∷ []) lists → Visits Now terms next lists new_lists pending new_pending listed
+      (listed : Option (List ℕ)) → IsWriting line Known terms beginning old middle text (pending ++ next ∷ []) lists → Tells Now terms next lists new_lists pending new_pending listed
       → WritesOut middle new (with_line line text listed) left → IsWriting line Known terms beginning old new left new_pending new_lists
   writes_on Now stays middle new text left next pending new_pending lists new_lists None it visited out =
       writes_out middle new text left out.0 new_pending new_lists (writes_nothing Now stays middle text next pending lists it new_pending new_lists visited) out.1 out.2

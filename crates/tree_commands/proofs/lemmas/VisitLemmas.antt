@@ -120,7 +120,7 @@ module _ (Known : FileTree → Type 0) (terms : Terms) (next : Pending) (lists :
         start = is_start;
         shut = shut_as terms tree folder (IsTrue is_ignored) (IsIgnoredNext terms lists next folder true) (λ told. (let known = told_ignored told in known.0)) shut;
         free = it.1;
-        chosen = λ told. (let known = told_ignored told in known.0 (it.0 told));
+        chosen = λ told other. (let known = told_ignored told in known.0 (it.0 told other));
       })),
       λ by. ⊎_elim
           (λ (file : IsListedFile terms (IsIgnoredNext terms lists next) (path_of next)).
@@ -128,7 +128,7 @@ module _ (Known : FileTree → Type 0) (terms : Terms) (next : Pending) (lists :
           (λ (at : IsListedFolder terms tree (IsIgnoredNext terms lists next) (path_of next)).
           let same : at.folder ≡ folder = one_folder at.folder folder (sym at.start ∙ is_start) in
           lists_it.1 (
-            (λ told. (let known = told_ignored told in known.1 (subst (λ f. IsIgnoredNext terms lists next f true) same (at.chosen told)))),
+            (λ told other. (let known = told_ignored told in known.1 (subst (λ f. IsIgnoredNext terms lists next f true) same (at.chosen told other)))),
             subst (λ f. ¬ IsTracked terms.tracked.entries f) same at.free,
           ))
           by,

@@ -14,6 +14,7 @@ use Rattle.told_paths.specs.Paths.{IsLastName}
 use Rattle.tree_commands.specs.declared.files.choosing.Chosen.{Chosen}
 use Rattle.tree_commands.specs.declared.files.choosing.Chosen.TheVariants.{All, Ignored, Unignored}
 use Rattle.tree_commands.specs.declared.files.choosing.Folders.{Folders}
+use Rattle.tree_commands.specs.declared.files.choosing.Folders.TheVariants.{NamedIfFilled}
 use Rattle.tree_commands.specs.declared.files.lookup.Lookup.{Lookup}
 use Rattle.tree_commands.specs.declared.files.pending.Pending.{Pending}
 use Rattle.tree_commands.specs.declared.files.source.EntryKind.{EntryKind}
@@ -174,7 +175,7 @@ abbrev pub ListsFile : Terms → List (EntryList (Unit {0})) → Pending → Boo
 ListsFile terms lists next is_listed = IsTrue is_listed ↔ (terms.chosen ≡ Ignored → IsIgnoredNext terms lists next next.path.items false)
 
 abbrev pub ListsFolder : Terms → Folder → Bool → Bool → Type 0
-ListsFolder terms folder is_ignored is_listed = IsTrue is_listed ↔ ((terms.chosen ≡ Ignored → IsTrue is_ignored) × (¬ IsTracked terms.tracked.entries folder))
+ListsFolder terms folder is_ignored is_listed = IsTrue is_listed ↔ ((terms.chosen ≡ Ignored → terms.folders ≢ NamedIfFilled → IsTrue is_ignored) × (¬ IsTracked terms.tracked.entries folder))
 
 abbrev pub if_listed : Bool → List ℕ → Option (List ℕ)
 if_listed is_listed path = if is_listed then Some path else None

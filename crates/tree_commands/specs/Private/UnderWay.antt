@@ -9,7 +9,7 @@ use Rattle.glob_trees.specs.Ways.{Folder, start_of}
 use Rattle.tree_commands.specs.declared.files.lister.Lister.{Lister}
 use Rattle.tree_commands.specs.declared.files.pending.Pending.{Pending}
 use Rattle.tree_commands.specs.FileTrees.{FileTree}
-use Rattle.tree_commands.specs.Files.{Basis, ComesBefore, IsListed, IsMet, Terms}
+use Rattle.tree_commands.specs.Files.{Basis, ComesBefore, IsMet, IsTold, Terms}
 use Rattle.tree_commands.specs.Private.Listing.{Among, AreAscending, MayVisit, Stands, path_of, seen_lists}
 
 abbrev pub count_of : Pending → ℕ
@@ -38,12 +38,12 @@ pub record IsUnderWay (case : Case) (listed : List (List ℕ)) (pending : List P
   pub behind : (path : List ℕ) (next : Pending) → Among listed path → Among pending next → ComesBefore path (path_of next)
   pub ordered : AreAscending listed
 
--- what was listed is to be listed, what is pending is met, and what is still to be listed is met from that
+-- what was listed is told, what is pending is met, and what is still to be told is met from that
 pub record IsHalfway (basis : Basis) (tree : FileTree) (start : List ℕ) (listed : List (List ℕ)) (pending : List Pending) (lists : List (EntryList (Unit {0}))) : Type 0 where
-  pub sound : (path : List ℕ) → Among listed path → IsMet basis tree start path × IsListed basis tree path
+  pub sound : (path : List ℕ) → Among listed path → IsMet basis tree start path × IsTold basis tree path
   pub met : (next : Pending) → Among pending next → IsMet basis tree start (path_of next)
   pub standing : (next : Pending) → Among pending next → Stands basis tree lists next
-  pub complete : (path : List ℕ) → IsMet basis tree start path → IsListed basis tree path → Among listed path ⊎ ((next : Pending) × Among pending next × IsMet basis tree (path_of next) path)
+  pub complete : (path : List ℕ) → IsMet basis tree start path → IsTold basis tree path → Among listed path ⊎ ((next : Pending) × Among pending next × IsMet basis tree (path_of next) path)
 
 -- where a listing began: what was pending, and the lists
 pub record Beginning : Type 0 where
@@ -72,11 +72,11 @@ pub record WritesAll (line : List ℕ → List ℕ) (Known : FileTree → Type 0
   pub listed : List (List ℕ)
   pub ordered : AreAscending listed
   pub appended : Appends old new (flat_map line listed)
-  pub exact : OfKnown Known terms beginning (λ basis tree start. (path : List ℕ) → Among listed path ↔ (IsMet basis tree start path × IsListed basis tree path))
+  pub exact : OfKnown Known terms beginning (λ basis tree start. (path : List ℕ) → Among listed path ↔ (IsMet basis tree start path × IsTold basis tree path))
 
 -- a front of the lines of some of these paths was written
 pub record WritesFront (line : List ℕ → List ℕ) (Known : FileTree → Type 0) (terms : Terms) (beginning : Beginning) (old new : Option (List ℕ)) : Type 0 where
   pub listed : List (List ℕ)
   pub ordered : AreAscending listed
   pub appended : AppendsFront old new (flat_map line listed)
-  pub sound : OfKnown Known terms beginning (λ basis tree start. (path : List ℕ) → Among listed path → IsMet basis tree start path × IsListed basis tree path)
+  pub sound : OfKnown Known terms beginning (λ basis tree start. (path : List ℕ) → Among listed path → IsMet basis tree start path × IsTold basis tree path)

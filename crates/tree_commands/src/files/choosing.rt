@@ -20,4 +20,7 @@ pub enum Folders {
     Named,
     /// It is told by its name where it is ignored, and the ignored paths are chosen; else it is gone into.
     NamedIfIgnored,
+    /// It isn't gone into, and is told by its name where it is filled: a listing from there that goes into all folders would list something.
+    /// Where the ignored paths are chosen, it would list all that lies in the folder.
+    NamedIfFilled,
 }

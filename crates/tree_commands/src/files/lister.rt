@@ -14,7 +14,7 @@ use crate::files::entries::{ListsOnWay, entries_of};
 use crate::files::ignoring::is_ignored_by;
 use crate::files::pending::{Pending, put_in_order};
 use crate::files::source::{FileSource, FolderNames};
-use crate::files::terms::{Terms, is_named, wants_ignored};
+use crate::files::terms::{Terms, asks_filled, is_named, wants_ignored};
 use gix_glob::search::pattern::List;
 use glob_lines::IgnoreLines;
 use glob_lists::PreparedList;
@@ -152,7 +152,7 @@ fn is_ignored(on_way: &ListsOnWay<'_>, next: &Pending, path: &[u8], is_dir: bool
 }
 
 /// The same of a folder. The top is never ignored.
-fn is_ignored_folder(on_way: &ListsOnWay<'_>, next: &Pending, folder: &[u8]) -> bool
+pub(crate) fn is_ignored_folder(on_way: &ListsOnWay<'_>, next: &Pending, folder: &[u8]) -> bool
     requires folders { BasesAreFolders (seen_lists on_way.now.lists.items) }
     requires plain { folder.now ≢ [] → IsPlainPath folder.now }
     requires count { next.now.list_count ≤ length on_way.now.lists.items }
@@ -178,7 +178,8 @@ fn lists_file(on_way: &ListsOnWay<'_>, next: &Pending) -> bool
 fn lists_folder(terms: &Terms<'_>, folder: &[u8], is_ignored: bool) -> bool
     ensures { ListsFolder (terms_of terms.now) folder.now is_ignored result }
 {
-    (is_ignored || !wants_ignored(terms.chosen)) && !terms.tracked.has_very_entry(folder)
+    let is_chosen = is_ignored || !wants_ignored(terms.chosen) || asks_filled(terms.folders);
+    is_chosen && !terms.tracked.has_very_entry(folder)
 }
 
 /// Whether a folder is told by its name, whatever lies in it that isn't tracked.
@@ -273,7 +274,7 @@ fn push_if_any(
 }
 
 /// The folder whose path this is, without the slash at its end; `None` for the path of a file.
-fn folder_at(path: &[u8]) -> Option<&[u8]>
+pub(crate) fn folder_at(path: &[u8]) -> Option<&[u8]>
     requires { path.now ≢ slash ∷ [] }
     ensures { MatchOption result
         ((path.entry.now ≢ []) × (¬ EndsInSlash path.entry.now))

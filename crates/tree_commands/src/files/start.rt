@@ -45,7 +45,7 @@ impl<'a> Lister<'a> {
     }
 
     /// Puts the path at which the listing begins, with all lists.
-    fn put_start(&mut self, path: Vec<u8>, is_below: bool) -> Result<(), AllocError>
+    pub(crate) fn put_start(&mut self, path: Vec<u8>, is_below: bool) -> Result<(), AllocError>
         ensures pending { OnOk result (self.new.pending.items ≡ self.old.pending.items ++ record { path = path; list_count = length self.old.on_way.lists.items; is_below = is_below } ∷ []) }
         ensures on_way { self.new.on_way ≡ self.old.on_way }
     {
@@ -132,7 +132,7 @@ fn is_whole(path: &[u8]) -> bool
 }
 
 /// Whether the last byte is a slash.
-fn ends_in_slash(path: &[u8]) -> bool
+pub(crate) fn ends_in_slash(path: &[u8]) -> bool
     ensures { IsTrue result ↔ EndsInSlash path.now }
 {
     matches!(path, [.., b'/'])

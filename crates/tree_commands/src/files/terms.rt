@@ -1,6 +1,7 @@
 //! What decides, beside patterns, which paths a listing meets.
 ghost use Rattle.std.specs.Prelude.{◌≡◌, ◌↔◌, IsTrue};
 ghost use Rattle.tree_commands.specs.declared.files.choosing.Chosen.TheVariants as choices;
+ghost use Rattle.tree_commands.specs.declared.files.choosing.Folders.TheVariants as manners;
 ghost use Rattle.tree_commands.specs.Files.{IsHidden};
 ghost use Rattle.tree_commands.specs.Private.Listing.{IsNamedBy, looked};
 
@@ -49,13 +50,20 @@ pub(crate) fn is_hidden(tracked: &Lookup<'_>, path: &[u8], kind: EntryKind) -> b
     }
 }
 
+/// Whether a folder that isn't gone into is told only if it is filled.
+pub(crate) fn asks_filled(folders: Folders) -> bool
+    ensures { IsTrue result ↔ folders ≡ manners.NamedIfFilled }
+{
+    matches!(folders, Folders::NamedIfFilled)
+}
+
 /// Whether a folder is told by its name, although it is no repository, if no tracked path lies in it.
 pub(crate) fn is_named(folders: Folders, chosen: Chosen, is_ignored: bool) -> bool
     ensures { IsTrue result ↔ IsNamedBy folders chosen is_ignored }
 {
     match folders {
         Folders::Entered => false,
-        Folders::Named => true,
+        Folders::Named | Folders::NamedIfFilled => true,
         Folders::NamedIfIgnored => wants_ignored(chosen) && is_ignored,
     }
 }

@@ -1,15 +1,17 @@
 //! The help of `status`.
 
 pub(crate) const HELP: &str = "\
-usage: globtree [OPTION..] status [-uall | -uno] [--ignored[=traditional | =matching | =no]] [-z]
+usage: globtree [OPTION..] status [-unormal | -uall | -uno] [--ignored[=MODE]] [-z]
 
 Prints the lines ?? and !! of git status --porcelain: the files that aren't tracked, and with
 --ignored those that are ignored. Each is told from the top of the work tree.
 
 options, of which one that begins with -u or --untracked-files has to be there:
   -uall, -u                each file
+  -unormal                 a folder without tracked files by its name, if a file lies in it
   -uno                     none that isn't tracked
   --untracked-files=all    as -uall
+  --untracked-files=normal as -unormal
   --untracked-files=no     as -uno
   --ignored                each ignored file (--ignored=traditional)
   --ignored=matching       an ignored folder by its name

@@ -3,9 +3,8 @@ use Rattle.std.specs.List.{Contains}
 use Rattle.std.proofs.lemmas.Bool.{false≢true}
 use Rattle.std.proofs.lemmas.Result.{on_err_weaker, on_ok_weaker}
 use Rattle.gix_glob.specs.Watched.{inner}
-use Rattle.glob_trees.specs.Ways.{start_of}
 use Rattle.tree_commands.specs.FileTrees.{FileTree}
-use Rattle.tree_commands.specs.Files.{Basis, IsMet, IsReached, path_line}
+use Rattle.tree_commands.specs.Files.{Basis, IsMet, IsReached, MayAsk, path_line}
 use Rattle.tree_commands.specs.Listings.{asked_basis}
 use Rattle.tree_commands.specs.Private.Listing.{Begins, seen_lists, terms_of}
 use Rattle.tree_commands.specs.Private.UnderWay.{OfKnown, beginning_of}
@@ -95,8 +94,8 @@ returns-clause-asks g c =
     let old = g.W.Write.contents (inner c.args.writer.now) in
     let new = g.W.Write.contents (inner c.write_listed.new.writer) in
     let asks = rw as_terms at c.write_listed.ensures.asks in
-    gives_further (λ _. ⊥) (λ folder. OfKnown now basis.terms (beginning_of c.begin.new.self) (λ given tree start. IsMet given tree start (start_of folder)))
-    (λ folder. (tree : FileTree) → known tree → IsReached standpoint basis tree c.args.told.now (start_of folder))
+    gives_further (λ _. ⊥) (λ folder. OfKnown now basis.terms (beginning_of c.begin.new.self) (λ given tree start. MayAsk (IsMet given tree start) given tree folder))
+    (λ folder. (tree : FileTree) → known tree → MayAsk (IsReached standpoint basis tree c.args.told.now) basis tree folder)
     (g.S.FileSource.asked c.args.source.now) (g.S.FileSource.asked c.begin.new.source) (g.S.FileSource.asked c.write_listed.new.source) (λ folder never. absurd never)
     (λ folder met. folder_is_reached standpoint basis c.args.told.now c.lead.new.path.items told leads.0 leads.1 known lists pending at line now c.begin.ensures.stays old new folder met)
     c.begin.ensures.asks asks

@@ -1,9 +1,9 @@
 use Rattle.std.proofs.Common.{◌≡◌}
 use Rattle.gix_glob.specs.Watched.{inner}
 use Rattle.glob_lists.specs.Deciding.{BasesAreFolders}
-use Rattle.glob_trees.specs.Ways.{GivesOnly, start_of}
+use Rattle.glob_trees.specs.Ways.{GivesOnly}
 use Rattle.tree_commands.specs.FileTrees.{StaysKnown}
-use Rattle.tree_commands.specs.Files.{IsMet, path_line}
+use Rattle.tree_commands.specs.Files.{IsMet, MayAsk, path_line}
 use Rattle.tree_commands.specs.Private.Listing.{seen_lists, terms_of}
 use Rattle.tree_commands.specs.Private.UnderWay.{IsWriting, OfKnown, beginning_of}
 use Rattle.tree_commands.proofs.files.write_listed.Given as goal
@@ -19,6 +19,6 @@ invariant-paths g l = record {
   form : l.lines.form ≡ l.fn.lines.form;
   mark : l.lines.mark ≡ l.fn.lines.mark;
   stays : StaysKnown g.S.FileSource.shows l.fn.source l.source;
-  asks : GivesOnly (λ folder. OfKnown (g.S.FileSource.shows l.fn.source) (terms_of l.fn.lister.on_way.terms) (beginning_of l.fn.lister) (λ basis tree start. IsMet basis tree start (start_of folder)))
+  asks : GivesOnly (λ folder. OfKnown (g.S.FileSource.shows l.fn.source) (terms_of l.fn.lister.on_way.terms) (beginning_of l.fn.lister) (λ basis tree start. MayAsk (IsMet basis tree start) basis tree folder))
       (g.S.FileSource.asked l.fn.source) (g.S.FileSource.asked l.source);
 }

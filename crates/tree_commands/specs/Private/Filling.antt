@@ -1,0 +1,41 @@
+-- What is said of folders that are told only if they are filled.
+use Rattle.std.specs.Prelude.{◌≡◌, ◌⊎◌, ℕ, ◌≤◌, List, length, take, Option, MatchOption}
+use Rattle.gix_glob.specs.EntryLists.{EntryList}
+use Rattle.glob_trees.specs.Ways.{Folder, start_of}
+use Rattle.tree_commands.specs.declared.files.choosing.Chosen.{Chosen}
+use Rattle.tree_commands.specs.declared.files.choosing.Folders.TheVariants.{NamedIfFilled}
+use Rattle.tree_commands.specs.declared.files.pending.Pending.{Pending}
+use Rattle.tree_commands.specs.FileTrees.{FileTree}
+use Rattle.tree_commands.specs.Files.{Basis, IsFilled, Terms, entering}
+use Rattle.tree_commands.specs.Private.Listing.{Among, IsEntered, IsPassedOver, IsToList, Stands, path_of}
+use Rattle.tree_commands.specs.Private.UnderWay.{Beginning}
+
+-- what follows of a known tree wherever a listing stands at the path with these lists
+abbrev pub OfStanding : (FileTree → Type 0) → Terms → List (EntryList (Unit {0})) → Pending → (Basis → FileTree → Type 0) → Type 0
+OfStanding Known terms lists next Holds = (tree : FileTree) → Known tree → (basis : Basis) → basis.terms ≡ terms → Stands basis tree lists next → Holds basis tree
+
+-- where a listing stands, one of the paths that are chosen so stands, too
+abbrev pub MaySearch : Terms → List (EntryList (Unit {0})) → Pending → Chosen → Type 0
+MaySearch terms lists next chosen = (tree : FileTree) (basis : Basis) → basis.terms ≡ terms → Stands basis tree lists next → Stands (entering chosen basis) tree lists next
+
+-- as many of the lists as each pending path has are as they were
+abbrev pub KeepsLists : Beginning → List (EntryList (Unit {0})) → Type 0
+KeepsLists beginning new = (count : ℕ) → count ≤ length beginning.lists → ((next : Pending) → Among beginning.pending next → count ≤ next.list_count) → take count new ≡ take count beginning.lists
+
+-- a path that was visited is to be told
+pub record IsToTell (Known : FileTree → Type 0) (terms : Terms) (next : Pending) (old_lists new_lists : List (EntryList (Unit {0}))) (old new : List Pending) (path : List ℕ) : Type 0 where
+  pub listed : IsToList Known terms next old_lists new_lists old new path
+  pub filled : terms.folders ≡ NamedIfFilled → (folder : Folder) → path_of next ≡ start_of folder → OfStanding Known terms old_lists next (λ basis tree. IsFilled basis tree folder)
+
+-- or it is a folder's that is told only if it is filled, and it isn't
+pub record IsUnfilled (Known : FileTree → Type 0) (terms : Terms) (next : Pending) (old_lists new_lists : List (EntryList (Unit {0}))) (old new : List Pending) : Type 0 where
+  pub listed : IsToList Known terms next old_lists new_lists old new (path_of next)
+  pub asks : terms.folders ≡ NamedIfFilled
+  pub folder : Folder
+  pub start : path_of next ≡ start_of folder
+  pub unfilled : OfStanding Known terms old_lists next (λ basis tree. ¬ IsFilled basis tree folder)
+
+abbrev pub Tells : (FileTree → Type 0) → Terms → Pending → List (EntryList (Unit {0})) → List (EntryList (Unit {0})) → List Pending → List Pending → Option (List ℕ) → Type 0
+Tells Known terms next old_lists new_lists old new told = MatchOption told
+    (IsUnfilled Known terms next old_lists new_lists old new ⊎ (IsEntered Known terms next old_lists new_lists old new ⊎ IsPassedOver Known terms next old_lists new_lists old new))
+    (IsToTell Known terms next old_lists new_lists old new)

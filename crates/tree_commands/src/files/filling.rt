@@ -1,0 +1,191 @@
+//! Folders that are told only if they are filled: listings from there that go into all folders, and end at the first path.
+ghost use Rattle.std.specs.Prelude.{◌≡◌, ◌↔◌, ◌≤◌, ◌⊎◌, [], ℕ, List, false, length, take, IfErr, IfOk, IsTrue, OnOk, option_map};
+ghost use Rattle.std.specs.Vec.{vec_items};
+ghost use Rattle.gix_glob.specs.Bytes.{EndsInSlash};
+ghost use Rattle.glob_lists.specs.Deciding.{BasesAreFolders};
+ghost use Rattle.glob_trees.specs.Ways.{Folder, GivesOnly, start_of};
+ghost use Rattle.tree_commands.specs.declared.files.choosing.Chosen.{Chosen};
+ghost use Rattle.tree_commands.specs.declared.files.choosing.Folders.TheVariants as manners;
+ghost use Rattle.tree_commands.specs.FileTrees.{StaysKnown};
+ghost use Rattle.tree_commands.specs.Files.{HasListed, IsFilled, IsMet, IsSearched, IsTold, entering};
+ghost use Rattle.tree_commands.specs.Private.Filling.{KeepsLists, MaySearch, OfStanding, Tells};
+ghost use Rattle.tree_commands.specs.Private.Listing.{FlagsFolder, MayVisit, seen_lists, terms_of};
+ghost use Rattle.tree_commands.specs.Private.ListingFaults.{is_of_start};
+ghost use Rattle.tree_commands.specs.Private.UnderWay.{IsUnderWay, OfKnown, beginning_of};
+
+use crate::files::choosing::{Chosen, Folders};
+use crate::files::entries::ListsOnWay;
+use crate::files::fault::FilesFault;
+use crate::files::lister::{Lister, folder_at, is_ignored_folder};
+use crate::files::pending::Pending;
+use crate::files::source::FileSource;
+use crate::files::start::ends_in_slash;
+use crate::files::terms::{Terms, asks_filled, wants_ignored};
+use glob_lines::IgnoreLines;
+use glob_lists::PreparedList;
+use std::alloc::AllocError;
+use std::mem;
+
+impl<'a> Lister<'a> {
+    /// Visits a path, and answers it where it is to be told.
+    pub(crate) fn tell<S: FileSource>(
+        &mut self,
+        source: &mut S,
+        next: Pending,
+    ) -> Result<Option<Vec<u8>>, FilesFault<S::Fault>>
+        requires folders { BasesAreFolders (seen_lists self.old.on_way.lists.items) }
+        requires may { MayVisit self.old.on_way.terms.case next.path.items }
+        requires count { next.list_count ≤ length self.old.on_way.lists.items }
+        ensures tells { IfOk result (λ told. Tells (S.shows source.old) (terms_of self.old.on_way.terms) next (take next.list_count (seen_lists self.old.on_way.lists.items)) (seen_lists self.new.on_way.lists.items) self.old.pending.items self.new.pending.items (option_map vec_items told)) }
+        ensures terms { self.new.on_way.terms ≡ self.old.on_way.terms }
+        ensures folders { OnOk result (BasesAreFolders (seen_lists self.new.on_way.lists.items)) }
+        ensures stays { StaysKnown S.shows source.old source.new }
+        ensures asks { GivesOnly (λ folder. (next.path.items ≡ start_of folder) ⊎ OfStanding (S.shows source.old) (terms_of self.old.on_way.terms) (take next.list_count (seen_lists self.old.on_way.lists.items)) next (λ basis tree. IsSearched basis tree next.path.items folder)) (S.asked source.old) (S.asked source.new) }
+        ensures begun { IfErr result (λ fault. is_of_start fault ≡ false) }
+    {
+        self.on_way.lists.truncate(next.list_count);
+        let (list_count, is_below) = (next.list_count, next.is_below);
+        let Some(path) = self.visit(source, next)? else {
+            return Ok(None);
+        };
+        if !asks_filled(self.on_way.terms.folders) || !ends_in_slash(&path) {
+            return Ok(Some(path));
+        }
+        let place = Pending {
+            path,
+            list_count,
+            is_below,
+        };
+        let is_filled = self.is_filled(source, &place)?;
+        if is_filled {
+            return Ok(Some(place.path));
+        }
+        Ok(None)
+    }
+
+    /// Whether a folder is filled.
+    fn is_filled<S: FileSource>(
+        &mut self,
+        source: &mut S,
+        place: &Pending,
+    ) -> Result<bool, FilesFault<S::Fault>>
+        requires folders { BasesAreFolders (seen_lists self.old.on_way.lists.items) }
+        requires may { MayVisit self.old.on_way.terms.case place.now.path.items }
+        requires ends { EndsInSlash place.now.path.items }
+        requires count { place.now.list_count ≡ length self.old.on_way.lists.items }
+        ensures filled { IfOk result (λ is_filled. OfStanding (S.shows source.old) (terms_of self.old.on_way.terms) (seen_lists self.old.on_way.lists.items) place.now (λ basis tree. (folder : Folder) → place.now.path.items ≡ start_of folder → IsTrue is_filled ↔ IsFilled basis tree folder)) }
+        ensures lists { OnOk result (seen_lists self.new.on_way.lists.items ≡ seen_lists self.old.on_way.lists.items) }
+        ensures terms { self.new.on_way.terms ≡ self.old.on_way.terms }
+        ensures pending { self.new.pending ≡ self.old.pending }
+        ensures stays { StaysKnown S.shows source.old source.new }
+        ensures asks { GivesOnly (λ folder. OfStanding (S.shows source.old) (terms_of self.old.on_way.terms) (seen_lists self.old.on_way.lists.items) place.now (λ basis tree. (chosen : Chosen) × IsMet (entering chosen basis) tree place.now.path.items (start_of folder))) (S.asked source.old) (S.asked source.new) }
+        ensures begun { IfErr result (λ fault. is_of_start fault ≡ false) }
+    {
+        let chosen = self.on_way.terms.chosen;
+        let has_chosen = self.has_listed(source, place, chosen)?;
+        if !has_chosen {
+            return Ok(false);
+        }
+        if !wants_ignored(chosen) {
+            return Ok(true);
+        }
+        if place.is_below {
+            return Ok(true);
+        }
+        if is_ignored_at(&self.on_way, place) {
+            return Ok(true);
+        }
+        let has_other = self.has_listed(source, place, Chosen::Unignored)?;
+        Ok(!has_other)
+    }
+
+    /// Whether a listing of paths that are chosen so, from a path on, lists something, where it goes into all folders.
+    fn has_listed<S: FileSource>(
+        &mut self,
+        source: &mut S,
+        place: &Pending,
+        chosen: Chosen,
+    ) -> Result<bool, FilesFault<S::Fault>>
+        requires folders { BasesAreFolders (seen_lists self.old.on_way.lists.items) }
+        requires may { MayVisit self.old.on_way.terms.case place.now.path.items }
+        requires count { place.now.list_count ≡ length self.old.on_way.lists.items }
+        requires standing { MaySearch (terms_of self.old.on_way.terms) (seen_lists self.old.on_way.lists.items) place.now chosen }
+        ensures any { IfOk result (λ is_any. OfStanding (S.shows source.old) (terms_of self.old.on_way.terms) (seen_lists self.old.on_way.lists.items) place.now (λ basis tree. (folder : Folder) → place.now.path.items ≡ start_of folder → IsTrue is_any ↔ HasListed chosen basis tree folder)) }
+        ensures lists { OnOk result (seen_lists self.new.on_way.lists.items ≡ seen_lists self.old.on_way.lists.items) }
+        ensures terms { self.new.on_way.terms ≡ self.old.on_way.terms }
+        ensures pending { self.new.pending ≡ self.old.pending }
+        ensures stays { StaysKnown S.shows source.old source.new }
+        ensures asks { GivesOnly (λ folder. OfStanding (S.shows source.old) (terms_of self.old.on_way.terms) (seen_lists self.old.on_way.lists.items) place.now (λ basis tree. IsMet (entering chosen basis) tree place.now.path.items (start_of folder))) (S.asked source.old) (S.asked source.new) }
+        ensures begun { IfErr result (λ fault. is_of_start fault ≡ false) }
+    {
+        let path = path_of(place)?;
+        let lists = mem::replace(&mut self.on_way.lists, Vec::new(self.alloc));
+        let terms = Terms {
+            case: self.on_way.terms.case,
+            chosen,
+            folders: Folders::Entered,
+            tracked: self.on_way.terms.tracked,
+        };
+        let mut search = Lister::new(self.alloc, lists, terms);
+        search.put_start(path, place.is_below)?;
+        let is_any = lists_any(&mut search, source)?;
+        let mut lists = search.into_lists();
+        lists.truncate(place.list_count);
+        self.on_way.lists = lists;
+        Ok(is_any)
+    }
+
+    /// The lists alone.
+    fn into_lists(self) -> Vec<PreparedList<IgnoreLines>>
+        ensures { result.items ≡ self.entry.on_way.lists.items }
+    {
+        self.on_way.lists
+    }
+}
+
+/// The path once more.
+fn path_of(place: &Pending) -> Result<Vec<u8>, AllocError>
+    ensures { IfOk result (λ path. path.items ≡ place.now.path.items) }
+{
+    place.path.clone()
+}
+
+/// Whether the folder is ignored at whose path a listing stands, where ignored paths are chosen.
+fn is_ignored_at(on_way: &ListsOnWay<'_>, place: &Pending) -> bool
+    requires folders { BasesAreFolders (seen_lists on_way.now.lists.items) }
+    requires may { MayVisit on_way.now.terms.case place.now.path.items }
+    requires count { place.now.list_count ≤ length on_way.now.lists.items }
+    ensures { (folder : Folder) → place.now.path.items ≡ start_of folder → FlagsFolder (terms_of on_way.now.terms) (seen_lists on_way.now.lists.items) place.now folder result }
+{
+    match folder_at(&place.path) {
+        Some(folder) => is_ignored_folder(on_way, place, folder),
+        None => false,
+    }
+}
+
+/// Whether a listing lists anything of what is pending. It ends at the first path that it lists.
+fn lists_any<S: FileSource>(
+    search: &mut Lister<'_>,
+    source: &mut S,
+) -> Result<bool, FilesFault<S::Fault>>
+    requires folders { BasesAreFolders (seen_lists search.old.on_way.lists.items) }
+    requires under_way { IsUnderWay search.old.on_way.terms.case [] search.old.pending.items (seen_lists search.old.on_way.lists.items) }
+    requires entered { search.old.on_way.terms.folders ≡ manners.Entered }
+    ensures any { IfOk result (λ is_any. OfKnown (S.shows source.old) (terms_of search.old.on_way.terms) (beginning_of search.old) (λ basis tree start. IsTrue is_any ↔ ((path : List ℕ) × IsMet basis tree start path × IsTold basis tree path))) }
+    ensures lists { OnOk result (KeepsLists (beginning_of search.old) (seen_lists search.new.on_way.lists.items)) }
+    ensures stays { StaysKnown S.shows source.old source.new }
+    ensures asks { GivesOnly (λ folder. OfKnown (S.shows source.old) (terms_of search.old.on_way.terms) (beginning_of search.old)
+        (λ basis tree start. IsMet basis tree start (start_of folder))) (S.asked source.old) (S.asked source.new) }
+    ensures begun { IfErr result (λ fault. is_of_start fault ≡ false) }
+{
+    'paths: for _ in 0..u64::MAX {
+        let Some(next) = search.pending.pop() else {
+            return Ok(false);
+        };
+        let listed = search.visit(source, next)?;
+        if listed.is_some() {
+            return Ok(true);
+        }
+    }
+    Err(FilesFault::Endless)
+}
