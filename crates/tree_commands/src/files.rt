@@ -125,11 +125,12 @@ pub fn run_files<S: FileSource, W: Write>(
     let mut path = Vec::new(alloc);
     let is_told_folder = lead(alloc, &listing.standpoint, &mut path, told)?;
     let folded = folded_by(alloc, listing.case, tracked)?;
+    let tracked = Lookup::new(tracked, &folded);
     let terms = Terms {
         case: listing.case,
         chosen: listing.chosen,
         folders: listing.folders,
-        tracked: Lookup::new(tracked, &folded),
+        tracked,
     };
     let mut lister = Lister::new(alloc, listing.fronts, terms);
     lister.begin(source, path, is_told_folder)?;

@@ -1,17 +1,22 @@
-use Rattle.std.proofs.Common.{◌≡◌, [], ℕ, List, sym, ap, ◌∙◌, arith}
+use Rattle.std.proofs.Common.{◌≡◌, [], ℕ, List, sym, ap, subst, ◌∙◌, arith}
 use Rattle.std.specs.List.{Contains}
 use Rattle.std.proofs.lemmas.Bool.{false≢true}
 use Rattle.std.proofs.lemmas.Result.{on_err_weaker, on_ok_weaker}
 use Rattle.gix_glob.specs.Watched.{inner}
 use Rattle.tree_commands.specs.FileTrees.{FileTree}
-use Rattle.tree_commands.specs.Files.{Basis, IsMet, IsReached, MayAsk, path_line}
+use Rattle.tree_commands.specs.Files.{Basis, IsMet, IsReached, MayAsk, Terms, path_line}
+use Rattle.tree_commands.specs.declared.files.Listing.{Listing}
 use Rattle.tree_commands.specs.Listings.{asked_basis}
-use Rattle.tree_commands.specs.Private.Listing.{Begins, seen_lists, terms_of}
+use Rattle.tree_commands.specs.Lookups.{LookedUp}
+use Rattle.tree_commands.specs.Private.Listing.{Begins, looked, seen_lists, terms_of}
 use Rattle.tree_commands.specs.Private.UnderWay.{OfKnown, beginning_of}
 use Rattle.tree_commands.proofs.lemmas.BeginLemmas.{all_is_listed, all_pairs, folder_is_reached, some_is_listed}
 use Rattle.tree_commands.proofs.lemmas.ListingRuns.{nothing_in_front}
 use Rattle.tree_commands.proofs.lemmas.SourceLemmas.{gives_further, on_any_err}
 use Rattle.tree_commands.proofs.files.run_files.Goals as goal
+
+abbrev with_tracked : Listing → LookedUp → Terms
+with_tracked listing tracked = record { case = listing.case; chosen = listing.chosen; folders = listing.folders; tracked = tracked }
 
 none_there : (path : List ℕ) → ¬ Contains [] path
 none_there path there = let less = there.1 in omega arith
@@ -24,6 +29,9 @@ returns-then-not-are_of_folders-clause-base g c = λ told folders. false≢true 
 
 pub returns-in_err-is_told_folder-clause-front : goal.returns-in_err-is_told_folder-clause-front
 returns-in_err-is_told_folder-clause-front g c = on_any_err c.from_residual.result (λ unfailed. ([], all_pairs [] tt, nothing_in_front (path_line c.args.listing.mark c.args.listing.standpoint c.args.listing.form) (g.W.Write.contents (inner c.args.writer.now)), λ tree known path there. absurd (none_there path there)))
+
+pub returns-in_err-folded-clause-front : goal.returns-in_err-folded-clause-front
+returns-in_err-folded-clause-front g c = on_any_err c.from_residual-in_err-folded.result (λ unfailed. ([], all_pairs [] tt, nothing_in_front (path_line c.args.listing.mark c.args.listing.standpoint c.args.listing.form) (g.W.Write.contents (inner c.args.writer.now)), λ tree known path there. absurd (none_there path there)))
 
 pub returns-in_err-begin-clause-front : goal.returns-in_err-begin-clause-front
 returns-in_err-begin-clause-front g c = on_any_err c.from_residual-in_err-begin.result (λ unfailed. ([], all_pairs [] tt, nothing_in_front (path_line c.args.listing.mark c.args.listing.standpoint c.args.listing.form) (g.W.Write.contents (inner c.args.writer.now)), λ tree known path there. absurd (none_there path there)))
@@ -39,8 +47,9 @@ returns-clause-lists g c =
     let pending = c.begin.new.self.pending.items in
     let told = c.in_ok-is_told_folder.is_told_folder in
     let leads = c.in_ok-is_told_folder.ensures.leads in
-    let at : Begins known basis c.lead.new.path.items told lists pending = rw (c.new-lister.ensures.lists, c.new-lister.ensures.terms) at c.in_ok-begin.ensures.begins in
-    let as_terms : terms_of c.begin.new.self.on_way.terms ≡ basis.terms = ap terms_of c.begin.ensures.terms ∙ c.new-lister.ensures.terms in
+    let looks : looked c.new-tracked.result ≡ basis.terms.tracked = c.new-tracked.ensures c.args.listing.case c.in_ok-folded.ensures in
+    let at : Begins known basis c.lead.new.path.items told lists pending = subst (λ (t : LookedUp). Begins known (record { fronts = basis.fronts; terms = with_tracked c.args.listing t }) c.lead.new.path.items told lists pending) looks (rw (c.new-lister.ensures.lists, c.new-lister.ensures.terms) at c.in_ok-begin.ensures.begins) in
+    let as_terms : terms_of c.begin.new.self.on_way.terms ≡ basis.terms = ap terms_of c.begin.ensures.terms ∙ c.new-lister.ensures.terms ∙ ap (with_tracked c.args.listing) looks in
     let old = g.W.Write.contents (inner c.args.writer.now) in
     let new = g.W.Write.contents (inner c.write_listed.new.writer) in
     let ok = rw (c.new-lines.ensures.0, c.new-lines.ensures.1, c.new-lines.ensures.2, as_terms) at c.write_listed.ensures.ok in
@@ -64,8 +73,9 @@ returns-clause-front g c =
     let pending = c.begin.new.self.pending.items in
     let told = c.in_ok-is_told_folder.is_told_folder in
     let leads = c.in_ok-is_told_folder.ensures.leads in
-    let at : Begins known basis c.lead.new.path.items told lists pending = rw (c.new-lister.ensures.lists, c.new-lister.ensures.terms) at c.in_ok-begin.ensures.begins in
-    let as_terms : terms_of c.begin.new.self.on_way.terms ≡ basis.terms = ap terms_of c.begin.ensures.terms ∙ c.new-lister.ensures.terms in
+    let looks : looked c.new-tracked.result ≡ basis.terms.tracked = c.new-tracked.ensures c.args.listing.case c.in_ok-folded.ensures in
+    let at : Begins known basis c.lead.new.path.items told lists pending = subst (λ (t : LookedUp). Begins known (record { fronts = basis.fronts; terms = with_tracked c.args.listing t }) c.lead.new.path.items told lists pending) looks (rw (c.new-lister.ensures.lists, c.new-lister.ensures.terms) at c.in_ok-begin.ensures.begins) in
+    let as_terms : terms_of c.begin.new.self.on_way.terms ≡ basis.terms = ap terms_of c.begin.ensures.terms ∙ c.new-lister.ensures.terms ∙ ap (with_tracked c.args.listing) looks in
     let old = g.W.Write.contents (inner c.args.writer.now) in
     let new = g.W.Write.contents (inner c.write_listed.new.writer) in
     let err = rw (c.new-lines.ensures.0, c.new-lines.ensures.1, c.new-lines.ensures.2, as_terms) at c.write_listed.ensures.front in
@@ -89,8 +99,9 @@ returns-clause-asks g c =
     let pending = c.begin.new.self.pending.items in
     let told = c.in_ok-is_told_folder.is_told_folder in
     let leads = c.in_ok-is_told_folder.ensures.leads in
-    let at : Begins known basis c.lead.new.path.items told lists pending = rw (c.new-lister.ensures.lists, c.new-lister.ensures.terms) at c.in_ok-begin.ensures.begins in
-    let as_terms : terms_of c.begin.new.self.on_way.terms ≡ basis.terms = ap terms_of c.begin.ensures.terms ∙ c.new-lister.ensures.terms in
+    let looks : looked c.new-tracked.result ≡ basis.terms.tracked = c.new-tracked.ensures c.args.listing.case c.in_ok-folded.ensures in
+    let at : Begins known basis c.lead.new.path.items told lists pending = subst (λ (t : LookedUp). Begins known (record { fronts = basis.fronts; terms = with_tracked c.args.listing t }) c.lead.new.path.items told lists pending) looks (rw (c.new-lister.ensures.lists, c.new-lister.ensures.terms) at c.in_ok-begin.ensures.begins) in
+    let as_terms : terms_of c.begin.new.self.on_way.terms ≡ basis.terms = ap terms_of c.begin.ensures.terms ∙ c.new-lister.ensures.terms ∙ ap (with_tracked c.args.listing) looks in
     let old = g.W.Write.contents (inner c.args.writer.now) in
     let new = g.W.Write.contents (inner c.write_listed.new.writer) in
     let asks = rw as_terms at c.write_listed.ensures.asks in
