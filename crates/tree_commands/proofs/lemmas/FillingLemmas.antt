@@ -10,23 +10,31 @@ use Rattle.gix_glob.specs.EntryLists.{EntryList}
 use Rattle.glob_trees.specs.Ways.{Folder, GivesOnly, start_of}
 use Rattle.tree_commands.specs.declared.files.choosing.Chosen.{Chosen}
 use Rattle.tree_commands.specs.declared.files.choosing.Chosen.TheVariants.{All, Ignored, Unignored}
-use Rattle.tree_commands.specs.declared.files.choosing.Folders.TheVariants.{Entered, NamedIfFilled}
+use Rattle.tree_commands.specs.declared.files.choosing.Folders.TheVariants.{Entered, EnteredUnlessFilled, NamedIfFilled}
 use Rattle.tree_commands.specs.declared.files.pending.Pending.{Pending}
 use Rattle.tree_commands.specs.FileTrees.{FileTree}
-use Rattle.tree_commands.specs.Files.{Basis, HasListed, IsFilled, IsFilledBy, IsIgnoredAt, IsListedBy, IsMet, IsSearched, IsTold, Terms, begins, entering}
+use Rattle.tree_commands.specs.Files.{Basis, HasListed, IsFilled, IsFilledBy, IsIgnoredAt, IsListedBy, IsMet, IsMetUnless, IsReplaced, IsSearched, IsTold, IsToldAsListed, IsToldInPlace, Terms, begins, entering, lies, never}
 use Rattle.tree_commands.specs.Private.Filling.{IsToTell, IsUnfilled, KeepsLists, MaySearch, OfStanding, Tells}
-use Rattle.tree_commands.specs.Private.Listing.{Among, FlagsFolder, IsEntered, IsIgnoredNext, IsLevel, IsMarked, IsPassedOver, IsToList, MayVisit, Stands, Visits, path_of}
+use Rattle.tree_commands.specs.Private.Listing.{Among, FlagsFolder, IsEntered, IsFree, IsIgnoredNext, IsLevel, IsMarked, IsPassedOver, IsToList, MayVisit, Stands, Visits, path_of}
 use Rattle.tree_commands.specs.Private.UnderWay.{Beginning, IsHalfway, IsUnderWay, IsWriting, OfKnown, WritesAll}
 use Rattle.tree_commands.proofs.lemmas.AmongLemmas.{among_cases, among_last, among_left, of_all}
 use Rattle.tree_commands.proofs.lemmas.LevelLemmas.{next_ignored}
 use Rattle.tree_commands.proofs.lemmas.ListingRuns.{all_is_written, asked_is_met, told_is_met, writes_on}
-use Rattle.tree_commands.proofs.lemmas.PathLemmas.{some_append, start_ends, start_marked}
+use Rattle.tree_commands.proofs.lemmas.PathLemmas.{one_folder, some_append, start_ends, start_marked}
 use Rattle.tree_commands.proofs.lemmas.SourceLemmas.{gives_further}
 
 -- ---- where a search begins
 
 entered_is_other : Entered ≢ NamedIfFilled
 entered_is_other is = absurd (cc)
+
+entered_is_entered : Entered ≢ EnteredUnlessFilled
+entered_is_entered is = absurd (cc)
+
+-- what is met where more is replaced is met where less is
+met_where : (basis : Basis) (tree : FileTree) (More Less : Folder → Type 0) → ((folder : Folder) → Less folder → More folder) → {start path : List ℕ} → IsMetUnless basis tree More start path → IsMetUnless basis tree Less start path
+met_where basis tree More Less fewer begins = begins
+met_where basis tree More Less fewer (lies {folder} {found} met may kept entry) = lies (met_where basis tree More Less fewer met) may (λ less. kept (fewer folder less)) entry
 
 -- the lists decide about the same for another listing
 level_entering : (chosen other : Chosen) (basis : Basis) (tree : FileTree) (lists : List (EntryList (Unit {0}))) (is_below : Bool) (path : List ℕ) → IsLevel chosen basis tree lists is_below path → IsLevel chosen (entering other basis) tree lists is_below path
@@ -146,9 +154,13 @@ module _ (Known : FileTree → Type 0) (terms : Terms) (beginning : Beginning) (
       (path_of next, met.0, met.1)
 
   -- or the search goes on
+  -- no folder is replaced
+  pub none_replaced : OfStanding Now terms lists next (λ basis tree. (folder : Folder) → path_of next ≡ start_of folder → ¬ IsReplaced basis tree folder)
+  none_replaced tree known basis same stands folder is replaced = entered_is_entered (sym entered ∙ sym (ap (λ (t : Terms). t.folders) same) ∙ replaced.asks)
+
   pub search_goes_on : Visits Now terms next lists new_lists pending new None → IsSearching Known terms beginning new new_lists
   search_goes_on visited =
-      writes_on mark_line Known terms beginning (Some []) Now stays (Some []) (Some []) [] [] next pending new lists new_lists None it (tells_visited Now terms next lists new_lists pending new None other_manner visited) ([], refl, refl)
+      writes_on mark_line Known terms beginning (Some []) Now stays (Some []) (Some []) [] [] next pending new lists new_lists None it (inr (record { tells = tells_visited Now terms next lists new_lists pending new None other_manner visited; open = none_replaced })) ([], refl, refl)
 
   -- a folder that is asked for its names is met
   pub search_asks : (first before after : Folder → Type 0) → GivesOnly (λ folder. OfKnown Known terms beginning (λ basis tree start. IsMet basis tree start (start_of folder))) first before
@@ -208,8 +220,19 @@ module _ (chosen : Chosen) (basis : Basis) (tree : FileTree) (folder : Folder) w
   -- what it finds is listed
   pub has_found : (start : List ℕ) → start ≡ start_of folder → ((path : List ℕ) × IsMet (entering chosen basis) tree start path × IsTold (entering chosen basis) tree path) ↔ HasListed chosen basis tree folder
   has_found start is = (
-    λ found. record { path = found.0; met = subst (λ s. IsMet (entering chosen basis) tree s found.0) is found.1; listed = (let told = found.2 in told.listed) },
-    λ has. (has.path, subst (λ s. IsMet (entering chosen basis) tree s has.path) (sym is) has.met, record { listed = has.listed; filled = λ asks. absurd (entered_is_other asks) }),
+    λ found. record {
+      path = found.0;
+      met = met_where (entering chosen basis) tree (IsReplaced (entering chosen basis) tree) never (λ folder none. absurd none) (subst (λ s. IsMet (entering chosen basis) tree s found.0) is found.1);
+      listed = ⊎_elim
+          (λ (told : IsToldAsListed (entering chosen basis) tree found.0). told.listed)
+          (λ (told : IsToldInPlace (entering chosen basis) tree found.0). absurd (entered_is_entered told.replaced.asks))
+          found.2;
+    },
+    λ has. (
+      has.path,
+      subst (λ s. IsMet (entering chosen basis) tree s has.path) (sym is) (met_where (entering chosen basis) tree never (IsReplaced (entering chosen basis) tree) (λ folder replaced. absurd (entered_is_entered replaced.asks)) has.met),
+      inl (record { listed = has.listed; filled = λ asks. absurd (entered_is_other asks) }),
+    ),
   )
 
 -- ---- whether a folder is filled
@@ -448,5 +471,31 @@ module _ (Known : FileTree → Type 0) (terms : Terms) (next : Pending) (lists n
         first middle last (λ folder is. inl is)
         (λ folder asked. inr (at_next (λ basis tree. IsSearched basis tree (path_of next) folder) (λ tree known basis same stands.
         let it = asked tree known basis same stands in
-        record { asks = ap (λ (t : Terms). t.folders) (same ∙ as_terms) ∙ asks; chosen = it.0; met = subst (λ p. IsMet (entering it.0 basis) tree p (start_of folder)) same_path it.1 })))
+        record { asks = inl (ap (λ (t : Terms). t.folders) (same ∙ as_terms) ∙ asks); chosen = it.0; met = subst (λ p. IsMet (entering it.0 basis) tree p (start_of folder)) same_path it.1 })))
         one two
+
+-- ---- whether a folder is replaced by its name
+
+module _ (Known : FileTree → Type 0) (terms : Terms) (lists : List (EntryList (Unit {0}))) (place : Pending) where
+  abbrev pub SaysReplaced : Bool → Type 0
+  SaysReplaced says = OfStanding Known terms lists place (λ basis tree. (folder : Folder) → path_of place ≡ start_of folder → IsTrue says ↔ IsReplaced basis tree folder)
+
+  pub says_kept : ((basis : Basis) (tree : FileTree) → basis.terms ≡ terms → (folder : Folder) → path_of place ≡ start_of folder → ¬ IsReplaced basis tree folder) → SaysReplaced false
+  says_kept never_is tree known basis same stands folder is = ((λ yes. absurd (false≢true yes)), λ replaced. absurd (never_is basis tree same folder is replaced))
+
+  pub kept_otherwise : terms.folders ≢ EnteredUnlessFilled → SaysReplaced false
+  kept_otherwise other = says_kept (λ basis tree same folder is replaced. other (sym (ap (λ (t : Terms). t.folders) same) ∙ replaced.asks))
+
+  pub kept_file : path_of place ≢ [] → ¬ EndsInSlash (path_of place) → SaysReplaced false
+  kept_file some whole = says_kept (λ basis tree same folder is replaced. whole (subst EndsInSlash (sym is) (start_ends folder (λ none. some (is ∙ none)))))
+
+  module _ (at : Folder) (start : path_of place ≡ start_of at) where
+    pub kept_unfree : ¬ IsFree terms at → SaysReplaced false
+    kept_unfree unfree = says_kept (λ basis tree same folder is replaced.
+        unfree (subst (λ (t : Terms). IsFree t at) same (subst (IsFree basis.terms) (one_folder folder at (sym is ∙ start)) (replaced.below, replaced.free))))
+
+    pub says_replaced : terms.folders ≡ EnteredUnlessFilled → IsFree terms at → (says : Bool) → SaysFilled Known terms lists place says → SaysReplaced says
+    says_replaced asks free says filled tree known basis same stands folder is =
+        let it = filled tree known basis same stands folder is in
+        let here = subst (IsFree basis.terms) (one_folder at folder (sym start ∙ is)) (subst (λ (t : Terms). IsFree t at) (sym same) free) in
+        ((λ yes. record { asks = ap (λ (t : Terms). t.folders) same ∙ asks; below = here.0; free = here.1; filled = it.0 yes }), λ replaced. it.1 replaced.filled)

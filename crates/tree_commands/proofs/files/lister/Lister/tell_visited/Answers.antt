@@ -13,8 +13,8 @@ use Rattle.tree_commands.specs.Private.Filling.{Tells}
 use Rattle.tree_commands.specs.Private.Listing.{IsToList, Visits, path_of, seen_lists, terms_of}
 use Rattle.tree_commands.proofs.lemmas.FillingLemmas.{SaysFilled, searches, told_file, told_filled, told_unasked, untold}
 use Rattle.tree_commands.proofs.lemmas.ListsLemmas.{bases_taken, seen_taken}
-use Rattle.tree_commands.proofs.files.lister.Lister.tell.Goals.{then-not-asks_filled-via-then-not-asks_filled, then-not-asks_filled-via-else-not-asks_filled+then-not-ends_in_slash}
-use Rattle.tree_commands.proofs.files.lister.Lister.tell.Goals as goal
+use Rattle.tree_commands.proofs.files.lister.Lister.tell_visited.Goals.{then-not-asks_filled-via-then-not-asks_filled, then-not-asks_filled-via-else-not-asks_filled+then-not-ends_in_slash}
+use Rattle.tree_commands.proofs.files.lister.Lister.tell_visited.Goals as goal
 
 pub visit-requires-clause-folders : goal.visit-requires-clause-folders
 visit-requires-clause-folders g c =
