@@ -13,7 +13,7 @@ use Rattle.tree_commands.specs.declared.files.choosing.Chosen.TheVariants.{All, 
 use Rattle.tree_commands.specs.declared.files.choosing.Folders.TheVariants.{Entered, EnteredUnlessFilled, NamedIfFilled}
 use Rattle.tree_commands.specs.declared.files.pending.Pending.{Pending}
 use Rattle.tree_commands.specs.FileTrees.{FileTree}
-use Rattle.tree_commands.specs.Files.{Basis, HasListed, IsFilled, IsFilledBy, IsIgnoredAt, IsListedBy, IsMet, IsMetUnless, IsReplaced, IsSearched, IsTold, IsToldAsListed, IsToldInPlace, Terms, begins, entering, lies, never}
+use Rattle.tree_commands.specs.Files.{AsksFilled, Basis, HasListed, IsFilled, IsFilledBy, IsIgnoredAt, IsListedBy, IsMet, IsMetUnless, IsReplaced, IsSearched, IsTold, IsToldAsListed, IsToldInPlace, Terms, begins, entering, lies, never}
 use Rattle.tree_commands.specs.Private.Filling.{IsToTell, IsUnfilled, KeepsLists, MaySearch, OfStanding, Tells}
 use Rattle.tree_commands.specs.Private.Listing.{Among, FlagsFolder, IsEntered, IsFree, IsIgnoredNext, IsLevel, IsMarked, IsPassedOver, IsToList, MayVisit, Stands, Visits, path_of}
 use Rattle.tree_commands.specs.Private.UnderWay.{Beginning, IsHalfway, IsUnderWay, IsWriting, OfKnown, WritesAll}
@@ -22,6 +22,7 @@ use Rattle.tree_commands.proofs.lemmas.LevelLemmas.{next_ignored}
 use Rattle.tree_commands.proofs.lemmas.ListingRuns.{all_is_written, asked_is_met, told_is_met, writes_on}
 use Rattle.tree_commands.proofs.lemmas.PathLemmas.{one_folder, some_append, start_ends, start_marked}
 use Rattle.tree_commands.proofs.lemmas.SourceLemmas.{gives_further}
+use Rattle.tree_commands.proofs.lemmas.VisitLemmas.{enters_weaker}
 
 -- ---- where a search begins
 
@@ -499,3 +500,54 @@ module _ (Known : FileTree → Type 0) (terms : Terms) (lists : List (EntryList 
         let it = filled tree known basis same stands folder is in
         let here = subst (IsFree basis.terms) (one_folder at folder (sym start ∙ is)) (subst (λ (t : Terms). IsFree t at) (sym same) free) in
         ((λ yes. record { asks = ap (λ (t : Terms). t.folders) same ∙ asks; below = here.0; free = here.1; filled = it.0 yes }), λ replaced. it.1 replaced.filled)
+
+-- ---- a step of a listing
+
+module _ (Known Now : FileTree → Type 0) (stays : (tree : FileTree) → Known tree → Now tree) (terms : Terms) (next : Pending) (lists new_lists : List (EntryList (Unit {0}))) (old new : List Pending) where
+  to_list_weaker : (path : List ℕ) → IsToList Now terms next lists new_lists old new path → IsToList Known terms next lists new_lists old new path
+  to_list_weaker path it = record { same = it.same; lists = it.lists; pending = it.pending; listed = λ tree known. it.listed tree (stays tree known) }
+
+  -- what is known after a call is known of what was known before it
+  pub tells_weaker : (told : Option (List ℕ)) → Tells Now terms next lists new_lists old new told → Tells Known terms next lists new_lists old new told
+  tells_weaker (Some path) it = record { listed = to_list_weaker path it.listed; filled = λ asks folder is tree known. it.filled asks folder is tree (stays tree known) }
+  tells_weaker None (inl it) = inl (record { listed = to_list_weaker (path_of next) it.listed; asks = it.asks; folder = it.folder; start = it.start; unfilled = λ tree known. it.unfilled tree (stays tree known) })
+  tells_weaker None (inr (inl it)) = inr (inl (record {
+    folder = it.folder;
+    start = it.start;
+    is_ignored = it.is_ignored;
+    flag = it.flag;
+    may = λ tree known. it.may tree (stays tree known);
+    enters = enters_weaker Now Known stays terms it.folder next.list_count it.is_ignored lists new_lists old new it.enters;
+  }))
+  tells_weaker None (inr (inr it)) = inr (inr (record { lists = it.lists; pending = it.pending; ends = λ tree known. it.ends tree (stays tree known); unlisted = λ tree known. it.unlisted tree (stays tree known) }))
+
+pub searched_as : (Known : FileTree → Type 0) (terms : Terms) (lists more : List (EntryList (Unit {0}))) (next : Pending) → more ≡ lists → (old new : Folder → Type 0) → GivesOnly (λ folder. OfStanding Known terms more next (λ basis tree. IsSearched basis tree (path_of next) folder)) old new
+    → GivesOnly (λ folder. (path_of next ≡ start_of folder) ⊎ OfStanding Known terms lists next (λ basis tree. IsSearched basis tree (path_of next) folder)) old new
+searched_as Known terms lists more next as_lists old new asked folder given = ⊎_elim
+    (λ (before : old folder). inl before)
+    (λ (here : OfStanding Known terms more next (λ basis tree. IsSearched basis tree (path_of next) folder)).
+    inr (inr (standing_as Known Known terms terms lists more next (λ basis tree. IsSearched basis tree (path_of next) folder) (λ tree known. known) refl as_lists here)))
+    (asked folder given)
+
+pub searched_then : (Known Now : FileTree → Type 0) (terms other : Terms) (lists more : List (EntryList (Unit {0}))) (next : Pending) → ((tree : FileTree) → Known tree → Now tree) → other ≡ terms → more ≡ lists → (old middle new : Folder → Type 0)
+    → GivesOnly (λ folder. (path_of next ≡ start_of folder) ⊎ OfStanding Known terms lists next (λ basis tree. IsSearched basis tree (path_of next) folder)) old middle
+    → GivesOnly (λ folder. (path_of next ≡ start_of folder) ⊎ OfStanding Now other more next (λ basis tree. IsSearched basis tree (path_of next) folder)) middle new
+    → GivesOnly (λ folder. (path_of next ≡ start_of folder) ⊎ OfStanding Known terms lists next (λ basis tree. IsSearched basis tree (path_of next) folder)) old new
+searched_then Known Now terms other lists more next stays as_terms as_lists old middle new one two =
+    gives_further (λ folder. (path_of next ≡ start_of folder) ⊎ OfStanding Known terms lists next (λ basis tree. IsSearched basis tree (path_of next) folder))
+    (λ folder. (path_of next ≡ start_of folder) ⊎ OfStanding Now other more next (λ basis tree. IsSearched basis tree (path_of next) folder))
+    (λ folder. (path_of next ≡ start_of folder) ⊎ OfStanding Known terms lists next (λ basis tree. IsSearched basis tree (path_of next) folder)) old middle new (λ folder led. led)
+    (λ folder which. ⊎_elim
+        (λ (is : path_of next ≡ start_of folder). inl is)
+        (λ (here : OfStanding Now other more next (λ basis tree. IsSearched basis tree (path_of next) folder)).
+        inr (standing_as Known Now terms other lists more next (λ basis tree. IsSearched basis tree (path_of next) folder) stays as_terms as_lists here))
+        which)
+    one two
+
+pub asked_searched : (Known : FileTree → Type 0) (terms : Terms) (lists : List (EntryList (Unit {0}))) (place : Pending) → AsksFilled terms.folders → (old new : Folder → Type 0) → GivesOnly (IsAsked Known terms lists place) old new
+    → GivesOnly (λ folder. OfStanding Known terms lists place (λ basis tree. IsSearched basis tree (path_of place) folder)) old new
+asked_searched Known terms lists place asks old new asked folder given = ⊎_elim
+    (λ (before : old folder). inl before)
+    (λ (here : IsAsked Known terms lists place folder). inr (λ tree known basis same stands.
+        let it = here tree known basis same stands in record { asks = subst (λ (t : Terms). AsksFilled t.folders) (sym same) asks; chosen = it.0; met = it.1 }))
+    (asked folder given)

@@ -1,5 +1,5 @@
 //! Folders that are told only if they are filled: listings from there that go into all folders, and end at the first path.
-ghost use Rattle.std.specs.Prelude.{◌≡◌, ◌≢◌, ◌↔◌, ◌≤◌, ◌⊎◌, ◌∷◌, [], ℕ, List, false, length, take, IfErr, IfOk, IsTrue, MatchOption, OnOk, option_map};
+ghost use Rattle.std.specs.Prelude.{◌≡◌, ◌≢◌, ◌↔◌, ◌≤◌, ◌⊎◌, ◌∷◌, [], ℕ, List, false, length, take, IfErr, IfOk, IsTrue, OnOk, option_map};
 ghost use Rattle.std.specs.Vec.{vec_items};
 ghost use Rattle.git_index.specs.Entries.{IsTracked};
 ghost use Rattle.gix_glob.specs.Bytes.{EndsInSlash, slash};
@@ -17,7 +17,7 @@ ghost use Rattle.tree_commands.specs.Private.UnderWay.{IsUnderWay, OfKnown, begi
 use crate::files::choosing::{Chosen, Folders};
 use crate::files::entries::ListsOnWay;
 use crate::files::fault::FilesFault;
-use crate::files::lister::{Lister, folder_at, is_free, is_ignored_folder, only_if};
+use crate::files::lister::{Lister, folder_at, is_free, is_ignored_folder};
 use crate::files::pending::Pending;
 use crate::files::source::FileSource;
 use crate::files::start::ends_in_slash;
@@ -47,10 +47,14 @@ impl<'a> Lister<'a> {
     {
         self.on_way.lists.truncate(next.list_count);
         let is_replaced = self.is_replaced(source, &next)?;
-        if is_replaced {
-            return Ok(in_place(&self.on_way.terms, next.path));
+        if !is_replaced {
+            let told = self.tell_visited(source, next)?;
+            return Ok(told);
         }
-        self.tell_visited(source, next)
+        if has_tracked_name(&self.on_way.terms, &next.path) {
+            return Ok(None);
+        }
+        Ok(Some(next.path))
     }
 
     /// Whether the folder is replaced by its name at whose path a listing stands.
@@ -80,7 +84,8 @@ impl<'a> Lister<'a> {
         if !is_free(&self.on_way.terms, folder) {
             return Ok(false);
         }
-        self.is_filled(source, place)
+        let is_filled = self.is_filled(source, place)?;
+        Ok(is_filled)
     }
 
     /// Visits a path, and answers it where it is to be told, unless its folder is replaced by its name.
@@ -199,16 +204,15 @@ impl<'a> Lister<'a> {
     }
 }
 
-/// The path of a folder that is replaced by its name, unless a tracked file has it.
-fn in_place(terms: &Terms<'_>, path: Vec<u8>) -> Option<Vec<u8>>
-    requires { path.items ≢ slash ∷ [] }
-    ensures { (folder : Folder) → path.items ≡ start_of folder → MatchOption (option_map vec_items result) (IsTracked (terms_of terms.now).tracked folder) (λ told. (told ≡ path.items) × (¬ IsTracked (terms_of terms.now).tracked folder)) }
+/// Whether a tracked file has the name of the folder of this path.
+fn has_tracked_name(terms: &Terms<'_>, path: &[u8]) -> bool
+    requires { path.now ≢ slash ∷ [] }
+    ensures { (folder : Folder) → path.now ≡ start_of folder → folder ≢ [] → IsTrue result ↔ IsTracked (terms_of terms.now).tracked folder }
 {
-    let is_listed = match folder_at(&path) {
-        Some(folder) => !terms.tracked.is_tracked(folder),
+    match folder_at(path) {
+        Some(folder) => terms.tracked.is_tracked(folder),
         None => false,
-    };
-    only_if(is_listed, path)
+    }
 }
 
 /// The path once more.
