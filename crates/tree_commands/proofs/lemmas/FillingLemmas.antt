@@ -161,7 +161,7 @@ module _ (Known : FileTree → Type 0) (terms : Terms) (beginning : Beginning) (
 
   pub search_goes_on : Visits Now terms next lists new_lists pending new None → IsSearching Known terms beginning new new_lists
   search_goes_on visited =
-      writes_on mark_line Known terms beginning (Some []) Now stays (Some []) (Some []) [] [] next pending new lists new_lists None it (inr (record { tells = tells_visited Now terms next lists new_lists pending new None other_manner visited; open = none_replaced })) ([], refl, refl)
+      writes_on mark_line Known terms beginning (Some []) Now stays (Some []) (Some []) [] [] next pending new lists new_lists None it (inr (record { tells = tells_visited Now terms next lists new_lists pending new None other_manner visited; unreplaced = none_replaced })) ([], refl, refl)
 
   -- a folder that is asked for its names is met
   pub search_asks : (first before after : Folder → Type 0) → GivesOnly (λ folder. OfKnown Known terms beginning (λ basis tree start. IsMet basis tree start (start_of folder))) first before
@@ -538,10 +538,10 @@ searched_then Known Now terms other lists more next stays as_terms as_lists old 
     (λ folder. (path_of next ≡ start_of folder) ⊎ OfStanding Now other more next (λ basis tree. IsSearched basis tree (path_of next) folder))
     (λ folder. (path_of next ≡ start_of folder) ⊎ OfStanding Known terms lists next (λ basis tree. IsSearched basis tree (path_of next) folder)) old middle new (λ folder led. led)
     (λ folder which. ⊎_elim
-        (λ (is : path_of next ≡ start_of folder). inl is)
-        (λ (here : OfStanding Now other more next (λ basis tree. IsSearched basis tree (path_of next) folder)).
-        inr (standing_as Known Now terms other lists more next (λ basis tree. IsSearched basis tree (path_of next) folder) stays as_terms as_lists here))
-        which)
+    (λ (is : path_of next ≡ start_of folder). inl is)
+    (λ (here : OfStanding Now other more next (λ basis tree. IsSearched basis tree (path_of next) folder)).
+    inr (standing_as Known Now terms other lists more next (λ basis tree. IsSearched basis tree (path_of next) folder) stays as_terms as_lists here))
+    which)
     one two
 
 pub asked_searched : (Known : FileTree → Type 0) (terms : Terms) (lists : List (EntryList (Unit {0}))) (place : Pending) → AsksFilled terms.folders → (old new : Folder → Type 0) → GivesOnly (IsAsked Known terms lists place) old new
@@ -549,5 +549,5 @@ pub asked_searched : (Known : FileTree → Type 0) (terms : Terms) (lists : List
 asked_searched Known terms lists place asks old new asked folder given = ⊎_elim
     (λ (before : old folder). inl before)
     (λ (here : IsAsked Known terms lists place folder). inr (λ tree known basis same stands.
-        let it = here tree known basis same stands in record { asks = subst (λ (t : Terms). AsksFilled t.folders) (sym same) asks; chosen = it.0; met = it.1 }))
+    let it = here tree known basis same stands in record { asks = subst (λ (t : Terms). AsksFilled t.folders) (sym same) asks; chosen = it.0; met = it.1 }))
     (asked folder given)

@@ -110,8 +110,8 @@ module _ (line : List ℕ → List ℕ) (Known : FileTree → Type 0) (terms : T
 
     not_told : (tree : FileTree) (known : Known tree) (basis : Basis) (same : basis.terms ≡ terms) (start : List ℕ) (halfway : IsHalfway basis tree start [] beginning.pending beginning.lists)
         → ¬ IsToldAsListed basis tree (path_of next) → ((folder : Folder) → path_of next ≡ start_of folder → ¬ IsReplaced basis tree folder) → ¬ IsTold basis tree (path_of next)
-    not_told tree known basis same start halfway unlisted open (inl told) = unlisted told
-    not_told tree known basis same start halfway unlisted open (inr told) = open told.folder told.start told.replaced
+    not_told tree known basis same start halfway unlisted unreplaced (inl told) = unlisted told
+    not_told tree known basis same start halfway unlisted unreplaced (inr told) = unreplaced told.folder told.start told.replaced
 
     hidden_at : (basis : Basis) → basis.terms ≡ terms → (folder other : Folder) → start_of folder ≡ start_of other → IsTracked terms.tracked folder → IsTracked basis.terms.tracked other
     hidden_at basis same folder other is hidden = subst (λ (t : Terms). IsTracked t.tracked other) (sym same) (subst (IsTracked terms.tracked) (one_folder folder other is) hidden)
@@ -148,8 +148,8 @@ module _ (line : List ℕ → List ℕ) (Known : FileTree → Type 0) (terms : T
         }
 
     -- or it was passed over
-    pub writes_passed : (open : IsOpenNext) (new_pending : List Pending) (new_lists : List (EntryList (Unit {0}))) → IsPassedOver Now terms next lists new_lists pending new_pending → IsWriting line Known terms beginning old middle text new_pending new_lists
-    writes_passed open new_pending new_lists is =
+    pub writes_passed : (unreplaced : IsOpenNext) (new_pending : List Pending) (new_lists : List (EntryList (Unit {0}))) → IsPassedOver Now terms next lists new_lists pending new_pending → IsWriting line Known terms beginning old middle text new_pending new_lists
+    writes_passed unreplaced new_pending new_lists is =
         subst (λ (ls : List (EntryList (Unit {0}))). IsWriting line Known terms beginning old middle text new_pending ls) (sym is.lists)
         (subst (λ (ps : List Pending). IsWriting line Known terms beginning old middle text ps lists) (sym is.pending) here)
       where
@@ -163,12 +163,12 @@ module _ (line : List ℕ → List ℕ) (Known : FileTree → Type 0) (terms : T
           halfway = λ tree known basis same start halfway.
               halfway_passed basis tree start it.listed pending next lists (it.halfway tree known basis same start halfway)
               (inl (to_end tree known basis same start halfway (is.ends tree (stays tree known))))
-              (not_told tree known basis same start halfway (λ told. is.unlisted tree (stays tree known) (from_listed tree known basis same start halfway told.listed)) (open tree (stays tree known) basis same (stands_next tree known basis same start halfway)));
+              (not_told tree known basis same start halfway (λ told. is.unlisted tree (stays tree known) (from_listed tree known basis same start halfway told.listed)) (unreplaced tree (stays tree known) basis same (stands_next tree known basis same start halfway)));
         }
 
     -- or its folder isn't filled
-    pub writes_unfilled : (open : IsOpenNext) (new_pending : List Pending) (new_lists : List (EntryList (Unit {0}))) → IsUnfilled Now terms next lists new_lists pending new_pending → IsWriting line Known terms beginning old middle text new_pending new_lists
-    writes_unfilled open new_pending new_lists is =
+    pub writes_unfilled : (unreplaced : IsOpenNext) (new_pending : List Pending) (new_lists : List (EntryList (Unit {0}))) → IsUnfilled Now terms next lists new_lists pending new_pending → IsWriting line Known terms beginning old middle text new_pending new_lists
+    writes_unfilled unreplaced new_pending new_lists is =
         subst (λ (ls : List (EntryList (Unit {0}))). IsWriting line Known terms beginning old middle text new_pending ls) (sym is.listed.lists)
         (subst (λ (ps : List Pending). IsWriting line Known terms beginning old middle text ps lists) (sym is.listed.pending) here)
       where
@@ -182,12 +182,12 @@ module _ (line : List ℕ → List ℕ) (Known : FileTree → Type 0) (terms : T
           halfway = λ tree known basis same start halfway.
               halfway_passed basis tree start it.listed pending next lists (it.halfway tree known basis same start halfway)
               (ends_listed basis tree (path_of next) (to_listed tree known basis same start halfway (is.listed.listed tree (stays tree known))))
-              (not_told tree known basis same start halfway (λ told. is.unfilled tree (stays tree known) basis same (stands_next tree known basis same start halfway) (told.filled (ap (λ (t : Terms). t.folders) same ∙ is.asks) is.folder is.start)) (open tree (stays tree known) basis same (stands_next tree known basis same start halfway)));
+              (not_told tree known basis same start halfway (λ told. is.unfilled tree (stays tree known) basis same (stands_next tree known basis same start halfway) (told.filled (ap (λ (t : Terms). t.folders) same ∙ is.asks) is.folder is.start)) (unreplaced tree (stays tree known) basis same (stands_next tree known basis same start halfway)));
         }
 
     -- or its folder was entered
-    pub writes_entered : (open : IsOpenNext) (new_pending : List Pending) (new_lists : List (EntryList (Unit {0}))) → IsEntered Now terms next lists new_lists pending new_pending → IsWriting line Known terms beginning old middle text new_pending new_lists
-    writes_entered open new_pending new_lists is = record {
+    pub writes_entered : (unreplaced : IsOpenNext) (new_pending : List Pending) (new_lists : List (EntryList (Unit {0}))) → IsEntered Now terms next lists new_lists pending new_pending → IsWriting line Known terms beginning old middle text new_pending new_lists
+    writes_entered unreplaced new_pending new_lists is = record {
       listed = it.listed;
       under_way = under_way_entered terms it.listed pending next lists it.under_way is.folder is.start Now is.is_ignored new_lists new_pending is.enters;
       written = it.written;
@@ -203,16 +203,16 @@ module _ (line : List ℕ → List ℕ) (Known : FileTree → Type 0) (terms : T
             let flags = subst (λ (t : Terms). FlagsFolder t lists next is.folder is.is_ignored) (sym same) is.flag in
             let may = subst (λ (t : Terms). ¬ IsShut t tree is.folder (IsTrue is.is_ignored)) (sym same) (is.may tree (stays tree known)) in
             halfway_entered basis tree start it.listed pending next lists now is.folder is.start (unended is.folder is.start) is.is_ignored flags
-            (open_by_flag basis tree lists next (now.standing next (among_last pending next)) is.folder is.start (unended is.folder is.start) is.is_ignored flags may, open tree (stays tree known) basis same (stands_next tree known basis same start halfway) is.folder is.start)
+            (open_by_flag basis tree lists next (now.standing next (among_last pending next)) is.folder is.start (unended is.folder is.start) is.is_ignored flags may, unreplaced tree (stays tree known) basis same (stands_next tree known basis same start halfway) is.folder is.start)
             (λ other among. (let above = stack_top path_of (λ (p : Pending). p.list_count) pending next it.under_way.stacked other among in above.counts))
             (it.under_way.counts next (among_last pending next))
             Now (stays tree known) new_lists new_pending (subst (λ (t : Terms). Enters Now t is.folder next.list_count is.is_ignored lists new_lists pending new_pending) (sym same) is.enters)
 
-    pub writes_nothing : (open : IsOpenNext) (new_pending : List Pending) (new_lists : List (EntryList (Unit {0}))) → IsUnfilled Now terms next lists new_lists pending new_pending ⊎ (IsEntered Now terms next lists new_lists pending new_pending ⊎ IsPassedOver Now terms next lists new_lists pending new_pending)
+    pub writes_nothing : (unreplaced : IsOpenNext) (new_pending : List Pending) (new_lists : List (EntryList (Unit {0}))) → IsUnfilled Now terms next lists new_lists pending new_pending ⊎ (IsEntered Now terms next lists new_lists pending new_pending ⊎ IsPassedOver Now terms next lists new_lists pending new_pending)
         → IsWriting line Known terms beginning old middle text new_pending new_lists
-    writes_nothing open new_pending new_lists (inl unfilled) = writes_unfilled open new_pending new_lists unfilled
-    writes_nothing open new_pending new_lists (inr (inl entered)) = writes_entered open new_pending new_lists entered
-    writes_nothing open new_pending new_lists (inr (inr passed)) = writes_passed open new_pending new_lists passed
+    writes_nothing unreplaced new_pending new_lists (inl unfilled) = writes_unfilled unreplaced new_pending new_lists unfilled
+    writes_nothing unreplaced new_pending new_lists (inr (inl entered)) = writes_entered unreplaced new_pending new_lists entered
+    writes_nothing unreplaced new_pending new_lists (inr (inr passed)) = writes_passed unreplaced new_pending new_lists passed
 
     -- or its folder was replaced by its name, which isn't told
     pub writes_silent : (new_pending : List Pending) (new_lists : List (EntryList (Unit {0}))) → IsNamedInPlace Now terms next lists new_lists pending new_pending None → IsWriting line Known terms beginning old middle text new_pending new_lists
@@ -315,7 +315,7 @@ module _ (line : List ℕ → List ℕ) (Known : FileTree → Type 0) (terms : T
   writes_on Now stays middle new text left next pending new_pending lists new_lists None it (inl named) out =
       writes_out middle new text left out.0 new_pending new_lists (writes_silent Now stays middle text next pending lists it new_pending new_lists named) out.1 out.2
   writes_on Now stays middle new text left next pending new_pending lists new_lists None it (inr visited) out =
-      writes_out middle new text left out.0 new_pending new_lists (writes_nothing Now stays middle text next pending lists it visited.open new_pending new_lists visited.tells) out.1 out.2
+      writes_out middle new text left out.0 new_pending new_lists (writes_nothing Now stays middle text next pending lists it visited.unreplaced new_pending new_lists visited.tells) out.1 out.2
   writes_on Now stays middle new text left next pending new_pending lists new_lists (Some path) it (inl named) out =
       writes_listed Now stays middle text next pending lists it new new_pending new_lists path (text ++ line path) left out.0 named.told_if.0 named.lists named.pending
       (λ tree known basis same start halfway. inr (record {

@@ -53,7 +53,7 @@ pub record IsNamedInPlace (Known : FileTree → Type 0) (terms : Terms) (next : 
 -- or it wasn't, and was visited
 pub record IsVisited (Known : FileTree → Type 0) (terms : Terms) (next : Pending) (old_lists new_lists : List (EntryList (Unit {0}))) (old new : List Pending) (told : Option (List ℕ)) : Type 0 where
   pub tells : Tells Known terms next old_lists new_lists old new told
-  pub open : OfStanding Known terms old_lists next (λ basis tree. (folder : Folder) → path_of next ≡ start_of folder → ¬ IsReplaced basis tree folder)
+  pub unreplaced : OfStanding Known terms old_lists next (λ basis tree. (folder : Folder) → path_of next ≡ start_of folder → ¬ IsReplaced basis tree folder)
 
 abbrev pub Steps : (FileTree → Type 0) → Terms → Pending → List (EntryList (Unit {0})) → List (EntryList (Unit {0})) → List Pending → List Pending → Option (List ℕ) → Type 0
 Steps Known terms next old_lists new_lists old new told = IsNamedInPlace Known terms next old_lists new_lists old new told ⊎ IsVisited Known terms next old_lists new_lists old new told

@@ -115,7 +115,7 @@ returns-then-not-is_replaced-clause-steps g c =
           (subst (λ (t : Terms). Tells now t next lists new_lists c.args.self.now.pending.items new told) as_terms
           (subst (λ (ls : List (EntryList (Unit {0}))). Tells now other next ls new_lists c.args.self.now.pending.items new told) as_lists
           (subst (λ (ps : List Pending). Tells now other next (take next.list_count (seen_lists c.is_replaced.new.self.on_way.lists.items)) new_lists ps new told) pending c.in_ok-told.ensures.tells)));
-      open = λ tree it basis same stands folder is replaced. (let one = says tree it basis same stands folder is in false≢true (sym c.if-not-is_replaced.true ∙ one.1 replaced));
+      unreplaced = λ tree it basis same stands folder is replaced. (let one = says tree it basis same stands folder is in false≢true (sym c.if-not-is_replaced.true ∙ one.1 replaced));
     })
 
 pub returns-then-not-is_replaced-clause-asks : goal.returns-then-not-is_replaced-clause-asks
@@ -155,13 +155,13 @@ returns-then-has_tracked_name-clause-steps g c =
     let says : OfStanding known terms lists next (λ basis tree. (folder : Folder) → path_of next ≡ start_of folder → IsTrue c.in_ok-is_replaced.is_replaced ↔ IsReplaced basis tree folder) =
     standing_as known known terms terms lists (seen_lists c.truncate.new.self.items) next _ (λ tree it. it) refl taken c.in_ok-is_replaced.ensures.replaced in
     let starts = c.in_ok-is_replaced.ensures.starts c.if-not-is_replaced.false in
-    let tracked = subst (λ (t : Terms). IsTrue c.has_tracked_name.result ↔ IsTracked t.tracked starts.0) as_terms (c.has_tracked_name.ensures starts.0 (c.deref.ensures.value ∙ starts.1.0) starts.1.1) in
+    let tracked = subst (λ (t : Terms). IsTrue c.has_tracked_name.result ↔ IsTracked t.tracked starts.0) as_terms (c.has_tracked_name.ensures starts.0 (c.deref.ensures.value ∙ starts.1) starts.2) in
     inl (record {
       lists = held;
       pending = pending;
       folder = starts.0;
-      start = starts.1.0;
-      replaced = λ tree it basis same stands. (let one = says tree it basis same stands starts.0 starts.1.0 in one.0 c.if-not-is_replaced.false);
+      start = starts.1;
+      replaced = λ tree it basis same stands. (let one = says tree it basis same stands starts.0 starts.1 in one.0 c.if-not-is_replaced.false);
       told_if = tracked.0 c.if-has_tracked_name.true;
     })
 
@@ -192,13 +192,13 @@ returns-clause-steps g c =
     let says : OfStanding known terms lists next (λ basis tree. (folder : Folder) → path_of next ≡ start_of folder → IsTrue c.in_ok-is_replaced.is_replaced ↔ IsReplaced basis tree folder) =
     standing_as known known terms terms lists (seen_lists c.truncate.new.self.items) next _ (λ tree it. it) refl taken c.in_ok-is_replaced.ensures.replaced in
     let starts = c.in_ok-is_replaced.ensures.starts c.if-not-is_replaced.false in
-    let tracked = subst (λ (t : Terms). IsTrue c.has_tracked_name.result ↔ IsTracked t.tracked starts.0) as_terms (c.has_tracked_name.ensures starts.0 (c.deref.ensures.value ∙ starts.1.0) starts.1.1) in
+    let tracked = subst (λ (t : Terms). IsTrue c.has_tracked_name.result ↔ IsTracked t.tracked starts.0) as_terms (c.has_tracked_name.ensures starts.0 (c.deref.ensures.value ∙ starts.1) starts.2) in
     inl (record {
       lists = held;
       pending = pending;
       folder = starts.0;
-      start = starts.1.0;
-      replaced = λ tree it basis same stands. (let one = says tree it basis same stands starts.0 starts.1.0 in one.0 c.if-not-is_replaced.false);
+      start = starts.1;
+      replaced = λ tree it basis same stands. (let one = says tree it basis same stands starts.0 starts.1 in one.0 c.if-not-is_replaced.false);
       told_if = (refl, λ hidden. false≢true (sym c.if-has_tracked_name.false ∙ tracked.1 hidden));
     })
 
@@ -211,3 +211,39 @@ returns-clause-asks g c =
     let lists = take next.list_count before in
     let taken : seen_lists c.truncate.new.self.items ≡ lists = sym (seen_taken next.list_count c.args.self.now.on_way.lists.items ∙ ap seen_lists (sym c.truncate.ensures.items)) in
     searched_as known terms lists (seen_lists c.truncate.new.self.items) next taken (g.S.FileSource.asked c.args.source.now) (g.S.FileSource.asked c.is_replaced.new.source) c.is_replaced.ensures.asks
+
+pub returns-then-has_tracked_name-clause-folders : goal.returns-then-has_tracked_name-clause-folders
+returns-then-has_tracked_name-clause-folders g c =
+    let known = g.S.FileSource.shows c.args.source.now in
+    let terms = terms_of c.args.self.now.on_way.terms in
+    let next = c.args.next in
+    let before = seen_lists c.args.self.now.on_way.lists.items in
+    let lists = take next.list_count before in
+    let taken : seen_lists c.truncate.new.self.items ≡ lists = sym (seen_taken next.list_count c.args.self.now.on_way.lists.items ∙ ap seen_lists (sym c.truncate.ensures.items)) in
+    let held : seen_lists c.is_replaced.new.self.on_way.lists.items ≡ lists = c.in_ok-is_replaced.ensures.lists ∙ taken in
+    let now = g.S.FileSource.shows c.is_replaced.new.source in
+    let other = terms_of c.is_replaced.new.self.on_way.terms in
+    let as_terms : other ≡ terms = ap terms_of c.is_replaced.ensures.terms in
+    let as_lists : take next.list_count (seen_lists c.is_replaced.new.self.on_way.lists.items) ≡ lists = ap (take next.list_count) held ∙ take-take next.list_count next.list_count before (omega arith) in
+    let pending : c.is_replaced.new.self.pending.items ≡ c.args.self.now.pending.items = ap (λ ps. ps.items) c.is_replaced.ensures.pending in
+    let says : OfStanding known terms lists next (λ basis tree. (folder : Folder) → path_of next ≡ start_of folder → IsTrue c.in_ok-is_replaced.is_replaced ↔ IsReplaced basis tree folder) =
+    standing_as known known terms terms lists (seen_lists c.truncate.new.self.items) next _ (λ tree it. it) refl taken c.in_ok-is_replaced.ensures.replaced in
+    subst BasesAreFolders (sym held) (bases_taken next.list_count before c.requires.folders)
+
+pub returns-clause-folders : goal.returns-clause-folders
+returns-clause-folders g c =
+    let known = g.S.FileSource.shows c.args.source.now in
+    let terms = terms_of c.args.self.now.on_way.terms in
+    let next = c.args.next in
+    let before = seen_lists c.args.self.now.on_way.lists.items in
+    let lists = take next.list_count before in
+    let taken : seen_lists c.truncate.new.self.items ≡ lists = sym (seen_taken next.list_count c.args.self.now.on_way.lists.items ∙ ap seen_lists (sym c.truncate.ensures.items)) in
+    let held : seen_lists c.is_replaced.new.self.on_way.lists.items ≡ lists = c.in_ok-is_replaced.ensures.lists ∙ taken in
+    let now = g.S.FileSource.shows c.is_replaced.new.source in
+    let other = terms_of c.is_replaced.new.self.on_way.terms in
+    let as_terms : other ≡ terms = ap terms_of c.is_replaced.ensures.terms in
+    let as_lists : take next.list_count (seen_lists c.is_replaced.new.self.on_way.lists.items) ≡ lists = ap (take next.list_count) held ∙ take-take next.list_count next.list_count before (omega arith) in
+    let pending : c.is_replaced.new.self.pending.items ≡ c.args.self.now.pending.items = ap (λ ps. ps.items) c.is_replaced.ensures.pending in
+    let says : OfStanding known terms lists next (λ basis tree. (folder : Folder) → path_of next ≡ start_of folder → IsTrue c.in_ok-is_replaced.is_replaced ↔ IsReplaced basis tree folder) =
+    standing_as known known terms terms lists (seen_lists c.truncate.new.self.items) next _ (λ tree it. it) refl taken c.in_ok-is_replaced.ensures.replaced in
+    subst BasesAreFolders (sym held) (bases_taken next.list_count before c.requires.folders)
