@@ -22,7 +22,7 @@ LISTED = [
     ["-o", "--directory", "--no-empty-directory"], ["-o", "--exclude-standard", "--directory", "--no-empty-directory"],
     ["-oi", "--exclude-standard", "--directory", "--no-empty-directory"],
 ]
-STATUS = [["-uall"], ["-uall", "--ignored"], ["-u", "--ignored=matching"], ["--untracked-files=all", "--ignored=traditional"], ["-uno", "--ignored"], ["-unormal"], ["-unormal", "--ignored=matching"]]
+STATUS = [["-uall"], ["-uall", "--ignored"], ["-u", "--ignored=matching"], ["--untracked-files=all", "--ignored=traditional"], ["-uno", "--ignored"], ["-unormal"], ["-unormal", "--ignored=matching"], ["--untracked-files=normal", "--ignored"]]
 ATTRIBUTES = [["-a", "--"], ["one", "two", "--"], ["-z", "two", "--"], ["-a", "-z", "--"]]
 OUTSIDE = [b"../../../../../../x", b"/", b"", b"../../x", b"l/x"]
 # words that spell a path behind a colon, and words that spell none

@@ -373,7 +373,7 @@ const FOLDERS: Tree = &[
 
 #[test]
 fn filled_folders_are_listed(rt: HostRuntime) -> Result<(), Fail> {
-    let rows: [Question; 3] = [
+    let rows: [Question; 4] = [
         Question {
             tree: FOLDERS,
             folders: Folders::Named,
@@ -394,6 +394,15 @@ fn filled_folders_are_listed(rt: HostRuntime) -> Result<(), Fail> {
             folders: Folders::NamedIfFilled,
             wanted: b"g/\nk.o/\n",
             asked: 9,
+            ..PLAIN
+        },
+        Question {
+            tree: FOLDERS,
+            chosen: Chosen::Ignored,
+            folders: Folders::EnteredUnlessFilled,
+            mark: Mark::Ignored,
+            wanted: b"!! g/\n!! h/x.o\n!! k.o/\n",
+            asked: 14,
             ..PLAIN
         },
     ];

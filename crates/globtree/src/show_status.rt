@@ -63,9 +63,6 @@ fn unknown(flags: StatusFlags) -> Option<&'static str> {
         (UntrackedFiles::Unsaid, _) => {
             Some("status.showUntrackedFiles isn't read: give -unormal, -uall or -uno")
         }
-        (UntrackedFiles::Normal, IgnoredFiles::Traditional) => {
-            Some("--ignored isn't known with -unormal: give --ignored=matching or -uall")
-        }
         _ => None,
     }
 }
@@ -104,6 +101,7 @@ fn listing_of(
 fn folders_by(flags: StatusFlags, mark: Mark) -> Folders {
     match (flags.untracked, mark, flags.ignored) {
         (_, Mark::Ignored, IgnoredFiles::Matching) => Folders::NamedIfIgnored,
+        (UntrackedFiles::Normal, Mark::Ignored, _) => Folders::EnteredUnlessFilled,
         (UntrackedFiles::Normal, _, _) => Folders::NamedIfFilled,
         (_, _, _) => Folders::Entered,
     }

@@ -26,7 +26,7 @@ use Rattle.tree_answers.specs.Lines.{behind, name_text}
 use Rattle.tree_commands.specs.declared.files.choosing.Chosen.{Chosen}
 use Rattle.tree_commands.specs.declared.files.choosing.Chosen.TheVariants.{All, Ignored, Unignored}
 use Rattle.tree_commands.specs.declared.files.choosing.Folders.{Folders}
-use Rattle.tree_commands.specs.declared.files.choosing.Folders.TheVariants.{Entered, Named, NamedIfFilled, NamedIfIgnored}
+use Rattle.tree_commands.specs.declared.files.choosing.Folders.TheVariants.{Entered, EnteredUnlessFilled, Named, NamedIfFilled, NamedIfIgnored}
 use Rattle.tree_commands.specs.declared.files.mark.Mark.{Mark}
 use Rattle.tree_commands.specs.declared.files.mark.Mark.TheVariants as marks
 use Rattle.tree_commands.specs.declared.files.source.EntryKind.{EntryKind}
@@ -105,6 +105,7 @@ pub record IsEntryOf (basis : Basis) (tree : FileTree) (folder : Folder) (found 
 -- a folder in which no tracked path lies is told by its name, although it is no repository; `Ignores` says that it is ignored
 abbrev pub IsNamed : Folders → Chosen → Type 0 → Type 0
 IsNamed Entered chosen Ignores = ⊥
+IsNamed EnteredUnlessFilled chosen Ignores = ⊥
 IsNamed Named chosen Ignores = Unit {0}
 IsNamed NamedIfFilled chosen Ignores = Unit {0}
 IsNamed NamedIfIgnored chosen Ignores = (chosen ≡ Ignored) × Ignores
@@ -115,10 +116,10 @@ pub record IsShut (terms : Terms) (tree : FileTree) (folder : Folder) (Ignores :
   pub free : ¬ HasEntryBelow terms.tracked folder
   pub why : (tree.has_git folder ≡ true) ⊎ IsNamed terms.folders terms.chosen Ignores
 
--- the paths that are met from one on: this one, and what is found in each folder that is met and gone into
-pub data IsMet (basis : Basis) (tree : FileTree) (start : List ℕ) : List ℕ → Type 0 where
-  begins : IsMet basis tree start start
-  lies : {folder found : List ℕ} → IsMet basis tree start (start_of folder) → ¬ IsShut basis.terms tree folder (IsIgnoredAt basis tree folder true) → IsEntryOf basis tree folder found → IsMet basis tree start found
+-- the paths that are met from one on: this one, and what is found in each folder that is met and gone into, unless that is replaced
+pub data IsMetUnless (basis : Basis) (tree : FileTree) (Replaced : Folder → Type 0) (start : List ℕ) : List ℕ → Type 0 where
+  begins : IsMetUnless basis tree Replaced start start
+  lies : {folder found : List ℕ} → IsMetUnless basis tree Replaced start (start_of folder) → ¬ IsShut basis.terms tree folder (IsIgnoredAt basis tree folder true) → ¬ Replaced folder → IsEntryOf basis tree folder found → IsMetUnless basis tree Replaced start found
 
 -- a folder above the path at which a listing is to begin lets it pass: it has no name of a repository's files, is no submodule, and no
 -- repository in which no tracked path lies
@@ -139,14 +140,6 @@ pub record BeginsBelow (basis : Basis) (tree : FileTree) (path : List ℕ) (is_t
 
 abbrev pub BeginsAt : Basis → FileTree → List ℕ → Bool → List ℕ → Type 0
 BeginsAt basis tree path is_told start = ((path ≡ []) × (start ≡ [])) ⊎ BeginsBelow basis tree path is_told start
-
--- a path is reached: it is met from where a listing begins that is to begin where `told` leads
-pub record IsReached (standpoint : Standpoint) (basis : Basis) (tree : FileTree) (told path : List ℕ) : Type 0 where
-  pub top : List ℕ
-  pub leads : led standpoint told ≡ Some top
-  pub start : List ℕ
-  pub begins : BeginsAt basis tree top (names_folder false (parts_of told)) start
-  pub met : IsMet basis tree start path
 
 -- A path that is met is listed: that of a file or a link, or of a folder that isn't gone into, unless a tracked file has its very name, in
 -- which case always counts. It is ignored, where the ignored ones are chosen; but of a folder that is told only if it is filled, what lies
@@ -173,10 +166,13 @@ IsListed basis tree path = IsListedBy basis.terms tree (IsIgnoredAt basis tree) 
 abbrev pub entering : Chosen → Basis → Basis
 entering chosen basis = record { fronts = basis.fronts; terms = record { case = basis.terms.case; chosen = chosen; folders = Entered; tracked = basis.terms.tracked } }
 
+abbrev pub never : Folder → Type 0
+never folder = ⊥
+
 -- such a listing that begins at a folder lists something
 pub record HasListed (chosen : Chosen) (basis : Basis) (tree : FileTree) (folder : Folder) : Type 0 where
   pub path : List ℕ
-  pub met : IsMet (entering chosen basis) tree (start_of folder) path
+  pub met : IsMetUnless (entering chosen basis) tree never (start_of folder) path
   pub listed : IsListed (entering chosen basis) tree path
 
 -- A folder is filled: one of the paths that are chosen does. Where those are the ignored ones, all that lies in the folder is ignored besides.
@@ -188,14 +184,46 @@ IsFilledBy Ignored basis tree folder = HasListed Ignored basis tree folder × (I
 abbrev pub IsFilled : Basis → FileTree → Folder → Type 0
 IsFilled basis tree folder = IsFilledBy basis.terms.chosen basis tree folder
 
+-- a folder is replaced by its name: it is filled, and such folders are gone into unless they are
+pub record IsReplaced (basis : Basis) (tree : FileTree) (folder : Folder) : Type 0 where
+  pub asks : basis.terms.folders ≡ EnteredUnlessFilled
+  pub below : folder ≢ []
+  pub free : ¬ HasEntryBelow basis.terms.tracked folder
+  pub filled : IsFilled basis tree folder
+
+abbrev pub IsMet : Basis → FileTree → List ℕ → List ℕ → Type 0
+IsMet basis tree start path = IsMetUnless basis tree (IsReplaced basis tree) start path
+
+-- a path is reached: it is met from where a listing begins that is to begin where `told` leads
+pub record IsReached (standpoint : Standpoint) (basis : Basis) (tree : FileTree) (told path : List ℕ) : Type 0 where
+  pub top : List ℕ
+  pub leads : led standpoint told ≡ Some top
+  pub start : List ℕ
+  pub begins : BeginsAt basis tree top (names_folder false (parts_of told)) start
+  pub met : IsMet basis tree start path
+
 -- a path that is listed is told; but where folders are told only if they are filled, that of a folder only if it is
-pub record IsTold (basis : Basis) (tree : FileTree) (path : List ℕ) : Type 0 where
+pub record IsToldAsListed (basis : Basis) (tree : FileTree) (path : List ℕ) : Type 0 where
   pub listed : IsListed basis tree path
   pub filled : basis.terms.folders ≡ NamedIfFilled → (folder : Folder) → path ≡ start_of folder → IsFilled basis tree folder
 
--- A folder is searched, to know whether the one is filled whose path is listed: a listing from there that goes into all folders meets it.
+-- and so is that of a folder that is replaced, unless a tracked file has its name
+pub record IsToldInPlace (basis : Basis) (tree : FileTree) (path : List ℕ) : Type 0 where
+  pub folder : Folder
+  pub start : path ≡ start_of folder
+  pub replaced : IsReplaced basis tree folder
+  pub free : ¬ IsTracked basis.terms.tracked.entries folder
+
+abbrev pub IsTold : Basis → FileTree → List ℕ → Type 0
+IsTold basis tree path = IsToldAsListed basis tree path ⊎ IsToldInPlace basis tree path
+
+-- it counts whether folders are filled
+abbrev pub AsksFilled : Folders → Type 0
+AsksFilled folders = (folders ≡ NamedIfFilled) ⊎ (folders ≡ EnteredUnlessFilled)
+
+-- A folder is searched, to know whether the one is filled whose path is met: a listing from there that goes into all folders meets it.
 pub record IsSearched (basis : Basis) (tree : FileTree) (path : List ℕ) (folder : Folder) : Type 0 where
-  pub asks : basis.terms.folders ≡ NamedIfFilled
+  pub asks : AsksFilled basis.terms.folders
   pub chosen : Chosen
   pub met : IsMet (entering chosen basis) tree path (start_of folder)
 

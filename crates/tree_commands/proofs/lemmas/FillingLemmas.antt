@@ -10,23 +10,32 @@ use Rattle.gix_glob.specs.EntryLists.{EntryList}
 use Rattle.glob_trees.specs.Ways.{Folder, GivesOnly, start_of}
 use Rattle.tree_commands.specs.declared.files.choosing.Chosen.{Chosen}
 use Rattle.tree_commands.specs.declared.files.choosing.Chosen.TheVariants.{All, Ignored, Unignored}
-use Rattle.tree_commands.specs.declared.files.choosing.Folders.TheVariants.{Entered, NamedIfFilled}
+use Rattle.tree_commands.specs.declared.files.choosing.Folders.TheVariants.{Entered, EnteredUnlessFilled, NamedIfFilled}
 use Rattle.tree_commands.specs.declared.files.pending.Pending.{Pending}
 use Rattle.tree_commands.specs.FileTrees.{FileTree}
-use Rattle.tree_commands.specs.Files.{Basis, HasListed, IsFilled, IsFilledBy, IsIgnoredAt, IsListedBy, IsMet, IsSearched, IsTold, Terms, begins, entering}
+use Rattle.tree_commands.specs.Files.{AsksFilled, Basis, HasListed, IsFilled, IsFilledBy, IsIgnoredAt, IsListedBy, IsMet, IsMetUnless, IsReplaced, IsSearched, IsTold, IsToldAsListed, IsToldInPlace, Terms, begins, entering, lies, never}
 use Rattle.tree_commands.specs.Private.Filling.{IsToTell, IsUnfilled, KeepsLists, MaySearch, OfStanding, Tells}
-use Rattle.tree_commands.specs.Private.Listing.{Among, FlagsFolder, IsEntered, IsIgnoredNext, IsLevel, IsMarked, IsPassedOver, IsToList, MayVisit, Stands, Visits, path_of}
+use Rattle.tree_commands.specs.Private.Listing.{Among, FlagsFolder, IsEntered, IsFree, IsIgnoredNext, IsLevel, IsMarked, IsPassedOver, IsToList, MayVisit, Stands, Visits, path_of}
 use Rattle.tree_commands.specs.Private.UnderWay.{Beginning, IsHalfway, IsUnderWay, IsWriting, OfKnown, WritesAll}
 use Rattle.tree_commands.proofs.lemmas.AmongLemmas.{among_cases, among_last, among_left, of_all}
 use Rattle.tree_commands.proofs.lemmas.LevelLemmas.{next_ignored}
 use Rattle.tree_commands.proofs.lemmas.ListingRuns.{all_is_written, asked_is_met, told_is_met, writes_on}
-use Rattle.tree_commands.proofs.lemmas.PathLemmas.{some_append, start_ends, start_marked}
+use Rattle.tree_commands.proofs.lemmas.PathLemmas.{one_folder, some_append, start_ends, start_marked}
 use Rattle.tree_commands.proofs.lemmas.SourceLemmas.{gives_further}
+use Rattle.tree_commands.proofs.lemmas.VisitLemmas.{enters_weaker}
 
 -- ---- where a search begins
 
 entered_is_other : Entered ≢ NamedIfFilled
 entered_is_other is = absurd (cc)
+
+entered_is_entered : Entered ≢ EnteredUnlessFilled
+entered_is_entered is = absurd (cc)
+
+-- what is met where more is replaced is met where less is
+met_where : (basis : Basis) (tree : FileTree) (More Less : Folder → Type 0) → ((folder : Folder) → Less folder → More folder) → {start path : List ℕ} → IsMetUnless basis tree More start path → IsMetUnless basis tree Less start path
+met_where basis tree More Less fewer begins = begins
+met_where basis tree More Less fewer (lies {folder} {found} met may kept entry) = lies (met_where basis tree More Less fewer met) may (λ less. kept (fewer folder less)) entry
 
 -- the lists decide about the same for another listing
 level_entering : (chosen other : Chosen) (basis : Basis) (tree : FileTree) (lists : List (EntryList (Unit {0}))) (is_below : Bool) (path : List ℕ) → IsLevel chosen basis tree lists is_below path → IsLevel chosen (entering other basis) tree lists is_below path
@@ -146,9 +155,13 @@ module _ (Known : FileTree → Type 0) (terms : Terms) (beginning : Beginning) (
       (path_of next, met.0, met.1)
 
   -- or the search goes on
+  -- no folder is replaced
+  pub none_replaced : OfStanding Now terms lists next (λ basis tree. (folder : Folder) → path_of next ≡ start_of folder → ¬ IsReplaced basis tree folder)
+  none_replaced tree known basis same stands folder is replaced = entered_is_entered (sym entered ∙ sym (ap (λ (t : Terms). t.folders) same) ∙ replaced.asks)
+
   pub search_goes_on : Visits Now terms next lists new_lists pending new None → IsSearching Known terms beginning new new_lists
   search_goes_on visited =
-      writes_on mark_line Known terms beginning (Some []) Now stays (Some []) (Some []) [] [] next pending new lists new_lists None it (tells_visited Now terms next lists new_lists pending new None other_manner visited) ([], refl, refl)
+      writes_on mark_line Known terms beginning (Some []) Now stays (Some []) (Some []) [] [] next pending new lists new_lists None it (inr (record { tells = tells_visited Now terms next lists new_lists pending new None other_manner visited; unreplaced = none_replaced })) ([], refl, refl)
 
   -- a folder that is asked for its names is met
   pub search_asks : (first before after : Folder → Type 0) → GivesOnly (λ folder. OfKnown Known terms beginning (λ basis tree start. IsMet basis tree start (start_of folder))) first before
@@ -208,8 +221,19 @@ module _ (chosen : Chosen) (basis : Basis) (tree : FileTree) (folder : Folder) w
   -- what it finds is listed
   pub has_found : (start : List ℕ) → start ≡ start_of folder → ((path : List ℕ) × IsMet (entering chosen basis) tree start path × IsTold (entering chosen basis) tree path) ↔ HasListed chosen basis tree folder
   has_found start is = (
-    λ found. record { path = found.0; met = subst (λ s. IsMet (entering chosen basis) tree s found.0) is found.1; listed = (let told = found.2 in told.listed) },
-    λ has. (has.path, subst (λ s. IsMet (entering chosen basis) tree s has.path) (sym is) has.met, record { listed = has.listed; filled = λ asks. absurd (entered_is_other asks) }),
+    λ found. record {
+      path = found.0;
+      met = met_where (entering chosen basis) tree (IsReplaced (entering chosen basis) tree) never (λ folder none. absurd none) (subst (λ s. IsMet (entering chosen basis) tree s found.0) is found.1);
+      listed = ⊎_elim
+          (λ (told : IsToldAsListed (entering chosen basis) tree found.0). told.listed)
+          (λ (told : IsToldInPlace (entering chosen basis) tree found.0). absurd (entered_is_entered told.replaced.asks))
+          found.2;
+    },
+    λ has. (
+      has.path,
+      subst (λ s. IsMet (entering chosen basis) tree s has.path) (sym is) (met_where (entering chosen basis) tree never (IsReplaced (entering chosen basis) tree) (λ folder replaced. absurd (entered_is_entered replaced.asks)) has.met),
+      inl (record { listed = has.listed; filled = λ asks. absurd (entered_is_other asks) }),
+    ),
   )
 
 -- ---- whether a folder is filled
@@ -448,5 +472,82 @@ module _ (Known : FileTree → Type 0) (terms : Terms) (next : Pending) (lists n
         first middle last (λ folder is. inl is)
         (λ folder asked. inr (at_next (λ basis tree. IsSearched basis tree (path_of next) folder) (λ tree known basis same stands.
         let it = asked tree known basis same stands in
-        record { asks = ap (λ (t : Terms). t.folders) (same ∙ as_terms) ∙ asks; chosen = it.0; met = subst (λ p. IsMet (entering it.0 basis) tree p (start_of folder)) same_path it.1 })))
+        record { asks = inl (ap (λ (t : Terms). t.folders) (same ∙ as_terms) ∙ asks); chosen = it.0; met = subst (λ p. IsMet (entering it.0 basis) tree p (start_of folder)) same_path it.1 })))
         one two
+
+-- ---- whether a folder is replaced by its name
+
+module _ (Known : FileTree → Type 0) (terms : Terms) (lists : List (EntryList (Unit {0}))) (place : Pending) where
+  abbrev pub SaysReplaced : Bool → Type 0
+  SaysReplaced says = OfStanding Known terms lists place (λ basis tree. (folder : Folder) → path_of place ≡ start_of folder → IsTrue says ↔ IsReplaced basis tree folder)
+
+  pub says_kept : ((basis : Basis) (tree : FileTree) → basis.terms ≡ terms → (folder : Folder) → path_of place ≡ start_of folder → ¬ IsReplaced basis tree folder) → SaysReplaced false
+  says_kept never_is tree known basis same stands folder is = ((λ yes. absurd (false≢true yes)), λ replaced. absurd (never_is basis tree same folder is replaced))
+
+  pub kept_otherwise : terms.folders ≢ EnteredUnlessFilled → SaysReplaced false
+  kept_otherwise other = says_kept (λ basis tree same folder is replaced. other (sym (ap (λ (t : Terms). t.folders) same) ∙ replaced.asks))
+
+  pub kept_file : path_of place ≢ [] → ¬ EndsInSlash (path_of place) → SaysReplaced false
+  kept_file some whole = says_kept (λ basis tree same folder is replaced. whole (subst EndsInSlash (sym is) (start_ends folder (λ none. some (is ∙ none)))))
+
+  module _ (at : Folder) (start : path_of place ≡ start_of at) where
+    pub kept_unfree : ¬ IsFree terms at → SaysReplaced false
+    kept_unfree unfree = says_kept (λ basis tree same folder is replaced.
+        unfree (subst (λ (t : Terms). IsFree t at) same (subst (IsFree basis.terms) (one_folder folder at (sym is ∙ start)) (replaced.below, replaced.free))))
+
+    pub says_replaced : terms.folders ≡ EnteredUnlessFilled → IsFree terms at → (says : Bool) → SaysFilled Known terms lists place says → SaysReplaced says
+    says_replaced asks free says filled tree known basis same stands folder is =
+        let it = filled tree known basis same stands folder is in
+        let here = subst (IsFree basis.terms) (one_folder at folder (sym start ∙ is)) (subst (λ (t : Terms). IsFree t at) (sym same) free) in
+        ((λ yes. record { asks = ap (λ (t : Terms). t.folders) same ∙ asks; below = here.0; free = here.1; filled = it.0 yes }), λ replaced. it.1 replaced.filled)
+
+-- ---- a step of a listing
+
+module _ (Known Now : FileTree → Type 0) (stays : (tree : FileTree) → Known tree → Now tree) (terms : Terms) (next : Pending) (lists new_lists : List (EntryList (Unit {0}))) (old new : List Pending) where
+  to_list_weaker : (path : List ℕ) → IsToList Now terms next lists new_lists old new path → IsToList Known terms next lists new_lists old new path
+  to_list_weaker path it = record { same = it.same; lists = it.lists; pending = it.pending; listed = λ tree known. it.listed tree (stays tree known) }
+
+  -- what is known after a call is known of what was known before it
+  pub tells_weaker : (told : Option (List ℕ)) → Tells Now terms next lists new_lists old new told → Tells Known terms next lists new_lists old new told
+  tells_weaker (Some path) it = record { listed = to_list_weaker path it.listed; filled = λ asks folder is tree known. it.filled asks folder is tree (stays tree known) }
+  tells_weaker None (inl it) = inl (record { listed = to_list_weaker (path_of next) it.listed; asks = it.asks; folder = it.folder; start = it.start; unfilled = λ tree known. it.unfilled tree (stays tree known) })
+  tells_weaker None (inr (inl it)) = inr (inl (record {
+    folder = it.folder;
+    start = it.start;
+    is_ignored = it.is_ignored;
+    flag = it.flag;
+    may = λ tree known. it.may tree (stays tree known);
+    enters = enters_weaker Now Known stays terms it.folder next.list_count it.is_ignored lists new_lists old new it.enters;
+  }))
+  tells_weaker None (inr (inr it)) = inr (inr (record { lists = it.lists; pending = it.pending; ends = λ tree known. it.ends tree (stays tree known); unlisted = λ tree known. it.unlisted tree (stays tree known) }))
+
+pub searched_as : (Known : FileTree → Type 0) (terms : Terms) (lists more : List (EntryList (Unit {0}))) (next : Pending) → more ≡ lists → (old new : Folder → Type 0) → GivesOnly (λ folder. OfStanding Known terms more next (λ basis tree. IsSearched basis tree (path_of next) folder)) old new
+    → GivesOnly (λ folder. (path_of next ≡ start_of folder) ⊎ OfStanding Known terms lists next (λ basis tree. IsSearched basis tree (path_of next) folder)) old new
+searched_as Known terms lists more next as_lists old new asked folder given = ⊎_elim
+    (λ (before : old folder). inl before)
+    (λ (here : OfStanding Known terms more next (λ basis tree. IsSearched basis tree (path_of next) folder)).
+    inr (inr (standing_as Known Known terms terms lists more next (λ basis tree. IsSearched basis tree (path_of next) folder) (λ tree known. known) refl as_lists here)))
+    (asked folder given)
+
+pub searched_then : (Known Now : FileTree → Type 0) (terms other : Terms) (lists more : List (EntryList (Unit {0}))) (next : Pending) → ((tree : FileTree) → Known tree → Now tree) → other ≡ terms → more ≡ lists → (old middle new : Folder → Type 0)
+    → GivesOnly (λ folder. (path_of next ≡ start_of folder) ⊎ OfStanding Known terms lists next (λ basis tree. IsSearched basis tree (path_of next) folder)) old middle
+    → GivesOnly (λ folder. (path_of next ≡ start_of folder) ⊎ OfStanding Now other more next (λ basis tree. IsSearched basis tree (path_of next) folder)) middle new
+    → GivesOnly (λ folder. (path_of next ≡ start_of folder) ⊎ OfStanding Known terms lists next (λ basis tree. IsSearched basis tree (path_of next) folder)) old new
+searched_then Known Now terms other lists more next stays as_terms as_lists old middle new one two =
+    gives_further (λ folder. (path_of next ≡ start_of folder) ⊎ OfStanding Known terms lists next (λ basis tree. IsSearched basis tree (path_of next) folder))
+    (λ folder. (path_of next ≡ start_of folder) ⊎ OfStanding Now other more next (λ basis tree. IsSearched basis tree (path_of next) folder))
+    (λ folder. (path_of next ≡ start_of folder) ⊎ OfStanding Known terms lists next (λ basis tree. IsSearched basis tree (path_of next) folder)) old middle new (λ folder led. led)
+    (λ folder which. ⊎_elim
+    (λ (is : path_of next ≡ start_of folder). inl is)
+    (λ (here : OfStanding Now other more next (λ basis tree. IsSearched basis tree (path_of next) folder)).
+    inr (standing_as Known Now terms other lists more next (λ basis tree. IsSearched basis tree (path_of next) folder) stays as_terms as_lists here))
+    which)
+    one two
+
+pub asked_searched : (Known : FileTree → Type 0) (terms : Terms) (lists : List (EntryList (Unit {0}))) (place : Pending) → AsksFilled terms.folders → (old new : Folder → Type 0) → GivesOnly (IsAsked Known terms lists place) old new
+    → GivesOnly (λ folder. OfStanding Known terms lists place (λ basis tree. IsSearched basis tree (path_of place) folder)) old new
+asked_searched Known terms lists place asks old new asked folder given = ⊎_elim
+    (λ (before : old folder). inl before)
+    (λ (here : IsAsked Known terms lists place folder). inr (λ tree known basis same stands.
+    let it = here tree known basis same stands in record { asks = subst (λ (t : Terms). AsksFilled t.folders) (sym same) asks; chosen = it.0; met = it.1 }))
+    (asked folder given)

@@ -11,7 +11,7 @@ use Rattle.glob_trees.proofs.lemmas.Folders.{above_above, as_long_is_same, short
 use Rattle.tree_commands.specs.declared.files.choosing.Chosen.{Chosen}
 use Rattle.tree_commands.specs.declared.files.choosing.Chosen.TheVariants.{All, Ignored, Unignored}
 use Rattle.tree_commands.specs.declared.files.choosing.Folders.{Folders}
-use Rattle.tree_commands.specs.declared.files.choosing.Folders.TheVariants.{Entered, Named, NamedIfFilled, NamedIfIgnored}
+use Rattle.tree_commands.specs.declared.files.choosing.Folders.TheVariants.{Entered, EnteredUnlessFilled, Named, NamedIfFilled, NamedIfIgnored}
 use Rattle.tree_commands.specs.declared.files.pending.Pending.{Pending}
 use Rattle.tree_commands.specs.FileTrees.{FileTree}
 use Rattle.tree_commands.specs.Files.{Basis, IsBelowIgnored, IsIgnoredAt, IsListedBy, IsListedFile, IsListedFolder, IsNamed, IsShut, Terms, lists_to}
@@ -77,6 +77,7 @@ module _ (basis : Basis) (tree : FileTree) (folder : Folder) (name : List ℕ) (
 
 named_as : (terms : Terms) (A B : Type 0) → (terms.chosen ≡ Ignored → A → B) → (folders : Folders) → IsNamed folders terms.chosen A → IsNamed folders terms.chosen B
 named_as terms A B turned Entered named = named
+named_as terms A B turned EnteredUnlessFilled named = named
 named_as terms A B turned Named named = tt
 named_as terms A B turned NamedIfFilled named = tt
 named_as terms A B turned NamedIfIgnored named = (named.0, turned named.0 named.1)

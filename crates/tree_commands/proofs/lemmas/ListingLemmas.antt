@@ -18,7 +18,7 @@ use Rattle.tree_commands.specs.Private.UnderWay.{Above, IsHalfway, IsStack, IsUn
 use Rattle.tree_commands.proofs.lemmas.AmongLemmas.{all_of, among_cases, among_contained, among_last, among_left, among_map, among_mapped, among_right, contains_among, of_all}
 use Rattle.tree_commands.proofs.lemmas.LevelLemmas.{level_before, level_of_entry}
 use Rattle.tree_commands.proofs.lemmas.ListsLemmas.{lists_in}
-use Rattle.tree_commands.proofs.lemmas.MetLemmas.{IsEndOf, IsOpen, end_meets_itself, ends_listed, meets_entry}
+use Rattle.tree_commands.proofs.lemmas.MetLemmas.{IsEndOf, IsOpen, end_meets_itself, ends_told, meets_entry}
 use Rattle.tree_commands.proofs.lemmas.OrderLemmas.{IsMark, comes_before_below, comes_before_more}
 use Rattle.tree_commands.proofs.lemmas.PathLemmas.{entry_unended, mark_of, may_visit_entry, name_is_some, one_mark, some_append, start_ends}
 use Rattle.tree_commands.proofs.lemmas.StackLemmas.{stack_append, stack_front, stack_top}
@@ -221,7 +221,7 @@ module _ (basis : Basis) (tree : FileTree) (start : List ℕ) (listed : List (Li
         (λ (waiting : Among pending from.0). inr (from.0, waiting, from.2))
         (λ (one : Among (next ∷ []) from.0). ⊎_elim
         (λ (is : next ≡ from.0).
-        let same : path ≡ path_of next = end_meets_itself basis tree (subst (λ (p : Pending). IsMet basis tree (path_of p) path) (sym is) from.2) (ends_listed basis tree (path_of next) leaf.listed) in
+        let same : path ≡ path_of next = end_meets_itself basis tree (subst (λ (p : Pending). IsMet basis tree (path_of p) path) (sym is) from.2) (ends_told basis tree (path_of next) leaf) in
         inl (subst (Among (listed ++ path_of next ∷ [])) (sym same) (among_last listed (path_of next))))
         (λ (never : ⊥). absurd never)
         one)
@@ -332,7 +332,7 @@ module _ (basis : Basis) (tree : FileTree) (start : List ℕ) (listed : List (Li
       sound = halfway.sound;
       met = λ other among. ⊎_elim
           (λ (old : Among pending other). halfway.met other (stays_in other old))
-          (λ (found : Among enters.puts.batch other). lies met_next may (is_entry other found))
+          (λ (found : Among enters.puts.batch other). lies met_next may.0 may.1 (is_entry other found))
           (among_cases pending enters.puts.batch other among);
       standing = λ other among. ⊎_elim
           (λ (old : Among pending other). stand_old other old)
@@ -345,7 +345,7 @@ module _ (basis : Basis) (tree : FileTree) (start : List ℕ) (listed : List (Li
           (λ (one : Among (next ∷ []) from.0). ⊎_elim
           (λ (is : next ≡ from.0).
           let met_here : IsMet basis tree (start_of folder) path = subst (λ s. IsMet basis tree s path) is_start (subst (λ (p : Pending). IsMet basis tree (path_of p) path) (sym is) from.2) in
-          let first = meets_entry basis tree folder path may met_here (ends_listed basis tree path shut.listed) in
+          let first = meets_entry basis tree folder path may met_here (ends_told basis tree path shut) in
           let waits_for = entry_waits first.0 first.1 in
           inr (waits_for.0, among_right pending enters.puts.batch waits_for.0 waits_for.1, subst (λ s. IsMet basis tree s path) (sym waits_for.2) first.2))
           (λ (never : ⊥). absurd never)

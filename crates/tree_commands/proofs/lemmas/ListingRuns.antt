@@ -4,6 +4,7 @@ use Rattle.std.specs.Prelude.{◌↔◌, IsTrue, Option, None, Some}
 use Rattle.std.specs.Io.KnownBytes.{Appends}
 use Rattle.std.specs.List.{flat_map}
 use Rattle.std.proofs.lemmas.List.{flat_map_more, length-take-le, take-take, take_at}
+use Rattle.git_index.specs.Entries.{IsTracked}
 use Rattle.gix_glob.specs.Bytes.{EndsInSlash}
 use Rattle.gix_glob.specs.EntryLists.{EntryList}
 use Rattle.glob_lines.specs.Transfers.{AppendsFront}
@@ -11,14 +12,15 @@ use Rattle.glob_trees.specs.Ways.{Folder, GivesOnly, start_of}
 use Rattle.tree_commands.specs.declared.files.choosing.Chosen.TheVariants.{Ignored}
 use Rattle.tree_commands.specs.declared.files.pending.Pending.{Pending}
 use Rattle.tree_commands.specs.FileTrees.{FileTree}
-use Rattle.tree_commands.specs.Files.{Basis, IsIgnoredAt, IsListed, IsListedBy, IsMet, IsSearched, IsShut, IsTold, MayAsk, Terms}
-use Rattle.tree_commands.specs.Private.Filling.{IsToTell, IsUnfilled, OfStanding, Tells}
+use Rattle.tree_commands.specs.Files.{Basis, IsIgnoredAt, IsListed, IsListedBy, IsListedFile, IsListedFolder, IsMet, IsReplaced, IsSearched, IsShut, IsTold, IsToldAsListed, MayAsk, Terms}
+use Rattle.tree_commands.specs.Private.Filling.{IsNamedInPlace, IsToTell, IsUnfilled, OfStanding, Steps}
 use Rattle.tree_commands.specs.Private.Listing.{Among, Enters, FlagsFolder, IsEnd, IsEntered, IsIgnoredNext, IsLevel, IsMarked, IsPassedOver, Stands, WritesOut, path_of, with_line}
 use Rattle.tree_commands.specs.Private.UnderWay.{Beginning, IsHalfway, IsWriting, OfKnown, WritesAll, WritesFront}
 use Rattle.tree_commands.proofs.lemmas.AmongLemmas.{among_last}
 use Rattle.tree_commands.proofs.lemmas.LevelLemmas.{end_as, listed_as, next_ignored, open_by_flag}
 use Rattle.tree_commands.proofs.lemmas.ListingLemmas.{count_most, count_next, halfway_entered, halfway_listed, halfway_passed, may_next, under_way_entered, under_way_listed, under_way_passed}
 use Rattle.tree_commands.proofs.lemmas.MetLemmas.{ends_listed}
+use Rattle.tree_commands.proofs.lemmas.PathLemmas.{one_folder, start_marked}
 use Rattle.tree_commands.proofs.lemmas.SourceLemmas.{gives_further}
 use Rattle.tree_commands.proofs.lemmas.StackLemmas.{stack_top}
 
@@ -92,22 +94,42 @@ module _ (line : List ℕ → List ℕ) (Known : FileTree → Type 0) (terms : T
       stands_next : Stands basis tree lists next
       stands_next = let now = now_halfway in now.standing next (among_last pending next)
 
-      to_told : (new_lists : List (EntryList (Unit {0}))) (new_pending : List Pending) (path : List ℕ) → IsToTell Now terms next lists new_lists pending new_pending path → IsTold basis tree (path_of next)
-      to_told new_lists new_pending path is = record {
+      to_listed_told : (new_lists : List (EntryList (Unit {0}))) (new_pending : List Pending) (path : List ℕ) → IsToTell Now terms next lists new_lists pending new_pending path → IsTold basis tree (path_of next)
+      to_listed_told new_lists new_pending path is = inl (record {
         listed = to_listed (subst (IsListedBy terms tree (IsIgnoredNext terms lists next)) is.listed.same (is.listed.listed tree (stays tree known)));
         filled = λ asks folder start. is.filled (sym (ap (λ (t : Terms). t.folders) same) ∙ asks) folder start tree (stays tree known) basis same stands_next;
-      }
+      })
 
       to_end : IsEnd terms tree (IsIgnoredNext terms lists next) (path_of next) → IsEnd basis.terms tree (IsIgnoredAt basis tree) (path_of next)
       to_end ends = end_as basis.terms tree (IsIgnoredNext basis.terms lists next) (IsIgnoredAt basis tree) (path_of next) unended (λ told path is_dir marked. (let both = says_ignored told path is_dir marked in both.0))
           (subst (λ (t : Terms). IsEnd t tree (IsIgnoredNext t lists next) (path_of next)) (sym same) ends)
 
+    -- a path is told as listed, or in place of what lies in its folder
+    abbrev IsOpenNext : Type 0
+    IsOpenNext = OfStanding Now terms lists next (λ basis tree. (folder : Folder) → path_of next ≡ start_of folder → ¬ IsReplaced basis tree folder)
+
+    not_told : (tree : FileTree) (known : Known tree) (basis : Basis) (same : basis.terms ≡ terms) (start : List ℕ) (halfway : IsHalfway basis tree start [] beginning.pending beginning.lists)
+        → ¬ IsToldAsListed basis tree (path_of next) → ((folder : Folder) → path_of next ≡ start_of folder → ¬ IsReplaced basis tree folder) → ¬ IsTold basis tree (path_of next)
+    not_told tree known basis same start halfway unlisted unreplaced (inl told) = unlisted told
+    not_told tree known basis same start halfway unlisted unreplaced (inr told) = unreplaced told.folder told.start told.replaced
+
+    hidden_at : (basis : Basis) → basis.terms ≡ terms → (folder other : Folder) → start_of folder ≡ start_of other → IsTracked terms.tracked.entries folder → IsTracked basis.terms.tracked.entries other
+    hidden_at basis same folder other is hidden = subst (λ (t : Terms). IsTracked t.tracked.entries other) (sym same) (subst (IsTracked terms.tracked.entries) (one_folder folder other is) hidden)
+
+    -- a tracked file has the name of the folder
+    hidden_name : (tree : FileTree) (known : Known tree) (basis : Basis) (same : basis.terms ≡ terms) (folder : Folder) → path_of next ≡ start_of folder → folder ≢ [] → IsTracked terms.tracked.entries folder → ¬ IsTold basis tree (path_of next)
+    hidden_name tree known basis same folder is below hidden (inl told) = ⊎_elim
+        (λ (file : IsListedFile basis.terms (IsIgnoredAt basis tree) (path_of next)). file.whole (record { front = folder; joined = is ∙ start_marked folder below }))
+        (λ (at : IsListedFolder basis.terms tree (IsIgnoredAt basis tree) (path_of next)). at.free (hidden_at basis same folder at.folder (sym is ∙ at.start) hidden))
+        told.listed
+    hidden_name tree known basis same folder is below hidden (inr told) = told.free (hidden_at basis same folder told.folder (sym is ∙ told.start) hidden)
+
     -- the next path was listed, and its line is written or is left
-    pub writes_listed : (new : Option (List ℕ)) (new_pending : List Pending) (new_lists : List (EntryList (Unit {0}))) (path more left written : List ℕ) → IsToTell Now terms next lists new_lists pending new_pending path
-        → more ≡ text ++ line path → Appends middle new written → more ≡ written ++ left → IsWriting line Known terms beginning old new left new_pending new_lists
-    writes_listed new new_pending new_lists path more left written is appended out cut =
-        subst (λ (ls : List (EntryList (Unit {0}))). IsWriting line Known terms beginning old new left new_pending ls) (sym is.listed.lists)
-        (subst (λ (ps : List Pending). IsWriting line Known terms beginning old new left ps lists) (sym is.listed.pending) here)
+    pub writes_listed : (new : Option (List ℕ)) (new_pending : List Pending) (new_lists : List (EntryList (Unit {0}))) (path more left written : List ℕ) → path ≡ path_of next → new_lists ≡ lists → new_pending ≡ pending
+        → OfKnown Known terms beginning (λ basis tree start. IsTold basis tree (path_of next)) → more ≡ text ++ line path → Appends middle new written → more ≡ written ++ left → IsWriting line Known terms beginning old new left new_pending new_lists
+    writes_listed new new_pending new_lists path more left written is same_lists same_pending told appended out cut =
+        subst (λ (ls : List (EntryList (Unit {0}))). IsWriting line Known terms beginning old new left new_pending ls) (sym same_lists)
+        (subst (λ (ps : List Pending). IsWriting line Known terms beginning old new left ps lists) (sym same_pending) here)
       where
         here : IsWriting line Known terms beginning old new left pending lists
         here = record {
@@ -118,16 +140,16 @@ module _ (line : List ℕ → List ℕ) (Known : FileTree → Type 0) (terms : T
           joined = sym (flat_map_more line [] it.listed (path_of next))
               ∙ ap (λ l. l ++ line (path_of next)) it.joined
               ∙ append_assoc it.written text (line (path_of next))
-              ∙ ap (λ l. it.written ++ l) (ap (λ p. text ++ line p) (sym is.listed.same) ∙ sym appended ∙ cut)
+              ∙ ap (λ l. it.written ++ l) (ap (λ p. text ++ line p) (sym is) ∙ sym appended ∙ cut)
               ∙ sym (append_assoc it.written written left);
           halfway = λ tree known basis same start halfway.
               halfway_listed basis tree start it.listed pending next lists (it.halfway tree known basis same start halfway)
-              (to_told tree known basis same start halfway new_lists new_pending path is);
+              (told tree known basis same start halfway);
         }
 
     -- or it was passed over
-    pub writes_passed : (new_pending : List Pending) (new_lists : List (EntryList (Unit {0}))) → IsPassedOver Now terms next lists new_lists pending new_pending → IsWriting line Known terms beginning old middle text new_pending new_lists
-    writes_passed new_pending new_lists is =
+    pub writes_passed : (unreplaced : IsOpenNext) (new_pending : List Pending) (new_lists : List (EntryList (Unit {0}))) → IsPassedOver Now terms next lists new_lists pending new_pending → IsWriting line Known terms beginning old middle text new_pending new_lists
+    writes_passed unreplaced new_pending new_lists is =
         subst (λ (ls : List (EntryList (Unit {0}))). IsWriting line Known terms beginning old middle text new_pending ls) (sym is.lists)
         (subst (λ (ps : List Pending). IsWriting line Known terms beginning old middle text ps lists) (sym is.pending) here)
       where
@@ -140,13 +162,13 @@ module _ (line : List ℕ → List ℕ) (Known : FileTree → Type 0) (terms : T
           joined = it.joined;
           halfway = λ tree known basis same start halfway.
               halfway_passed basis tree start it.listed pending next lists (it.halfway tree known basis same start halfway)
-              (to_end tree known basis same start halfway (is.ends tree (stays tree known)))
-              (λ told. is.unlisted tree (stays tree known) (from_listed tree known basis same start halfway told.listed));
+              (inl (to_end tree known basis same start halfway (is.ends tree (stays tree known))))
+              (not_told tree known basis same start halfway (λ told. is.unlisted tree (stays tree known) (from_listed tree known basis same start halfway told.listed)) (unreplaced tree (stays tree known) basis same (stands_next tree known basis same start halfway)));
         }
 
     -- or its folder isn't filled
-    pub writes_unfilled : (new_pending : List Pending) (new_lists : List (EntryList (Unit {0}))) → IsUnfilled Now terms next lists new_lists pending new_pending → IsWriting line Known terms beginning old middle text new_pending new_lists
-    writes_unfilled new_pending new_lists is =
+    pub writes_unfilled : (unreplaced : IsOpenNext) (new_pending : List Pending) (new_lists : List (EntryList (Unit {0}))) → IsUnfilled Now terms next lists new_lists pending new_pending → IsWriting line Known terms beginning old middle text new_pending new_lists
+    writes_unfilled unreplaced new_pending new_lists is =
         subst (λ (ls : List (EntryList (Unit {0}))). IsWriting line Known terms beginning old middle text new_pending ls) (sym is.listed.lists)
         (subst (λ (ps : List Pending). IsWriting line Known terms beginning old middle text ps lists) (sym is.listed.pending) here)
       where
@@ -160,12 +182,12 @@ module _ (line : List ℕ → List ℕ) (Known : FileTree → Type 0) (terms : T
           halfway = λ tree known basis same start halfway.
               halfway_passed basis tree start it.listed pending next lists (it.halfway tree known basis same start halfway)
               (ends_listed basis tree (path_of next) (to_listed tree known basis same start halfway (is.listed.listed tree (stays tree known))))
-              (λ told. is.unfilled tree (stays tree known) basis same (stands_next tree known basis same start halfway) (told.filled (ap (λ (t : Terms). t.folders) same ∙ is.asks) is.folder is.start));
+              (not_told tree known basis same start halfway (λ told. is.unfilled tree (stays tree known) basis same (stands_next tree known basis same start halfway) (told.filled (ap (λ (t : Terms). t.folders) same ∙ is.asks) is.folder is.start)) (unreplaced tree (stays tree known) basis same (stands_next tree known basis same start halfway)));
         }
 
     -- or its folder was entered
-    pub writes_entered : (new_pending : List Pending) (new_lists : List (EntryList (Unit {0}))) → IsEntered Now terms next lists new_lists pending new_pending → IsWriting line Known terms beginning old middle text new_pending new_lists
-    writes_entered new_pending new_lists is = record {
+    pub writes_entered : (unreplaced : IsOpenNext) (new_pending : List Pending) (new_lists : List (EntryList (Unit {0}))) → IsEntered Now terms next lists new_lists pending new_pending → IsWriting line Known terms beginning old middle text new_pending new_lists
+    writes_entered unreplaced new_pending new_lists is = record {
       listed = it.listed;
       under_way = under_way_entered terms it.listed pending next lists it.under_way is.folder is.start Now is.is_ignored new_lists new_pending is.enters;
       written = it.written;
@@ -181,22 +203,41 @@ module _ (line : List ℕ → List ℕ) (Known : FileTree → Type 0) (terms : T
             let flags = subst (λ (t : Terms). FlagsFolder t lists next is.folder is.is_ignored) (sym same) is.flag in
             let may = subst (λ (t : Terms). ¬ IsShut t tree is.folder (IsTrue is.is_ignored)) (sym same) (is.may tree (stays tree known)) in
             halfway_entered basis tree start it.listed pending next lists now is.folder is.start (unended is.folder is.start) is.is_ignored flags
-            (open_by_flag basis tree lists next (now.standing next (among_last pending next)) is.folder is.start (unended is.folder is.start) is.is_ignored flags may)
+            (open_by_flag basis tree lists next (now.standing next (among_last pending next)) is.folder is.start (unended is.folder is.start) is.is_ignored flags may, unreplaced tree (stays tree known) basis same (stands_next tree known basis same start halfway) is.folder is.start)
             (λ other among. (let above = stack_top path_of (λ (p : Pending). p.list_count) pending next it.under_way.stacked other among in above.counts))
             (it.under_way.counts next (among_last pending next))
             Now (stays tree known) new_lists new_pending (subst (λ (t : Terms). Enters Now t is.folder next.list_count is.is_ignored lists new_lists pending new_pending) (sym same) is.enters)
 
-    pub writes_nothing : (new_pending : List Pending) (new_lists : List (EntryList (Unit {0}))) → IsUnfilled Now terms next lists new_lists pending new_pending ⊎ (IsEntered Now terms next lists new_lists pending new_pending ⊎ IsPassedOver Now terms next lists new_lists pending new_pending)
+    pub writes_nothing : (unreplaced : IsOpenNext) (new_pending : List Pending) (new_lists : List (EntryList (Unit {0}))) → IsUnfilled Now terms next lists new_lists pending new_pending ⊎ (IsEntered Now terms next lists new_lists pending new_pending ⊎ IsPassedOver Now terms next lists new_lists pending new_pending)
         → IsWriting line Known terms beginning old middle text new_pending new_lists
-    writes_nothing new_pending new_lists (inl unfilled) = writes_unfilled new_pending new_lists unfilled
-    writes_nothing new_pending new_lists (inr (inl entered)) = writes_entered new_pending new_lists entered
-    writes_nothing new_pending new_lists (inr (inr passed)) = writes_passed new_pending new_lists passed
+    writes_nothing unreplaced new_pending new_lists (inl unfilled) = writes_unfilled unreplaced new_pending new_lists unfilled
+    writes_nothing unreplaced new_pending new_lists (inr (inl entered)) = writes_entered unreplaced new_pending new_lists entered
+    writes_nothing unreplaced new_pending new_lists (inr (inr passed)) = writes_passed unreplaced new_pending new_lists passed
+
+    -- or its folder was replaced by its name, which isn't told
+    pub writes_silent : (new_pending : List Pending) (new_lists : List (EntryList (Unit {0}))) → IsNamedInPlace Now terms next lists new_lists pending new_pending None → IsWriting line Known terms beginning old middle text new_pending new_lists
+    writes_silent new_pending new_lists is =
+        subst (λ (ls : List (EntryList (Unit {0}))). IsWriting line Known terms beginning old middle text new_pending ls) (sym is.lists)
+        (subst (λ (ps : List Pending). IsWriting line Known terms beginning old middle text ps lists) (sym is.pending) here)
+      where
+        here : IsWriting line Known terms beginning old middle text pending lists
+        here = record {
+          listed = it.listed;
+          under_way = under_way_passed terms it.listed pending next lists it.under_way;
+          written = it.written;
+          appended = it.appended;
+          joined = it.joined;
+          halfway = λ tree known basis same start halfway.
+              halfway_passed basis tree start it.listed pending next lists (it.halfway tree known basis same start halfway)
+              (inr (is.folder, is.start, is.replaced tree (stays tree known) basis same (stands_next tree known basis same start halfway)))
+              (hidden_name tree known basis same is.folder is.start (let replaced = is.replaced tree (stays tree known) basis same (stands_next tree known basis same start halfway) in replaced.below) is.told_if);
+        }
 
     -- a path that is to be told is met, and told
     pub told_is_met : (new_pending : List Pending) (new_lists : List (EntryList (Unit {0}))) (path : List ℕ) → IsToTell Now terms next lists new_lists pending new_pending path
         → OfKnown Known terms beginning (λ basis tree start. IsMet basis tree start (path_of next) × IsTold basis tree (path_of next))
     told_is_met new_pending new_lists path is = λ tree known basis same start halfway.
-        let now = it.halfway tree known basis same start halfway in (now.met next (among_last pending next), to_told tree known basis same start halfway new_lists new_pending path is)
+        let now = it.halfway tree known basis same start halfway in (now.met next (among_last pending next), to_listed_told tree known basis same start halfway new_lists new_pending path is)
 
     -- a folder that is asked for its names is met, or searched from a path that is
     pub asked_is_met : (folder : Folder) → path_of next ≡ start_of folder → OfKnown Known terms beginning (λ basis tree start. IsMet basis tree start (start_of folder))
@@ -269,12 +310,25 @@ module _ (line : List ℕ → List ℕ) (Known : FileTree → Type 0) (terms : T
 
   -- the next path was visited, and of what is to be written a front is
   pub writes_on : (Now : FileTree → Type 0) (stays : (tree : FileTree) → Known tree → Now tree) (middle new : Option (List ℕ)) (text left : List ℕ) (next : Pending) (pending new_pending : List Pending) (lists new_lists : List (EntryList (Unit {0})))
-      (listed : Option (List ℕ)) → IsWriting line Known terms beginning old middle text (pending ++ next ∷ []) lists → Tells Now terms next lists new_lists pending new_pending listed
+      (listed : Option (List ℕ)) → IsWriting line Known terms beginning old middle text (pending ++ next ∷ []) lists → Steps Now terms next lists new_lists pending new_pending listed
       → WritesOut middle new (with_line line text listed) left → IsWriting line Known terms beginning old new left new_pending new_lists
-  writes_on Now stays middle new text left next pending new_pending lists new_lists None it visited out =
-      writes_out middle new text left out.0 new_pending new_lists (writes_nothing Now stays middle text next pending lists it new_pending new_lists visited) out.1 out.2
-  writes_on Now stays middle new text left next pending new_pending lists new_lists (Some path) it visited out =
-      writes_listed Now stays middle text next pending lists it new new_pending new_lists path (text ++ line path) left out.0 visited refl out.1 out.2
+  writes_on Now stays middle new text left next pending new_pending lists new_lists None it (inl named) out =
+      writes_out middle new text left out.0 new_pending new_lists (writes_silent Now stays middle text next pending lists it new_pending new_lists named) out.1 out.2
+  writes_on Now stays middle new text left next pending new_pending lists new_lists None it (inr visited) out =
+      writes_out middle new text left out.0 new_pending new_lists (writes_nothing Now stays middle text next pending lists it visited.unreplaced new_pending new_lists visited.tells) out.1 out.2
+  writes_on Now stays middle new text left next pending new_pending lists new_lists (Some path) it (inl named) out =
+      writes_listed Now stays middle text next pending lists it new new_pending new_lists path (text ++ line path) left out.0 named.told_if.0 named.lists named.pending
+      (λ tree known basis same start halfway. inr (record {
+        folder = named.folder;
+        start = named.start;
+        replaced = named.replaced tree (stays tree known) basis same (stands_next Now stays middle text next pending lists it tree known basis same start halfway);
+        free = λ tracked. named.told_if.1 (subst (λ (t : Terms). IsTracked t.tracked.entries named.folder) same tracked);
+      }))
+      refl out.1 out.2
+  writes_on Now stays middle new text left next pending new_pending lists new_lists (Some path) it (inr visited) out =
+      writes_listed Now stays middle text next pending lists it new new_pending new_lists path (text ++ line path) left out.0 visited.tells.listed.same visited.tells.listed.lists visited.tells.listed.pending
+      (λ tree known basis same start halfway. to_listed_told Now stays middle text next pending lists it tree known basis same start halfway new_lists new_pending path visited.tells)
+      refl out.1 out.2
 
 pub nothing_in_front : (line : List ℕ → List ℕ) (old : Option (List ℕ)) → AppendsFront old old (flat_map line [])
 nothing_in_front line old = record { count = 0; appended = appends_none old }

@@ -3,21 +3,25 @@ use Rattle.std.proofs.Common.{◌≡◌, ◌⊎◌, inl, inr, ⊎_elim, ℕ, tru
 use Rattle.gix_glob.specs.Bytes.{EndsInSlash}
 use Rattle.glob_trees.specs.Ways.{Folder, start_of}
 use Rattle.tree_commands.specs.FileTrees.{FileTree}
-use Rattle.tree_commands.specs.Files.{Basis, IsEntryOf, IsIgnoredAt, IsListed, IsMet, IsShut, begins, lies}
+use Rattle.tree_commands.specs.Files.{Basis, IsEntryOf, IsIgnoredAt, IsListed, IsMet, IsReplaced, IsShut, IsTold, IsToldAsListed, IsToldInPlace, begins, lies}
 use Rattle.tree_commands.specs.Private.Listing.{IsEnd}
 use Rattle.tree_commands.proofs.lemmas.PathLemmas.{one_folder, start_ends}
 
 module _ (basis : Basis) (tree : FileTree) where
   abbrev pub IsOpen : Folder → Type 0
-  IsOpen folder = ¬ IsShut basis.terms tree folder (IsIgnoredAt basis tree folder true)
+  IsOpen folder = (¬ IsShut basis.terms tree folder (IsIgnoredAt basis tree folder true)) × (¬ IsReplaced basis tree folder)
 
   -- no path is met from this one but itself
   abbrev pub IsEndOf : List ℕ → Type 0
-  IsEndOf path = IsEnd basis.terms tree (IsIgnoredAt basis tree) path
+  IsEndOf path = IsEnd basis.terms tree (IsIgnoredAt basis tree) path ⊎ ((folder : Folder) × (path ≡ start_of folder) × IsReplaced basis tree folder)
 
   pub ends_listed : (path : List ℕ) → IsListed basis tree path → IsEndOf path
-  ends_listed path (inl file) = inl (file.some, file.whole)
-  ends_listed path (inr folder) = inr (folder.folder, folder.start, folder.shut)
+  ends_listed path (inl file) = inl (inl (file.some, file.whole))
+  ends_listed path (inr folder) = inl (inr (folder.folder, folder.start, folder.shut))
+
+  pub ends_told : (path : List ℕ) → IsTold basis tree path → IsEndOf path
+  ends_told path (inl told) = ends_listed path told.listed
+  ends_told path (inr told) = inr (told.folder, told.start, told.replaced)
 
   -- a path that is met from another one lies below an entry of that
   pub record MeetsFirst (start path : List ℕ) : Type 0 where
@@ -30,23 +34,25 @@ module _ (basis : Basis) (tree : FileTree) where
 
   pub meets_first : {start path : List ℕ} → IsMet basis tree start path → (path ≡ start) ⊎ MeetsFirst start path
   meets_first begins = inl refl
-  meets_first {start} (lies {folder} {found} met may entry) = ⊎_elim
-      (λ (here : start_of folder ≡ start). inr (record { folder = folder; is_start = sym here; may = may; found = found; entry = entry; rest = begins }))
+  meets_first {start} (lies {folder} {found} met may kept entry) = ⊎_elim
+      (λ (here : start_of folder ≡ start). inr (record { folder = folder; is_start = sym here; may = (may, kept); found = found; entry = entry; rest = begins }))
       (λ (first : MeetsFirst start (start_of folder)). inr (record {
         folder = first.folder;
         is_start = first.is_start;
         may = first.may;
         found = first.found;
         entry = first.entry;
-        rest = lies first.rest may entry;
+        rest = lies first.rest may kept entry;
       }))
       (meets_first met)
 
   -- an end isn't entered
   end_is_shut : (path : List ℕ) (folder : Folder) → IsEndOf path → path ≡ start_of folder → ¬ IsOpen folder
-  end_is_shut path folder (inl file) is may = file.1 (subst EndsInSlash (sym is) (start_ends folder (λ none. file.0 (is ∙ none))))
+  end_is_shut path folder (inl (inl file)) is may = file.1 (subst EndsInSlash (sym is) (start_ends folder (λ none. file.0 (is ∙ none))))
+  end_is_shut path folder (inl (inr at)) is may =
+      may.0 (subst (λ f. IsShut basis.terms tree f (IsIgnoredAt basis tree f true)) (one_folder at.0 folder (sym at.1 ∙ is)) at.2)
   end_is_shut path folder (inr at) is may =
-      may (subst (λ f. IsShut basis.terms tree f (IsIgnoredAt basis tree f true)) (one_folder at.0 folder (sym at.1 ∙ is)) at.2)
+      may.1 (subst (IsReplaced basis tree) (one_folder at.0 folder (sym at.1 ∙ is)) at.2)
 
   pub end_meets_itself : {start path : List ℕ} → IsMet basis tree start path → IsEndOf start → path ≡ start
   end_meets_itself {start} {path} met ends = ⊎_elim

@@ -6,7 +6,8 @@ use Rattle.tree_commands.specs.declared.files.choosing.Chosen.{Chosen}
 use Rattle.tree_commands.specs.declared.files.choosing.Folders.TheVariants.{NamedIfFilled}
 use Rattle.tree_commands.specs.declared.files.pending.Pending.{Pending}
 use Rattle.tree_commands.specs.FileTrees.{FileTree}
-use Rattle.tree_commands.specs.Files.{Basis, IsFilled, Terms, entering}
+use Rattle.git_index.specs.Entries.{IsTracked}
+use Rattle.tree_commands.specs.Files.{Basis, IsFilled, IsReplaced, Terms, entering}
 use Rattle.tree_commands.specs.Private.Listing.{Among, IsEntered, IsPassedOver, IsToList, Stands, path_of}
 use Rattle.tree_commands.specs.Private.UnderWay.{Beginning}
 
@@ -39,3 +40,20 @@ abbrev pub Tells : (FileTree → Type 0) → Terms → Pending → List (EntryLi
 Tells Known terms next old_lists new_lists old new told = MatchOption told
     (IsUnfilled Known terms next old_lists new_lists old new ⊎ (IsEntered Known terms next old_lists new_lists old new ⊎ IsPassedOver Known terms next old_lists new_lists old new))
     (IsToTell Known terms next old_lists new_lists old new)
+
+-- a folder was replaced by its name, which is told, unless a tracked file has it
+pub record IsNamedInPlace (Known : FileTree → Type 0) (terms : Terms) (next : Pending) (old_lists new_lists : List (EntryList (Unit {0}))) (old new : List Pending) (told : Option (List ℕ)) : Type 0 where
+  pub lists : new_lists ≡ old_lists
+  pub pending : new ≡ old
+  pub folder : Folder
+  pub start : path_of next ≡ start_of folder
+  pub replaced : OfStanding Known terms old_lists next (λ basis tree. IsReplaced basis tree folder)
+  pub told_if : MatchOption told (IsTracked terms.tracked.entries folder) (λ path. (path ≡ path_of next) × (¬ IsTracked terms.tracked.entries folder))
+
+-- or it wasn't, and was visited
+pub record IsVisited (Known : FileTree → Type 0) (terms : Terms) (next : Pending) (old_lists new_lists : List (EntryList (Unit {0}))) (old new : List Pending) (told : Option (List ℕ)) : Type 0 where
+  pub tells : Tells Known terms next old_lists new_lists old new told
+  pub unreplaced : OfStanding Known terms old_lists next (λ basis tree. (folder : Folder) → path_of next ≡ start_of folder → ¬ IsReplaced basis tree folder)
+
+abbrev pub Steps : (FileTree → Type 0) → Terms → Pending → List (EntryList (Unit {0})) → List (EntryList (Unit {0})) → List Pending → List Pending → Option (List ℕ) → Type 0
+Steps Known terms next old_lists new_lists old new told = IsNamedInPlace Known terms next old_lists new_lists old new told ⊎ IsVisited Known terms next old_lists new_lists old new told

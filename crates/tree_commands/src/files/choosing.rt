@@ -23,4 +23,6 @@ pub enum Folders {
     /// It isn't gone into, and is told by its name where it is filled: a listing from there that goes into all folders would list something.
     /// Where the ignored paths are chosen, it would list all that lies in the folder.
     NamedIfFilled,
+    /// It is told by its name where it is filled in this sense; else it is gone into.
+    EnteredUnlessFilled,
 }

@@ -1,14 +1,15 @@
 //! Folders that are told only if they are filled: listings from there that go into all folders, and end at the first path.
-ghost use Rattle.std.specs.Prelude.{◌≡◌, ◌↔◌, ◌≤◌, ◌⊎◌, [], ℕ, List, false, length, take, IfErr, IfOk, IsTrue, OnOk, option_map};
+ghost use Rattle.std.specs.Prelude.{◌≡◌, ◌≢◌, ◌↔◌, ◌≤◌, ◌⊎◌, ◌∷◌, [], ℕ, List, false, length, take, IfErr, IfOk, IsTrue, OnOk, option_map};
 ghost use Rattle.std.specs.Vec.{vec_items};
-ghost use Rattle.gix_glob.specs.Bytes.{EndsInSlash};
+ghost use Rattle.git_index.specs.Entries.{IsTracked};
+ghost use Rattle.gix_glob.specs.Bytes.{EndsInSlash, slash};
 ghost use Rattle.glob_lists.specs.Deciding.{BasesAreFolders};
 ghost use Rattle.glob_trees.specs.Ways.{Folder, GivesOnly, start_of};
 ghost use Rattle.tree_commands.specs.declared.files.choosing.Chosen.{Chosen};
 ghost use Rattle.tree_commands.specs.declared.files.choosing.Folders.TheVariants as manners;
 ghost use Rattle.tree_commands.specs.FileTrees.{StaysKnown};
-ghost use Rattle.tree_commands.specs.Files.{HasListed, IsFilled, IsMet, IsSearched, IsTold, entering};
-ghost use Rattle.tree_commands.specs.Private.Filling.{KeepsLists, MaySearch, OfStanding, Tells};
+ghost use Rattle.tree_commands.specs.Files.{HasListed, IsFilled, IsMet, IsReplaced, IsSearched, IsTold, entering};
+ghost use Rattle.tree_commands.specs.Private.Filling.{KeepsLists, MaySearch, OfStanding, Steps, Tells};
 ghost use Rattle.tree_commands.specs.Private.Listing.{FlagsFolder, MayVisit, seen_lists, terms_of};
 ghost use Rattle.tree_commands.specs.Private.ListingFaults.{is_of_start};
 ghost use Rattle.tree_commands.specs.Private.UnderWay.{IsUnderWay, OfKnown, beginning_of};
@@ -16,19 +17,79 @@ ghost use Rattle.tree_commands.specs.Private.UnderWay.{IsUnderWay, OfKnown, begi
 use crate::files::choosing::{Chosen, Folders};
 use crate::files::entries::ListsOnWay;
 use crate::files::fault::FilesFault;
-use crate::files::lister::{Lister, folder_at, is_ignored_folder};
+use crate::files::lister::{Lister, folder_at, is_free, is_ignored_folder};
 use crate::files::pending::Pending;
 use crate::files::source::FileSource;
 use crate::files::start::ends_in_slash;
-use crate::files::terms::{Terms, asks_filled, wants_ignored};
+use crate::files::terms::{Terms, asks_filled, replaces_filled, wants_ignored};
 use glob_lines::IgnoreLines;
 use glob_lists::PreparedList;
 use std::alloc::AllocError;
 use std::mem;
 
 impl<'a> Lister<'a> {
-    /// Visits a path, and answers it where it is to be told.
+    /// Takes the next step of a listing: visits a path, or puts the name of a folder in place of what lies in it. It answers the path where that
+    /// is to be told.
     pub(crate) fn tell<S: FileSource>(
+        &mut self,
+        source: &mut S,
+        next: Pending,
+    ) -> Result<Option<Vec<u8>>, FilesFault<S::Fault>>
+        requires folders { BasesAreFolders (seen_lists self.old.on_way.lists.items) }
+        requires may { MayVisit self.old.on_way.terms.case next.path.items }
+        requires count { next.list_count ≤ length self.old.on_way.lists.items }
+        ensures steps { IfOk result (λ told. Steps (S.shows source.old) (terms_of self.old.on_way.terms) next (take next.list_count (seen_lists self.old.on_way.lists.items)) (seen_lists self.new.on_way.lists.items) self.old.pending.items self.new.pending.items (option_map vec_items told)) }
+        ensures terms { self.new.on_way.terms ≡ self.old.on_way.terms }
+        ensures folders { OnOk result (BasesAreFolders (seen_lists self.new.on_way.lists.items)) }
+        ensures stays { StaysKnown S.shows source.old source.new }
+        ensures asks { GivesOnly (λ folder. (next.path.items ≡ start_of folder) ⊎ OfStanding (S.shows source.old) (terms_of self.old.on_way.terms) (take next.list_count (seen_lists self.old.on_way.lists.items)) next (λ basis tree. IsSearched basis tree next.path.items folder)) (S.asked source.old) (S.asked source.new) }
+        ensures begun { IfErr result (λ fault. is_of_start fault ≡ false) }
+    {
+        self.on_way.lists.truncate(next.list_count);
+        let is_replaced = self.is_replaced(source, &next)?;
+        if !is_replaced {
+            let told = self.tell_visited(source, next)?;
+            return Ok(told);
+        }
+        if has_tracked_name(&self.on_way.terms, &next.path) {
+            return Ok(None);
+        }
+        Ok(Some(next.path))
+    }
+
+    /// Whether the folder is replaced by its name at whose path a listing stands.
+    fn is_replaced<S: FileSource>(
+        &mut self,
+        source: &mut S,
+        place: &Pending,
+    ) -> Result<bool, FilesFault<S::Fault>>
+        requires folders { BasesAreFolders (seen_lists self.old.on_way.lists.items) }
+        requires may { MayVisit self.old.on_way.terms.case place.now.path.items }
+        requires count { place.now.list_count ≡ length self.old.on_way.lists.items }
+        ensures replaced { IfOk result (λ is_replaced. OfStanding (S.shows source.old) (terms_of self.old.on_way.terms) (seen_lists self.old.on_way.lists.items) place.now (λ basis tree. (folder : Folder) → place.now.path.items ≡ start_of folder → IsTrue is_replaced ↔ IsReplaced basis tree folder)) }
+        ensures starts { IfOk result (λ is_replaced. IsTrue is_replaced → (folder : Folder) × (place.now.path.items ≡ start_of folder) × (folder ≢ [])) }
+        ensures lists { OnOk result (seen_lists self.new.on_way.lists.items ≡ seen_lists self.old.on_way.lists.items) }
+        ensures terms { self.new.on_way.terms ≡ self.old.on_way.terms }
+        ensures pending { self.new.pending ≡ self.old.pending }
+        ensures stays { StaysKnown S.shows source.old source.new }
+        ensures asks { GivesOnly (λ folder. OfStanding (S.shows source.old) (terms_of self.old.on_way.terms) (seen_lists self.old.on_way.lists.items) place.now (λ basis tree. IsSearched basis tree place.now.path.items folder)) (S.asked source.old) (S.asked source.new) }
+        ensures begun { IfErr result (λ fault. is_of_start fault ≡ false) }
+    {
+        if !replaces_filled(self.on_way.terms.folders) {
+            return Ok(false);
+        }
+        let Some(folder) = folder_at(&place.path) else {
+            return Ok(false);
+        };
+        if !is_free(&self.on_way.terms, folder) {
+            return Ok(false);
+        }
+        let is_filled = self.is_filled(source, place)?;
+        Ok(is_filled)
+    }
+
+    /// Visits a path, and answers it where it is to be told, unless its folder is replaced by its name.
+    fn tell_visited<S: FileSource>(
         &mut self,
         source: &mut S,
         next: Pending,
@@ -140,6 +201,17 @@ impl<'a> Lister<'a> {
         ensures { result.items ≡ self.entry.on_way.lists.items }
     {
         self.on_way.lists
+    }
+}
+
+/// Whether a tracked file has the name of the folder of this path.
+fn has_tracked_name(terms: &Terms<'_>, path: &[u8]) -> bool
+    requires { path.now ≢ slash ∷ [] }
+    ensures { (folder : Folder) → path.now ≡ start_of folder → folder ≢ [] → IsTrue result ↔ IsTracked (terms_of terms.now).tracked.entries folder }
+{
+    match folder_at(path) {
+        Some(folder) => terms.tracked.has_very_entry(folder),
+        None => false,
     }
 }
 

@@ -197,7 +197,7 @@ fn is_shut(terms: &Terms<'_>, folder: &[u8], names: &FolderNames) -> bool
 }
 
 /// Whether a folder isn't the top, and no tracked path lies in it.
-fn is_free(terms: &Terms<'_>, folder: &[u8]) -> bool
+pub(crate) fn is_free(terms: &Terms<'_>, folder: &[u8]) -> bool
     ensures { IsTrue result ↔ IsFree (terms_of terms.now) folder.now }
 {
     !folder.is_empty() && !terms.tracked.has_below(folder)

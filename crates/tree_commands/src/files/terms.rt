@@ -57,12 +57,19 @@ pub(crate) fn asks_filled(folders: Folders) -> bool
     matches!(folders, Folders::NamedIfFilled)
 }
 
+/// Whether a folder is told by its name in place of what lies in it, if it is filled.
+pub(crate) fn replaces_filled(folders: Folders) -> bool
+    ensures { IsTrue result ↔ folders ≡ manners.EnteredUnlessFilled }
+{
+    matches!(folders, Folders::EnteredUnlessFilled)
+}
+
 /// Whether a folder is told by its name, although it is no repository, if no tracked path lies in it.
 pub(crate) fn is_named(folders: Folders, chosen: Chosen, is_ignored: bool) -> bool
     ensures { IsTrue result ↔ IsNamedBy folders chosen is_ignored }
 {
     match folders {
-        Folders::Entered => false,
+        Folders::Entered | Folders::EnteredUnlessFilled => false,
         Folders::Named | Folders::NamedIfFilled => true,
         Folders::NamedIfIgnored => wants_ignored(chosen) && is_ignored,
     }

@@ -13,7 +13,7 @@ options, of which one that begins with -u or --untracked-files has to be there:
   --untracked-files=all    as -uall
   --untracked-files=normal as -unormal
   --untracked-files=no     as -uno
-  --ignored                each ignored file (--ignored=traditional)
+  --ignored                ignored files, as -u.. tells the others (--ignored=traditional)
   --ignored=matching       an ignored folder by its name
   --ignored=no             none, as without it
   --porcelain              without effect, as --porcelain=v1

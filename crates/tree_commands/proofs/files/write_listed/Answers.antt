@@ -10,7 +10,7 @@ use Rattle.tree_commands.specs.declared.files.pending.Pending.{Pending}
 use Rattle.tree_commands.specs.declared.files.mark.Mark.{Mark}
 use Rattle.tree_commands.specs.declared.files.terms.Terms as held
 use Rattle.tree_commands.specs.Files.{IsMet, Terms, path_line}
-use Rattle.tree_commands.specs.Private.Filling.{Tells}
+use Rattle.tree_commands.specs.Private.Filling.{Steps}
 use Rattle.tree_commands.specs.Private.Listing.{MayVisit, WritesOut, seen_lists, terms_of, with_line}
 use Rattle.tree_commands.specs.Private.UnderWay.{IsUnderWay, IsWriting, OfKnown, WritesFront, beginning_of}
 use Rattle.tree_commands.proofs.lemmas.ListingLemmas.{count_next, may_next}
@@ -113,7 +113,7 @@ paths-preserved g c =
     let new_lists = seen_lists c.tell.new.self.on_way.lists.items in
     let listed = option_map vec_items c.in_ok-listed.listed in
     let left = c.write_line.new.lines.text.items in
-    let told = subst (λ (t : Terms). Tells (g.S.FileSource.shows c.paths.source) t c.in-Some.next (take c.in-Some.next.list_count lists) new_lists c.pop.new.self.items c.tell.new.self.pending.items listed) (ap terms_of c.paths.invariant.terms) c.in_ok-listed.ensures.tells in
+    let told = subst (λ (t : Terms). Steps (g.S.FileSource.shows c.paths.source) t c.in-Some.next (take c.in-Some.next.list_count lists) new_lists c.pop.new.self.items c.tell.new.self.pending.items listed) (ap terms_of c.paths.invariant.terms) c.in_ok-listed.ensures.steps in
     let out = subst (λ (m : Mark). WritesOut middle new (with_line (path_line m c.args.lines.now.standpoint c.args.lines.now.form) text listed) left) c.paths.invariant.mark
     (subst (λ (s : Standpoint). WritesOut middle new (with_line (path_line c.paths.lines.mark s c.args.lines.now.form) text listed) left) c.paths.invariant.standpoint
     (subst (λ (f : Form). WritesOut middle new (with_line (path_line c.paths.lines.mark c.paths.lines.standpoint f) text listed) left) c.paths.invariant.form c.in_ok-write_line.ensures.ok)) in
