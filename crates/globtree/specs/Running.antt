@@ -1,5 +1,7 @@
 -- What the program ends with, and what is asked of it.
-use Rattle.std.specs.Prelude.{◌≡◌, ◌⊎◌, ◌||◌, ℕ, Bool, if◌then◌else◌}
+use Rattle.std.specs.Prelude.{◌≡◌, ◌⊎◌, ◌&&◌, ◌||◌, ℕ, Bool, true, List, Some, if◌then◌else◌}
+use Rattle.std.specs.Borrow.{Bor}
+use Rattle.near_words.specs.Near.{IsNearest, bytes_of}
 use Rattle.told_paths.specs.declared.quoting.Quoting.{Quoting}
 use Rattle.told_paths.specs.declared.quoting.Quoting.TheVariants.{AsciiOnly, Full}
 use Rattle.tree_answers.specs.declared.form.Form.{Form}
@@ -13,7 +15,10 @@ use Rattle.config_answers.specs.declared.origin.Manner.{Manner}
 use Rattle.tree_words.specs.declared.check_ignore.CheckIgnoreFlags.{CheckIgnoreFlags}
 use Rattle.tree_words.specs.declared.config.ConfigFlags.{ConfigFlags}
 use Rattle.tree_words.specs.declared.files.FilesFlags.{FilesFlags}
+use Rattle.tree_words.specs.declared.word_fault.WordFault.{WordFault}
 use Rattle.tree_words.specs.Files.{are_usual}
+use Rattle.tree_words.specs.Names.{is_among}
+use Rattle.tree_words.specs.WordFaults.{could_stand, wrong_word}
 
 -- all is answered; or something is, and no path is ignored, or not all could be listed
 abbrev pub IsAnswered : ℕ → Type 0
@@ -51,3 +56,15 @@ folders_by flags = if flags.directory then folders.Named else folders.Entered
 -- how entries of a configuration are shown, by the options of `config`
 abbrev pub manner_by : ConfigFlags → Manner
 manner_by flags = record { nul = flags.nul; origin = flags.show_origin }
+
+-- folders are to be told by their names otherwise than a listing does: with those that are ignored, or without empty ones
+abbrev pub names_folders_otherwise : FilesFlags → Bool
+names_folders_otherwise flags = (flags.others && flags.directory) && (flags.ignored || flags.no_empty_directory)
+
+-- the name may have been meant by the wrong word: it is the nearest to it of some names that could stand there
+pub record IsMeant (fault : WordFault) (name : List ℕ) : Type 0 where
+  pub word : List ℕ
+  pub wrong : wrong_word fault ≡ Some word
+  pub names : List (Bor (List ℕ))
+  pub could : (other : List ℕ) → is_among other names ≡ true → could_stand fault other ≡ true
+  pub nearest : IsNearest word (bytes_of names) name

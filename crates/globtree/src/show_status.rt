@@ -8,7 +8,7 @@ ghost use Rattle.globtree.specs.Running.{IsAnswered, form_by};
 use crate::fronts::{Fronts, case_of, fronts_of};
 use crate::index_use::IndexUse;
 use crate::listing::{copies_of, run_listing};
-use crate::running::ANSWERED;
+use crate::outcomes::ANSWERED;
 use anyhow::{Context, Result, bail};
 use gix_glob::search::Watched;
 use std::alloc::Global;
