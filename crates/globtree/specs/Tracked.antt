@@ -1,5 +1,5 @@
 -- What an index says, as far as it is known: of real files nothing is.
-use Rattle.std.specs.Prelude.{◌≡◌, ◌⊎◌, ℕ, true, List, [], ◌∷◌, ◌++◌, Option, None, codes, if◌then◌else◌}
+use Rattle.std.specs.Prelude.{◌≡◌, ◌⊎◌, ℕ, true, List, [], ◌∷◌, ◌++◌, Contains, Option, None, codes, if◌then◌else◌}
 use Rattle.std.specs.Option.{unwrap_or}
 use Rattle.std.specs.Str.{bytes_eq}
 use Rattle.git_index.specs.declared.checksum.ObjectFormat.{ObjectFormat}
@@ -31,3 +31,7 @@ GivesFolder uses.Nothing entry folder = ⊥
 GivesFolder uses.Paths entry folder = ((entry.skip_worktree ≡ true) × (entry.stage ≡ 0)) × IsFileIn folder (codes ".gitignore") entry.path
 GivesFolder uses.Patterns entry folder = ((entry.skip_worktree ≡ true) × (entry.stage ≡ 0)) × IsFileIn folder (codes ".gitignore") entry.path
 GivesFolder uses.Attributes entry folder = ((entry.stage ≡ 0) ⊎ (entry.stage ≡ 2)) × IsFileIn folder (codes ".gitattributes") entry.path
+
+-- some entry gives the folder
+abbrev pub IsGiven : IndexUse → List Tracked → List ℕ → Type 0
+IsGiven index entries folder = (entry : Tracked) × Contains entries entry × GivesFolder index entry folder

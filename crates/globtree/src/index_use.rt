@@ -1,10 +1,9 @@
 //! What a command takes from the index.
-ghost use Rattle.std.specs.Prelude.{◌≡◌, ◌≢◌, ◌↔◌, ℕ, List, [], IfOk, IsTrue, Some};
-ghost use Rattle.std.specs.List.{Any};
+ghost use Rattle.std.specs.Prelude.{◌≡◌, ◌≢◌, ◌↔◌, ℕ, List, [], IfOk, IsTrue, Some, map};
 ghost use Rattle.std.specs.Option.{option_copied};
 ghost use Rattle.git_index.specs.Entries.{tracked};
 ghost use Rattle.tree_files.specs.Indexed.{is_indexed};
-ghost use Rattle.globtree.specs.Tracked.{GivesFolder, IsFileIn, IsOfIndex};
+ghost use Rattle.globtree.specs.Tracked.{GivesFolder, IsFileIn, IsGiven, IsOfIndex};
 
 use crate::tracked::IndexFile;
 use anyhow::Result;
@@ -86,7 +85,7 @@ pub(crate) fn take_from_index<R: Files>(
 
 /// The folders whose file of patterns Git takes from the index where the work tree hasn't it.
 fn folders_in(alloc: Global, entries: &[Entry], index: IndexUse) -> Result<IndexedFiles, AllocError>
-    ensures { IfOk result (λ indexed. (folder : List ℕ) → IsTrue (is_indexed indexed folder) ↔ Any (λ entry. GivesFolder index (tracked entry) folder) entries.now) }
+    ensures { IfOk result (λ indexed. (folder : List ℕ) → IsTrue (is_indexed indexed folder) ↔ IsGiven index (map tracked entries.now) folder) }
 {
     let mut indexed = IndexedFiles::none(alloc);
     'entries: for entry in entries {
@@ -101,7 +100,9 @@ fn folders_in(alloc: Global, entries: &[Entry], index: IndexUse) -> Result<Index
 fn folder_of_file<'a>(path: &'a [u8], name: &[u8]) -> Option<&'a [u8]>
     ensures { (folder : List ℕ) → (option_copied result ≡ Some folder) ↔ IsFileIn folder name.now path.entry.now }
 {
-    let front = path.strip_suffix(name)?;
+    let Some(front) = path.strip_suffix(name) else {
+        return None;
+    };
     if front.is_empty() {
         return Some(front);
     }
