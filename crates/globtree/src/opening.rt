@@ -10,7 +10,6 @@ use crate::check_ignore::bytes_of;
 use crate::moving::current_folder;
 use crate::places::from_root;
 use anyhow::{Context, Result, bail};
-use core_settings::Pair;
 use git_config::{Config, Surroundings, boolean};
 use git_repository::Environment;
 use opened_repository::{OpenFault, Opened, Told, config_place, open, read_config};
@@ -23,57 +22,37 @@ use std::rt::{Env, Files};
 use tree_files::path_text;
 use tree_words::{Options, values_of};
 
-/// What the system and the environment say before a repository is looked for.
+/// What the environment says before a repository is looked for.
 #[derive(Drop)]
-struct Asked<'a, R> {
-    files: DiskFiles<'a, R>,
+struct Asked {
     variables: RepositoryVariables,
     configuration: ConfigurationVariables,
     around: Surroundings,
 }
 
-impl<'a, R: Files + Env> Asked<'a, R> {
-    /// Asks the system and the environment.
-    fn of_process(rt: &'a R, alloc: Global) -> Result<Asked<'a, R>> {
-        let files = DiskFiles::new(rt, alloc, User::of_process(rt, alloc)?);
+impl Asked {
+    /// Asks the environment, and the files for users.
+    fn read<R: Files + Env>(rt: &R, alloc: Global, files: &DiskFiles<'_, R>) -> Result<Asked> {
         let variables = RepositoryVariables::read(rt, alloc)?;
         let configuration = ConfigurationVariables::read(rt, alloc)?;
-        let around = configuration.surroundings(alloc, &files)?;
+        let around = configuration.surroundings(alloc, files)?;
         Ok(Asked {
-            files,
             variables,
             configuration,
             around,
         })
     }
 
-    /// What is told of the repository that this current folder is in: an option stands for its variable. Nothing else may say that there
-    /// is no work tree.
-    fn told<'t>(
-        &'t self,
-        options: Options<'t>,
-        current: &'t [u8],
-        pairs: &'t [Pair<&'t [u8]>],
-        words: &'t [&'t [u8]],
-        needs_work_tree: bool,
-    ) -> Result<Told<'t>>
-        ensures by_options { IfOk result (λ told. environment_with (λ b. b.now) told.environment ≡ with_options options.entry (environment_of self.now.variables)) }
-        ensures taken { IfOk result (λ told. denies_work_tree (environment_with (λ b. b.now) told.environment) (option_map vec_items self.now.variables.implicit_work_tree) ≡ false) }
+    /// What the variables and options say of a repository: an option stands for its variable. Nothing else may say that there is no work tree.
+    fn environment<'t>(&'t self, options: Options<'t>) -> Result<Environment<&'t [u8]>>
+        ensures by_options { IfOk result (λ told. environment_with (λ b. b.now) told ≡ with_options options.entry (environment_of self.now.variables)) }
+        ensures taken { IfOk result (λ told. denies_work_tree (environment_with (λ b. b.now) told) (option_map vec_items self.now.variables.implicit_work_tree) ≡ false) }
     {
         let environment = with_options(self.variables.environment(), options);
         if denies_work_tree(&environment, self.variables.implicit_work_tree.as_deref()) {
             bail!("the variable GIT_IMPLICIT_WORK_TREE isn't read");
         }
-        Ok(Told {
-            current,
-            pwd: self.variables.pwd.as_deref(),
-            environment,
-            places: self.configuration.places(),
-            pairs,
-            words,
-            around: &self.around,
-            needs_work_tree,
-        })
+        Ok(environment)
     }
 }
 
@@ -84,11 +63,22 @@ pub(crate) fn open_here<R: Files + Env>(
     options: Options<'_>,
     current: &[u8],
 ) -> Result<Opened<Vec<u8>, Config>> {
-    let asked = Asked::of_process(rt, alloc)?;
+    let files = DiskFiles::new(rt, alloc, User::of_process(rt, alloc)?);
+    let asked = Asked::read(rt, alloc, &files)?;
     let pairs = asked.configuration.pairs(alloc)?;
     let words = bytes_of(alloc, &values_of(alloc, options.words, "-c")?)?;
-    let told = asked.told(options, current, &pairs, &words, true)?;
-    with_fault_told(open(alloc, &asked.files, &told))
+    let environment = asked.environment(options)?;
+    let told = Told {
+        current,
+        pwd: asked.variables.pwd.as_deref(),
+        environment,
+        places: asked.configuration.places(),
+        pairs: &pairs,
+        words: &words,
+        around: &asked.around,
+        needs_work_tree: true,
+    };
+    with_fault_told(open(alloc, &files, &told))
 }
 
 /// Reads the configuration that counts in the current folder. Where this lies below the top of the work tree, it goes there first, as
@@ -99,16 +89,27 @@ pub(crate) fn config_here<R: Files + Env + AllocGlobal>(
     options: Options<'_>,
 ) -> Result<Config> {
     let current = from_root(alloc, &current_folder(rt, alloc)?)?;
-    let asked = Asked::of_process(rt, alloc)?;
+    let files = DiskFiles::new(rt, alloc, User::of_process(rt, alloc)?);
+    let asked = Asked::read(rt, alloc, &files)?;
     let pairs = asked.configuration.pairs(alloc)?;
     let words = bytes_of(alloc, &values_of(alloc, options.words, "-c")?)?;
-    let told = asked.told(options, &current, &pairs, &words, false)?;
-    let place = with_fault_told(config_place(alloc, &asked.files, &told))?;
+    let environment = asked.environment(options)?;
+    let told = Told {
+        current: &current,
+        pwd: asked.variables.pwd.as_deref(),
+        environment,
+        places: asked.configuration.places(),
+        pairs: &pairs,
+        words: &words,
+        around: &asked.around,
+        needs_work_tree: false,
+    };
+    let place = with_fault_told(config_place(alloc, &files, &told))?;
     if let Some(top) = &place.top {
         let top = path_text(alloc, top)?;
         env::set_current_dir(rt, top.as_str()).context("the top of the work tree")?;
     }
-    with_fault_told(read_config(alloc, &asked.files, &told, &place))
+    with_fault_told(read_config(alloc, &files, &told, &place))
 }
 
 /// What an opening answers, with its fault as it is told.

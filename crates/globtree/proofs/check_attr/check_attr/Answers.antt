@@ -50,5 +50,5 @@ returns-clause-answered g c answered =
       asks = c.question_of-question.ensures.asks ∙ ap (λ names. if c.args.flags.all then attributes.all else attributes.named names) (ap (map see) c.deref-2.ensures.value ∙ names);
       read = λ is. absurd (false≢true (sym c.if-flags.false ∙ is));
       told = λ _. subst (λ paths. TellsStates c.question_of-question.result paths (g.O.Write.contents (inner c.args.output.now)) (g.O.Write.contents (inner c.check_attr_paths-outcome.new.writer))) (ap (map see) c.deref-3.ensures.value ∙ paths)
-      (subst (λ r. OnOk r (TellsStates c.question_of-question.result (map see c.deref-3.result.now) (g.O.Write.contents (inner c.args.output.now)) (g.O.Write.contents (inner c.check_attr_paths-outcome.new.writer)))) c.in_ok-answer_of-2.ensures c.check_attr_paths-outcome.ensures.ok);
+          (subst (λ r. OnOk r (TellsStates c.question_of-question.result (map see c.deref-3.result.now) (g.O.Write.contents (inner c.args.output.now)) (g.O.Write.contents (inner c.check_attr_paths-outcome.new.writer)))) c.in_ok-answer_of-2.ensures c.check_attr_paths-outcome.ensures.ok);
     }

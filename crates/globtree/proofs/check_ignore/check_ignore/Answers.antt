@@ -44,7 +44,7 @@ returns-then-flags-clause-answered g c =
       is_any = is_any;
       ends = c.status_by.ensures;
       read = λ _. read_from_front question is_any left here rest old new c.in_ok-refuse_settings_for.ensures.kept
-      (subst (λ r. IfOk r (λ is_any. ReadsIgnore question is_any here rest old new)) c.in_ok-is_any.ensures c.run_check_ignore-sources.ensures.ends.ok);
+          (subst (λ r. IfOk r (λ is_any. ReadsIgnore question is_any here rest old new)) c.in_ok-is_any.ensures c.run_check_ignore-sources.ensures.ends.ok);
       told = λ is. absurd (false≢true (sym is ∙ c.if-flags.true));
     }
 
@@ -75,5 +75,5 @@ returns-clause-answered g c =
       ends = c.status_by-2.ensures;
       read = λ is. absurd (false≢true (sym c.if-flags.false ∙ is));
       told = λ _. subst (λ paths. TellsIgnore question paths is_any old new) paths
-      (subst (λ r. IfOk r (λ is_any. TellsIgnore question (map see c.deref-2.result.now) is_any old new)) c.in_ok-is_any-2.ensures c.check_ignore_paths-sources.ensures.ok);
+          (subst (λ r. IfOk r (λ is_any. TellsIgnore question (map see c.deref-2.result.now) is_any old new)) c.in_ok-is_any-2.ensures c.check_ignore_paths-sources.ensures.ok);
     }
