@@ -1,4 +1,5 @@
 pub mod FrontLemmas
+pub mod IndexLemmas
 pub mod InputLemmas
 pub mod ListingLemmas
 pub mod OperandLemmas

@@ -4,12 +4,14 @@ use Rattle.std.specs.Option.{option_copied, option_or, unwrap_or}
 use Rattle.git_repository.specs.declared.environment.Environment.{Environment}
 use Rattle.std.specs.Vec.{vec_items}
 use Rattle.gix_glob.specs.Bytes.{slash}
+use Rattle.core_settings.specs.UserFiles.{settings_file}
 use Rattle.core_settings.specs.Values.{last_value}
 use Rattle.git_config.specs.Configuration.{Seen}
 use Rattle.git_config.specs.Numbers.{boolean_of}
 use Rattle.git_repository.specs.GitFolders.{told_from}
 use Rattle.opened_repository.specs.Opening.{is_relative}
 use Rattle.opened_repository.specs.declared.opened.Opened.{Opened}
+use Rattle.told_paths.specs.declared.quoting.Quoting.TheVariants.{Full}
 use Rattle.told_paths.specs.declared.standpoint.Standpoint.{Standpoint}
 use Rattle.told_paths.specs.Paths.{left_below}
 use Rattle.tree_words.specs.declared.options.Options.{Options}
@@ -68,3 +70,24 @@ pub record IsTreeOf (standpoint : Standpoint) (current : List ℕ) (opened : Ope
   pub git_folder : option_map vec_items tree.git_folder ≡ Some (told_from current opened.git_folder)
   pub index : option_map (λ (index : IndexFile). string_bytes index.name) tree.index ≡ Some (told_from current opened.index_file)
   pub format : option_map (λ (index : IndexFile). index.format) tree.index ≡ Some (format_by (last_value (codes "extensions.objectformat") opened.config))
+
+-- the work tree of some opened repository
+abbrev pub IsFoundTree : WorkTree → Type 0
+IsFoundTree tree = (standpoint : Standpoint) × (current : List ℕ) × (opened : Opened (List ℕ) (List Seen)) × IsTreeOf standpoint current opened tree
+
+-- a file of this name in Git's part of some user's folder of settings, if the user has one
+abbrev pub IsUsersFile : List ℕ → Option (List ℕ) → Type 0
+IsUsersFile name file = (config_home home : Option (List ℕ)) × (file ≡ settings_file config_home home name)
+
+-- The work tree with a top that is named: no repository is looked for, and no configuration is read. Paths are told from wherever the
+-- current folder lies.
+pub record IsNamedTree (tree : WorkTree) : Type 0 where
+  pub from : (top here : List ℕ) × StandsAt top here tree.standpoint
+  pub inside : tree.is_outside ≡ false
+  pub folds : tree.folds ≡ false
+  pub quoting : tree.quoting ≡ Full
+  pub excludes : IsUsersFile (codes "ignore") (option_map vec_items tree.excludes)
+  pub attributes : IsUsersFile (codes "attributes") (option_map vec_items tree.attributes)
+  pub own_excludes : string_bytes tree.own_excludes ≡ codes ".git/info/exclude"
+  pub own_attributes : string_bytes tree.own_attributes ≡ codes ".git/info/attributes"
+  pub without : (tree.git_folder ≡ None) × (tree.index ≡ None)

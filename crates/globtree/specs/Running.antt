@@ -1,5 +1,7 @@
 -- What the program ends with, and what is asked of it.
-use Rattle.std.specs.Prelude.{◌≡◌, ◌⊎◌, ◌||◌, ℕ, Bool, if◌then◌else◌}
+use Rattle.std.specs.Prelude.{◌≡◌, ◌⊎◌, ◌&&◌, ◌||◌, ℕ, Bool, true, not, List, Some, if◌then◌else◌}
+use Rattle.std.specs.Borrow.{Bor}
+use Rattle.near_words.specs.Near.{IsNearest, bytes_of}
 use Rattle.told_paths.specs.declared.quoting.Quoting.{Quoting}
 use Rattle.told_paths.specs.declared.quoting.Quoting.TheVariants.{AsciiOnly, Full}
 use Rattle.tree_answers.specs.declared.form.Form.{Form}
@@ -9,11 +11,21 @@ use Rattle.tree_commands.specs.declared.files.choosing.Chosen.{Chosen}
 use Rattle.tree_commands.specs.declared.files.choosing.Chosen.TheVariants as choices
 use Rattle.tree_commands.specs.declared.files.choosing.Folders.{Folders}
 use Rattle.tree_commands.specs.declared.files.choosing.Folders.TheVariants as folders
+use Rattle.tree_commands.specs.declared.files.mark.Mark.{Mark}
+use Rattle.tree_commands.specs.declared.files.mark.Mark.TheVariants as marks
 use Rattle.config_answers.specs.declared.origin.Manner.{Manner}
 use Rattle.tree_words.specs.declared.check_ignore.CheckIgnoreFlags.{CheckIgnoreFlags}
 use Rattle.tree_words.specs.declared.config.ConfigFlags.{ConfigFlags}
 use Rattle.tree_words.specs.declared.files.FilesFlags.{FilesFlags}
+use Rattle.tree_words.specs.declared.status.IgnoredFiles.{IgnoredFiles}
+use Rattle.tree_words.specs.declared.status.IgnoredFiles.TheVariants as ignored
+use Rattle.tree_words.specs.declared.status.StatusFlags.{StatusFlags}
+use Rattle.tree_words.specs.declared.status.UntrackedFiles.{UntrackedFiles}
+use Rattle.tree_words.specs.declared.status.UntrackedFiles.TheVariants as untracked
+use Rattle.tree_words.specs.declared.word_fault.WordFault.{WordFault}
 use Rattle.tree_words.specs.Files.{are_usual}
+use Rattle.tree_words.specs.Names.{is_among}
+use Rattle.tree_words.specs.WordFaults.{could_stand, wrong_word}
 
 -- all is answered; or something is, and no path is ignored, or not all could be listed
 abbrev pub IsAnswered : ℕ → Type 0
@@ -51,3 +63,33 @@ folders_by flags = if flags.directory then (if flags.no_empty_directory then fol
 -- how entries of a configuration are shown, by the options of `config`
 abbrev pub manner_by : ConfigFlags → Manner
 manner_by flags = record { nul = flags.nul; origin = flags.show_origin }
+
+-- folders are to be told by their names and gone into: those in which all is ignored, of the ignored paths
+abbrev pub tells_folders_twice : FilesFlags → Bool
+tells_folders_twice flags = ((flags.others && flags.directory) && flags.ignored) && not flags.no_empty_directory
+
+-- folders are told so where `status` tells them by their names, and else gone into
+abbrev pub named_if_normal : UntrackedFiles → Folders → Folders
+named_if_normal untracked.Normal named = named
+named_if_normal untracked.Unsaid named = folders.Entered
+named_if_normal untracked.No named = folders.Entered
+named_if_normal untracked.All named = folders.Entered
+
+abbrev pub ignored_folders : IgnoredFiles → UntrackedFiles → Folders
+ignored_folders ignored.Matching told = folders.NamedIfIgnored
+ignored_folders ignored.Traditional told = named_if_normal told folders.EnteredUnlessFilled
+ignored_folders ignored.No told = named_if_normal told folders.EnteredUnlessFilled
+
+-- how `status` tells folders that have no tracked path, where this mark stands before them
+abbrev pub status_folders : StatusFlags → Mark → Folders
+status_folders flags marks.Ignored = ignored_folders flags.ignored flags.untracked
+status_folders flags marks.Untracked = named_if_normal flags.untracked folders.NamedIfFilled
+status_folders flags marks.Bare = named_if_normal flags.untracked folders.NamedIfFilled
+
+-- the name may have been meant by the wrong word: it is the nearest to it of some names that could stand there
+pub record IsMeant (fault : WordFault) (name : List ℕ) : Type 0 where
+  pub word : List ℕ
+  pub wrong : wrong_word fault ≡ Some word
+  pub names : List (Bor (List ℕ))
+  pub could : (other : List ℕ) → is_among other names ≡ true → could_stand fault other ≡ true
+  pub nearest : IsNearest word (bytes_of names) name

@@ -1,28 +1,27 @@
 //! Telling which state attributes have for paths.
-ghost use Rattle.std.specs.Prelude.{◌≡◌, ◌⊎◌, ℕ, List, if◌then◌else◌, IfOk, MatchOption, OnOk, false, true, map, string_bytes};
+ghost use Rattle.std.specs.Prelude.{◌≡◌, ◌⊎◌, ℕ, List, if◌then◌else◌, IfOk, MatchOption, false, true, map, string_bytes};
 ghost use Rattle.std.specs.Borrow.{Bor};
 ghost use Rattle.std.specs.List.{AllByRecursion};
 ghost use Rattle.gix_glob.specs.Watched.{has_failed, inner};
 ghost use Rattle.glob_attributes.specs.Names.{is_name};
 ghost use Rattle.tree_commands.specs.CheckAttr.{all, named};
-ghost use Rattle.globtree.specs.Answers.{AnswersAttr, ReadsStates, TellsStates, case_by};
+ghost use Rattle.globtree.specs.Answers.{AnswersAttr, case_by};
 ghost use Rattle.globtree.specs.Running.{IsAnswered, IsRefused, form_by};
 
 use crate::check_ignore::bytes_of;
 use crate::fronts::case_of;
+use crate::outcomes::{ANSWERED, answer_of};
 use crate::outer_attributes::{OuterAttributes, outer_attributes};
-use crate::running::{ANSWERED, WRONG_WORDS};
 use crate::wrong_words::tell_misuse;
 use anyhow::{Context, Result};
 use gix_glob::search::Watched;
 use glob_attributes::is_name;
-use record_streams::RecordFault;
 use std::alloc::Global;
 use std::io::{Read, Write};
 use std::rt::{Env, Files};
 use tree_answers::Form;
 use tree_commands::check_attr::{
-    AskedAttributes, AttributeFault, AttributeQuestion, check_attr_paths, run_check_attr,
+    AskedAttributes, AttributeQuestion, check_attr_paths, run_check_attr,
 };
 use tree_files::{AttributeFiles, CheckFault, tell_line};
 use tree_words::check_attr::CheckAttrFlags;
@@ -51,10 +50,7 @@ pub(crate) fn check_attr<R: Files + Env + Eprint + AllocGlobal, I: Read, O: Writ
     let operands = operands_of(alloc, words).context("the words")?;
     let count = match flags.names_first(operands.words.len(), operands.before) {
         Ok(count) => count,
-        Err(misuse) => {
-            tell_misuse(rt, CommandName::CheckAttr, misuse.message());
-            return Ok(WRONG_WORDS);
-        }
+        Err(misuse) => return Ok(tell_misuse(rt, CommandName::CheckAttr, misuse.message())),
     };
     let (names, paths) = operands.words.split_at(count);
     let (outer, indexed) = outer_attributes(rt, alloc, options)?;
@@ -70,51 +66,14 @@ pub(crate) fn check_attr<R: Files + Env + Eprint + AllocGlobal, I: Read, O: Writ
     let question = question_of(&outer, &asked_names, options, flags);
     let source = AttributeFiles::new(rt, alloc, &indexed);
     if flags.stdin {
-        answer_input(alloc, &question, source, input, output)?;
+        let outcome = run_check_attr(alloc, &question, source, input, output);
+        answer_of(outcome, |fault| CheckFault::of_attributes(alloc, fault))?;
         return Ok(ANSWERED);
     }
     let paths = bytes_of(alloc, paths)?;
-    answer_paths(alloc, &question, source, &paths, output)?;
+    let outcome = check_attr_paths(alloc, &question, source, &paths, output);
+    answer_of(outcome, |fault| CheckFault::of_attributes(alloc, fault))?;
     Ok(ANSWERED)
-}
-
-/// Answers the paths that are read.
-fn answer_input<R: Files + Eprint, I: Read, O: Write>(
-    alloc: Global,
-    question: &AttributeQuestion<'_>,
-    source: AttributeFiles<'_, R>,
-    input: &mut Watched<I>,
-    output: &mut Watched<O>,
-) -> Result<()>
-    requires readable { has_failed input.old ≡ false }
-    requires writable { has_failed output.old ≡ false }
-    ensures { OnOk result (ReadsStates question.now (I.remaining (inner input.old)) (I.remaining (inner input.new)) (O.contents (inner output.old)) (O.contents (inner output.new))) }
-{
-    let outcome = run_check_attr(alloc, question, source, input, output);
-    outcome.map_err(|fault| told_fault(alloc, fault))
-}
-
-/// Answers these paths.
-fn answer_paths<R: Files + Eprint, O: Write>(
-    alloc: Global,
-    question: &AttributeQuestion<'_>,
-    source: AttributeFiles<'_, R>,
-    paths: &[&[u8]],
-    output: &mut Watched<O>,
-) -> Result<()>
-    requires { has_failed output.old ≡ false }
-    ensures { OnOk result (TellsStates question.now (map (λ (path : Bor (List ℕ)). path.now) paths.now) (O.contents (inner output.old)) (O.contents (inner output.new))) }
-{
-    let outcome = check_attr_paths(alloc, question, source, paths, output);
-    outcome.map_err(|fault| told_fault(alloc, fault))
-}
-
-/// A fault as it is told.
-fn told_fault(alloc: Global, fault: RecordFault<AttributeFault<CheckFault>>) -> anyhow::Error {
-    match fault {
-        RecordFault::Answer(fault) => CheckFault::of_attributes(alloc, fault).into(),
-        fault => fault.into(),
-    }
 }
 
 /// What is asked of each path, by the options and the flags.

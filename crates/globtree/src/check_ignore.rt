@@ -1,33 +1,28 @@
 //! The command `check-ignore`.
-ghost use Rattle.std.specs.Prelude.{◌≡◌, ℕ, List, IfOk, None, false, if◌then◌else◌, map, string_bytes};
+ghost use Rattle.std.specs.Prelude.{◌≡◌, ℕ, List, IfOk, false, if◌then◌else◌, map, string_bytes};
 ghost use Rattle.std.specs.Borrow.{Bor};
 ghost use Rattle.gix_glob.specs.Watched.{has_failed, inner};
-ghost use Rattle.tree_commands.specs.CheckIgnore.{question_of};
-ghost use Rattle.globtree.specs.Answers.{AnswersIgnore, ReadsIgnore, TellsIgnore};
+ghost use Rattle.globtree.specs.Answers.{AnswersIgnore};
 ghost use Rattle.globtree.specs.Running.{IsAnswered, asked_by_flags};
 
 use crate::fronts::{Fronts, case_of, fronts_of, tree_behind};
 use crate::index_use::IndexUse;
+use crate::outcomes::{answer_of, status_by};
 use crate::pathspec_settings::{refuse_settings, refuse_settings_for};
-use crate::running::ANSWERED;
 use anyhow::{Context, Result, bail};
 use gix_glob::search::Watched;
-use record_streams::RecordFault;
 use std::alloc::{AllocError, Global};
 use std::io::{Read, Write};
 use std::rt::{Env, Files};
-use told_paths::{Quoting, Standpoint};
+use told_paths::Quoting;
 use tracked_paths::TrackedPaths;
 use tree_answers::Form;
 use tree_commands::check_ignore::{
-    IgnoreFault, IgnoreFlags, IgnoreSources, check_ignore_paths, run_check_ignore,
+    IgnoreFlags, IgnoreSources, check_ignore_paths, run_check_ignore,
 };
-use tree_files::{CheckFault, FileKinds, FolderFiles};
+use tree_files::{CheckFault, FileKinds};
 use tree_words::check_ignore::CheckIgnoreFlags;
 use tree_words::{Options, operands_of};
-
-/// What the command ends with where no line decided about a path.
-const NONE_IGNORED: u8 = 1;
 
 /// Tells which paths are ignored.
 pub(crate) fn check_ignore<R: Files + Env + Eprint + AllocGlobal, I: Read, O: Write>(
@@ -60,74 +55,24 @@ pub(crate) fn check_ignore<R: Files + Env + Eprint + AllocGlobal, I: Read, O: Wr
     } = fronts;
     let case = case_of(options, folds);
     let tree = tree_behind(rt, alloc, lists, &indexed, case)?;
-    let kinds = FileKinds::new(rt, alloc);
     let tracked = TrackedPaths::new(tracked);
     let sources = IgnoreSources {
         tree,
-        kinds,
+        kinds: FileKinds::new(rt, alloc),
         tracked,
     };
     let asked = asked_by_flags(flags, quoting);
     if flags.stdin {
         refuse_settings_for(rt, alloc, input)?;
-        let is_any = answer_input(alloc, &standpoint, asked, sources, input, output)?;
-        return Ok(status_of(is_any));
+        let (_sources, told) = run_check_ignore(alloc, &standpoint, asked, sources, input, output);
+        let is_any = answer_of(told, |fault| CheckFault::of_ignore(alloc, fault))?;
+        return Ok(status_by(is_any));
     }
     refuse_settings(rt, alloc)?;
     let paths = bytes_of(alloc, &paths)?;
-    let is_any = answer_paths(alloc, &standpoint, asked, sources, &paths, output)?;
-    Ok(status_of(is_any))
-}
-
-/// What the command ends with, where a line decided about a path, or none did.
-fn status_of(is_any: bool) -> u8
-    ensures { result ≡ (if is_any then 0 else 1) }
-{
-    if is_any { ANSWERED } else { NONE_IGNORED }
-}
-
-/// Answers the paths that are read, and says whether a line decides about one.
-fn answer_input<R: Files + Eprint, I: Read, O: Write>(
-    alloc: Global,
-    standpoint: &Standpoint,
-    asked: IgnoreFlags,
-    sources: IgnoreSources<FolderFiles<'_, R>, FileKinds<'_, R>>,
-    input: &mut Watched<I>,
-    output: &mut Watched<O>,
-) -> Result<bool>
-    requires readable { has_failed input.old ≡ false }
-    requires writable { has_failed output.old ≡ false }
-    ensures { IfOk result (λ is_any. ReadsIgnore (question_of standpoint.now asked sources.entry.tracked sources.entry.tree (λ _. None)) is_any (I.remaining (inner input.old)) (I.remaining (inner input.new)) (O.contents (inner output.old)) (O.contents (inner output.new))) }
-{
-    let (_sources, outcome) = run_check_ignore(alloc, standpoint, asked, sources, input, output);
-    outcome.map_err(|fault| told_fault(alloc, fault))
-}
-
-/// Answers these paths, and says whether a line decides about one.
-fn answer_paths<R: Files + Eprint, O: Write>(
-    alloc: Global,
-    standpoint: &Standpoint,
-    asked: IgnoreFlags,
-    sources: IgnoreSources<FolderFiles<'_, R>, FileKinds<'_, R>>,
-    paths: &[&[u8]],
-    output: &mut Watched<O>,
-) -> Result<bool>
-    requires { has_failed output.old ≡ false }
-    ensures { IfOk result (λ is_any. TellsIgnore (question_of standpoint.now asked sources.entry.tracked sources.entry.tree (λ _. None)) (map (λ (path : Bor (List ℕ)). path.now) paths.now) is_any (O.contents (inner output.old)) (O.contents (inner output.new))) }
-{
-    let (_sources, outcome) = check_ignore_paths(alloc, standpoint, asked, sources, paths, output);
-    outcome.map_err(|fault| told_fault(alloc, fault))
-}
-
-/// A fault as it is told.
-pub(crate) fn told_fault(
-    alloc: Global,
-    fault: RecordFault<IgnoreFault<CheckFault>>,
-) -> anyhow::Error {
-    match fault {
-        RecordFault::Answer(fault) => CheckFault::of_ignore(alloc, fault).into(),
-        fault => fault.into(),
-    }
+    let (_sources, told) = check_ignore_paths(alloc, &standpoint, asked, sources, &paths, output);
+    let is_any = answer_of(told, |fault| CheckFault::of_ignore(alloc, fault))?;
+    Ok(status_by(is_any))
 }
 
 /// What is taken from the index: which paths are tracked, unless that is not to count.

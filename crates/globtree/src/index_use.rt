@@ -1,6 +1,9 @@
 //! What a command takes from the index.
-ghost use Rattle.std.specs.Prelude.{◌≡◌, ◌≢◌, [], IfOk};
-ghost use Rattle.globtree.specs.Tracked.{IsOfIndex};
+ghost use Rattle.std.specs.Prelude.{◌≡◌, ◌≢◌, ◌↔◌, ℕ, List, [], IfOk, IsTrue, Some, map};
+ghost use Rattle.std.specs.Option.{option_copied};
+ghost use Rattle.git_index.specs.Entries.{tracked};
+ghost use Rattle.tree_files.specs.Indexed.{is_indexed};
+ghost use Rattle.globtree.specs.Tracked.{GivesFolder, IsFileIn, IsGiven, IsOfIndex};
 
 use crate::tracked::IndexFile;
 use anyhow::Result;
@@ -20,6 +23,24 @@ pub(crate) enum IndexUse {
     Patterns,
     /// Nothing but where it has attribute files that the work tree hasn't.
     Attributes,
+}
+
+impl IndexUse {
+    /// The folder of an entry's file, where a command asks for it: of an ignore file that may be missing in the work tree; of any attribute
+    /// file, in a merge of our side's.
+    fn folder_of(self, entry: &Entry) -> Option<&[u8]>
+        ensures { (folder : List ℕ) → (option_copied result ≡ Some folder) ↔ GivesFolder self (tracked entry.now) folder }
+    {
+        match self {
+            IndexUse::Attributes if entry.stage == 0 || entry.stage == 2 => {
+                folder_of_file(&entry.path, b".gitattributes")
+            }
+            IndexUse::Paths | IndexUse::Patterns if entry.skip_worktree && entry.stage == 0 => {
+                folder_of_file(&entry.path, b".gitignore")
+            }
+            _ => None,
+        }
+    }
 }
 
 /// What was taken from an index.
@@ -52,10 +73,7 @@ pub(crate) fn take_from_index<R: Files>(
         return Ok(nothing);
     }
     let tracked = file.read(rt, alloc)?;
-    let indexed = match index {
-        IndexUse::Attributes => attribute_folders(alloc, tracked.entries())?,
-        _ => ignore_folders(alloc, tracked.entries())?,
-    };
+    let indexed = folders_in(alloc, tracked.entries(), index)?;
     if index == IndexUse::Paths {
         return Ok(Taken { tracked, indexed });
     }
@@ -65,38 +83,28 @@ pub(crate) fn take_from_index<R: Files>(
     })
 }
 
-/// The folders whose ignore file Git takes from the index where the work tree hasn't it: those of an entry that says so.
-fn ignore_folders(alloc: Global, entries: &[Entry]) -> Result<IndexedFiles, AllocError> {
+/// The folders whose file of patterns Git takes from the index where the work tree hasn't it.
+fn folders_in(alloc: Global, entries: &[Entry], index: IndexUse) -> Result<IndexedFiles, AllocError>
+    ensures { IfOk result (λ indexed. (folder : List ℕ) → IsTrue (is_indexed indexed folder) ↔ IsGiven index (map tracked entries.now) folder) }
+{
     let mut indexed = IndexedFiles::none(alloc);
     'entries: for entry in entries {
-        if entry.skip_worktree && entry.stage == 0 {
-            add_folder(&mut indexed, &entry.path, b".gitignore")?;
+        if let Some(folder) = index.folder_of(entry) {
+            indexed.add(folder)?;
         }
     }
     Ok(indexed)
 }
 
-/// The folders whose attribute file Git takes from the index where the work tree hasn't it: those of each, in a merge of our side's.
-fn attribute_folders(alloc: Global, entries: &[Entry]) -> Result<IndexedFiles, AllocError> {
-    let mut indexed = IndexedFiles::none(alloc);
-    'entries: for entry in entries {
-        if entry.stage == 0 || entry.stage == 2 {
-            add_folder(&mut indexed, &entry.path, b".gitattributes")?;
-        }
-    }
-    Ok(indexed)
-}
-
-/// Adds the folder of a file, if it has this name.
-fn add_folder(indexed: &mut IndexedFiles, path: &[u8], name: &[u8]) -> Result<(), AllocError> {
+/// The folder of a file of this name.
+fn folder_of_file<'a>(path: &'a [u8], name: &[u8]) -> Option<&'a [u8]>
+    ensures { (folder : List ℕ) → (option_copied result ≡ Some folder) ↔ IsFileIn folder name.now path.entry.now }
+{
     let Some(front) = path.strip_suffix(name) else {
-        return Ok(());
+        return None;
     };
     if front.is_empty() {
-        return indexed.add(front);
+        return Some(front);
     }
-    match front.strip_suffix(b"/") {
-        Some(folder) => indexed.add(folder),
-        None => Ok(()),
-    }
+    front.strip_suffix(b"/")
 }

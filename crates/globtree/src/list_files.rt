@@ -1,18 +1,18 @@
 //! The command `files`.
-ghost use Rattle.std.specs.Prelude.{◌≡◌, ◌||◌, IfOk, MatchBool, OnOk, length, map};
+ghost use Rattle.std.specs.Prelude.{◌≡◌, ◌||◌, if◌then◌else◌, IfOk, MatchBool, OnOk, length, map};
 ghost use Rattle.gix_glob.specs.EntryLists.{entry_list_of};
 ghost use Rattle.gix_glob.specs.Watched.{inner};
 ghost use Rattle.glob_lists.specs.Rules.{by_git};
 ghost use Rattle.tree_commands.specs.declared.files.mark.Mark.TheVariants as marks;
 ghost use Rattle.globtree.specs.Answers.{AnswersFiles, AreFronts, ListsFound, ListsIgnored, ListsTracked, case_by};
 ghost use Rattle.tree_words.specs.Files.{are_usual, lists_tracked};
-ghost use Rattle.globtree.specs.Running.{IsAnswered, chosen_by, folders_by, form_by};
+ghost use Rattle.globtree.specs.Running.{IsAnswered, chosen_by, folders_by, form_by, tells_folders_twice};
 
 use crate::fronts::{Fronts, case_of, fronts_of, tree_behind};
 use crate::index_use::IndexUse;
 use crate::list_tracked::{list_tracked, list_tracked_ignored};
 use crate::listing::{copies_of, run_listing};
-use crate::running::ANSWERED;
+use crate::outcomes::ANSWERED;
 use anyhow::{Result, bail};
 use gix_glob::search::Watched;
 use std::alloc::{AllocError, Global};
@@ -71,12 +71,16 @@ fn counts_patterns(flags: FilesFlags) -> bool
 }
 
 /// Whether folders are to be told by their names and gone into, as no listing knows it.
-fn tells_folders_twice(flags: FilesFlags) -> bool {
+fn tells_folders_twice(flags: FilesFlags) -> bool
+    ensures { result ≡ tells_folders_twice flags }
+{
     flags.others && flags.directory && flags.ignored && !flags.no_empty_directory
 }
 
 /// What is taken from the index: which paths are tracked, unless all files are listed.
-fn index_by(flags: FilesFlags) -> IndexUse {
+fn index_by(flags: FilesFlags) -> IndexUse
+    ensures { result ≡ (if are_usual flags then IndexUse.Patterns else IndexUse.Paths) }
+{
     if flags.are_usual() {
         IndexUse::Patterns
     } else {

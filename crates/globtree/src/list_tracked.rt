@@ -6,7 +6,7 @@ ghost use Rattle.gix_glob.specs.Watched.{has_failed, inner};
 ghost use Rattle.tree_commands.specs.TrackedFiles.{paths_asked};
 ghost use Rattle.globtree.specs.Answers.{AreFronts, ListsIgnored, ListsTracked};
 
-use crate::check_ignore::told_fault;
+use crate::outcomes::answer_of;
 use anyhow::Result;
 use git_index::Index;
 use gix_glob::search::Watched;
@@ -34,7 +34,7 @@ pub(crate) fn list_tracked<O: Write>(
 {
     let paths = asked_paths(alloc, standpoint, tracked, folder)?;
     let told = write_paths(alloc, standpoint, form, &paths, output);
-    told.map_err(|fault| told_fault(alloc, fault))
+    answer_of(told, |fault| CheckFault::of_ignore(alloc, fault))
 }
 
 /// Lists those of them that are ignored, by the patterns of a tree.
@@ -55,7 +55,7 @@ pub(crate) fn list_tracked_ignored<R: Files + Eprint, O: Write>(
     let paths = asked_paths(alloc, standpoint, tracked, folder)?;
     let kinds = FileKinds::of_tracked(rt, alloc);
     let (_sources, told) = write_ignored(alloc, standpoint, form, tree, kinds, &paths, output);
-    told.map_err(|fault| told_fault(alloc, fault))
+    answer_of(told, |fault| CheckFault::of_ignore(alloc, fault))
 }
 
 /// The tracked paths at or below a folder.

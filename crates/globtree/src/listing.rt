@@ -1,12 +1,12 @@
 //! A listing of the files that are found, as it is run for a command.
-ghost use Rattle.std.specs.Prelude.{IfOk};
+ghost use Rattle.std.specs.Prelude.{◌≡◌, IfOk, length};
+ghost use Rattle.std.specs.List.{AllZip};
 ghost use Rattle.gix_glob.specs.Watched.{inner};
 ghost use Rattle.globtree.specs.Answers.{ListsFound};
 ghost use Rattle.globtree.specs.Running.{IsAnswered};
 
 use crate::fronts::Fronts;
-use crate::progress::{CountedFiles, Progress};
-use crate::running::ANSWERED;
+use crate::outcomes::ANSWERED;
 use anyhow::{Context, Result};
 use gix_glob::search::Watched;
 use glob_lines::IgnoreLines;
@@ -37,15 +37,22 @@ pub(crate) fn run_listing<R: Files + Env + Clock + Eprint + AllocGlobal + Clone 
     ensures found { IfOk result (λ _. ListsFound listing.mark listing.standpoint listing.form (O.contents (inner output.old)) (O.contents (inner output.new))) }
 {
     let nested = nested_repositories(rt, alloc, fronts)?;
-    let files = TreeFiles::new(rt, alloc, &fronts.indexed, nested)?;
-    let mut source = CountedFiles::new(files, Progress::new(rt, shows_progress));
+    let mut source = TreeFiles::new(rt, alloc, &fronts.indexed, nested, shows_progress)?;
     let told = folder.as_bytes();
     match run_files(alloc, listing, &fronts.tracked, &mut source, told, output) {
         Ok(()) if source.end() => Ok(NOT_ALL_LISTED),
         Ok(()) => Ok(ANSWERED),
         Err(FilesFault::Write(error)) => Err(error).context("writing"),
         Err(FilesFault::Endless) => None.context("a tree without an end"),
-        Err(fault) => Err(fault_of(alloc, told, fault).into()),
+        Err(FilesFault::Source(fault)) => Err(fault.into()),
+        Err(FilesFault::Outside) => Err(CheckFault::of_lead(
+            alloc,
+            told,
+            LeadFault::Outside,
+        ).into()),
+        Err(FilesFault::Empty) => Err(CheckFault::Empty.into()),
+        Err(FilesFault::Base) => Err(CheckFault::Base.into()),
+        Err(FilesFault::Memory) => Err(CheckFault::Memory.into()),
     }
 }
 
@@ -64,23 +71,13 @@ fn nested_repositories<'a, R: Files + Env>(
     Ok(NestedRepositories::new(alloc, files, variables, own)?)
 }
 
-/// Another fault as a path got no answer for it.
-fn fault_of(alloc: Global, told: &[u8], fault: FilesFault<CheckFault>) -> CheckFault {
-    match fault {
-        FilesFault::Source(fault) => fault,
-        FilesFault::Empty => CheckFault::Empty,
-        FilesFault::Outside => CheckFault::of_lead(alloc, told, LeadFault::Outside),
-        FilesFault::Base => CheckFault::Base,
-        // the last two are told otherwise
-        FilesFault::Memory | FilesFault::Endless | FilesFault::Write(_) => CheckFault::Memory,
-    }
-}
-
-/// The same lists once more.
+/// The same lists once more, each with as many patterns.
 pub(crate) fn copies_of(
     alloc: Global,
     lists: &[PreparedList<IgnoreLines>],
-) -> Result<Vec<PreparedList<IgnoreLines>>, AllocError> {
+) -> Result<Vec<PreparedList<IgnoreLines>>, AllocError>
+    ensures { IfOk result (λ copies. AllZip (λ list copy. length copy.patterns.items ≡ length list.patterns.items) lists.now copies.items) }
+{
     let mut copies = Vec::with_capacity(alloc, lists.len())?;
     'lists: for list in lists {
         copies.push(PreparedList::new(alloc, list.list().clone()?))?;

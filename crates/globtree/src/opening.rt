@@ -1,14 +1,16 @@
 //! Opening the repository of the current folder, as Git does.
-ghost use Rattle.std.specs.Prelude.{◌≡◌};
+ghost use Rattle.std.specs.Prelude.{◌≡◌, IfOk, IsErr, MatchResult, Ok, false, option_map};
 ghost use Rattle.std.specs.Option.{option_copied, option_or};
+ghost use Rattle.std.specs.Vec.{vec_items};
 ghost use Rattle.git_repository.specs.Environments.{environment_with};
+ghost use Rattle.repository_files.specs.Variables.{environment_of};
 ghost use Rattle.globtree.specs.Places.{denies, denies_work_tree, with_options};
 
 use crate::check_ignore::bytes_of;
 use crate::moving::current_folder;
 use crate::places::from_root;
 use anyhow::{Context, Result, bail};
-use git_config::{Config, boolean};
+use git_config::{Config, Surroundings, boolean};
 use git_repository::Environment;
 use opened_repository::{OpenFault, Opened, Told, config_place, open, read_config};
 use repository_files::{
@@ -20,6 +22,40 @@ use std::rt::{Env, Files};
 use tree_files::path_text;
 use tree_words::{Options, values_of};
 
+/// What the environment says before a repository is looked for.
+#[derive(Drop)]
+struct Asked {
+    variables: RepositoryVariables,
+    configuration: ConfigurationVariables,
+    around: Surroundings,
+}
+
+impl Asked {
+    /// Asks the environment, and the files for users.
+    fn read<R: Files + Env>(rt: &R, alloc: Global, files: &DiskFiles<'_, R>) -> Result<Asked> {
+        let variables = RepositoryVariables::read(rt, alloc)?;
+        let configuration = ConfigurationVariables::read(rt, alloc)?;
+        let around = configuration.surroundings(alloc, files)?;
+        Ok(Asked {
+            variables,
+            configuration,
+            around,
+        })
+    }
+
+    /// What the variables and options say of a repository: an option stands for its variable. Nothing else may say that there is no work tree.
+    fn environment<'t>(&'t self, options: Options<'t>) -> Result<Environment<&'t [u8]>>
+        ensures by_options { IfOk result (λ told. environment_with (λ b. b.now) told ≡ with_options options.entry (environment_of self.now.variables)) }
+        ensures taken { IfOk result (λ told. denies_work_tree (environment_with (λ b. b.now) told) (option_map vec_items self.now.variables.implicit_work_tree) ≡ false) }
+    {
+        let environment = with_options(self.variables.environment(), options);
+        if denies_work_tree(&environment, self.variables.implicit_work_tree.as_deref()) {
+            bail!("the variable GIT_IMPLICIT_WORK_TREE isn't read");
+        }
+        Ok(environment)
+    }
+}
+
 /// Opens the repository of the current folder, whose path this is, by the variables of the environment and the words.
 pub(crate) fn open_here<R: Files + Env>(
     rt: &R,
@@ -28,23 +64,21 @@ pub(crate) fn open_here<R: Files + Env>(
     current: &[u8],
 ) -> Result<Opened<Vec<u8>, Config>> {
     let files = DiskFiles::new(rt, alloc, User::of_process(rt, alloc)?);
-    let variables = RepositoryVariables::read(rt, alloc)?;
-    let configuration = ConfigurationVariables::read(rt, alloc)?;
-    let pairs = configuration.pairs(alloc)?;
+    let asked = Asked::read(rt, alloc, &files)?;
+    let pairs = asked.configuration.pairs(alloc)?;
     let words = bytes_of(alloc, &values_of(alloc, options.words, "-c")?)?;
-    let around = configuration.surroundings(alloc, &files)?;
-    let environment = asked_environment(&variables, options)?;
+    let environment = asked.environment(options)?;
     let told = Told {
         current,
-        pwd: variables.pwd.as_deref(),
+        pwd: asked.variables.pwd.as_deref(),
         environment,
-        places: configuration.places(),
+        places: asked.configuration.places(),
         pairs: &pairs,
         words: &words,
-        around: &around,
+        around: &asked.around,
         needs_work_tree: true,
     };
-    told_fault(open(alloc, &files, &told))
+    with_fault_told(open(alloc, &files, &told))
 }
 
 /// Reads the configuration that counts in the current folder. Where this lies below the top of the work tree, it goes there first, as
@@ -56,48 +90,36 @@ pub(crate) fn config_here<R: Files + Env + AllocGlobal>(
 ) -> Result<Config> {
     let current = from_root(alloc, &current_folder(rt, alloc)?)?;
     let files = DiskFiles::new(rt, alloc, User::of_process(rt, alloc)?);
-    let variables = RepositoryVariables::read(rt, alloc)?;
-    let configuration = ConfigurationVariables::read(rt, alloc)?;
-    let pairs = configuration.pairs(alloc)?;
+    let asked = Asked::read(rt, alloc, &files)?;
+    let pairs = asked.configuration.pairs(alloc)?;
     let words = bytes_of(alloc, &values_of(alloc, options.words, "-c")?)?;
-    let around = configuration.surroundings(alloc, &files)?;
-    let environment = asked_environment(&variables, options)?;
+    let environment = asked.environment(options)?;
     let told = Told {
         current: &current,
-        pwd: variables.pwd.as_deref(),
+        pwd: asked.variables.pwd.as_deref(),
         environment,
-        places: configuration.places(),
+        places: asked.configuration.places(),
         pairs: &pairs,
         words: &words,
-        around: &around,
+        around: &asked.around,
         needs_work_tree: false,
     };
-    let place = told_fault(config_place(alloc, &files, &told))?;
+    let place = with_fault_told(config_place(alloc, &files, &told))?;
     if let Some(top) = &place.top {
         let top = path_text(alloc, top)?;
         env::set_current_dir(rt, top.as_str()).context("the top of the work tree")?;
     }
-    told_fault(read_config(alloc, &files, &told, &place))
+    with_fault_told(read_config(alloc, &files, &told, &place))
 }
 
 /// What an opening answers, with its fault as it is told.
-fn told_fault<T: Drop>(answer: std::result::Result<T, OpenFault<ConfigFileFault>>) -> Result<T> {
+fn with_fault_told<T: Drop>(answer: std::result::Result<T, OpenFault<ConfigFileFault>>) -> Result<T>
+    ensures { MatchResult result (λ found. answer ≡ Ok found) (λ _. IsErr answer) }
+{
     match answer {
         Ok(found) => Ok(found),
         Err(fault) => bail!("{fault}"),
     }
-}
-
-/// What the variables and options say of a repository, if nothing else says that there is no work tree.
-fn asked_environment<'a>(
-    variables: &'a RepositoryVariables,
-    options: Options<'a>,
-) -> Result<Environment<&'a [u8]>> {
-    let environment = with_options(variables.environment(), options);
-    if denies_work_tree(&environment, variables.implicit_work_tree.as_deref()) {
-        bail!("the variable GIT_IMPLICIT_WORK_TREE isn't read");
-    }
-    Ok(environment)
 }
 
 /// Whether a git folder is told and no work tree, and this value of `GIT_IMPLICIT_WORK_TREE` isn't true.

@@ -1,4 +1,5 @@
 //! The attribute files that don't depend on a path: the system's, the user's, the top's and the repository's own.
+ghost use Rattle.std.specs.Prelude.{◌≡◌, [], IfOk, None};
 
 use crate::index_use::{IndexUse, Taken, take_from_index};
 use crate::moving::go_to_folders;
@@ -27,7 +28,10 @@ pub(crate) struct OuterAttributes {
 
 impl OuterAttributes {
     /// The files.
-    pub(crate) fn files(&self) -> OuterFiles<'_> {
+    pub(crate) fn files(&self) -> OuterFiles<'_>
+        ensures outer { (result.system.now ≡ self.now.system.items) × (result.user.now ≡ self.now.user.items) }
+        ensures own { (result.top.now ≡ self.now.top.items) × (result.info.now ≡ self.now.info.items) }
+    {
         OuterFiles {
             system: &self.system,
             user: &self.user,
@@ -47,8 +51,8 @@ pub(crate) fn outer_attributes<R: Files + Env + Eprint + AllocGlobal>(
     go_to_folders(rt, alloc, options)?;
     let none = IndexedFiles::none(alloc);
     let reader = AttributeFiles::new(rt, alloc, &none);
-    let system = named_file(alloc, &reader, options.system)?;
-    let named = named_file(alloc, &reader, options.attributes)?;
+    let system = bytes_of_file(alloc, &reader, options.system.map(str::as_bytes))?;
+    let named = bytes_of_file(alloc, &reader, options.attributes.map(str::as_bytes))?;
     let tree = work_tree(rt, alloc, options)?;
     let Taken { indexed, .. } = take_from_index(rt, alloc, &tree.index, IndexUse::Attributes)?;
     let WorkTree {
@@ -59,9 +63,9 @@ pub(crate) fn outer_attributes<R: Files + Env + Eprint + AllocGlobal>(
         own_attributes,
         ..
     } = tree;
-    let user = match named {
-        Some(bytes) => bytes,
-        None => usual_file(alloc, &reader, attributes)?,
+    let user = match options.attributes {
+        Some(_name) => named,
+        None => bytes_of_file(alloc, &reader, attributes.as_deref())?,
     };
     let top = AttributeFiles::new(rt, alloc, &indexed).top()?;
     let info = reader.file(own_attributes)?;
@@ -69,7 +73,7 @@ pub(crate) fn outer_attributes<R: Files + Env + Eprint + AllocGlobal>(
         standpoint,
         folds,
         quoting,
-        system: system.unwrap_or(Vec::new(alloc)),
+        system,
         user,
         top,
         info,
@@ -77,26 +81,16 @@ pub(crate) fn outer_attributes<R: Files + Env + Eprint + AllocGlobal>(
     Ok((outer, indexed))
 }
 
-/// The bytes of a file that is named.
-fn named_file<R: Files + Eprint>(
+/// The bytes of a file, where one is told; none where there is no such file.
+fn bytes_of_file<R: Files + Eprint>(
     alloc: Global,
     reader: &AttributeFiles<'_, R>,
-    file: Option<&str>,
-) -> Result<Option<Vec<u8>>> {
+    file: Option<&[u8]>,
+) -> Result<Vec<u8>>
+    ensures { IfOk result (λ bytes. file.entry ≡ None → bytes.items ≡ []) }
+{
     match file {
-        Some(file) => Ok(Some(reader.file(String::from_str(alloc, file)?)?)),
-        None => Ok(None),
-    }
-}
-
-/// The bytes of the file for all repositories; none where there is no such file.
-fn usual_file<R: Files + Eprint>(
-    alloc: Global,
-    reader: &AttributeFiles<'_, R>,
-    file: Option<Vec<u8>>,
-) -> Result<Vec<u8>> {
-    match file {
-        Some(file) => Ok(reader.file(path_text(alloc, &file)?)?),
+        Some(file) => Ok(reader.file(path_text(alloc, file)?)?),
         None => Ok(Vec::new(alloc)),
     }
 }

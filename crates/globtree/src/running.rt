@@ -9,6 +9,7 @@ ghost use Rattle.globtree.specs.Running.{IsAnswered, IsRefused, IsStatus};
 use crate::check_attr::check_attr;
 use crate::check_ignore::check_ignore;
 use crate::list_files::list_files;
+use crate::outcomes::ANSWERED;
 use crate::show_config::show_config;
 use crate::show_status::show_status;
 use crate::wrong_words::{tell_no_text, tell_word_fault};
@@ -18,14 +19,10 @@ use std::alloc::Global;
 use std::io::{ErrorKind, Read, Write};
 use std::rt::{Clock, Env, Files};
 use tree_files::tell_line;
-use tree_words::{Command, Options, WordFault, asked_by, help_of};
+use tree_words::{Command, Options, asked_by, help_of};
 
-/// What the program ends with.
-pub(crate) const ANSWERED: u8 = 0;
-
+/// What the program ends with after a fault.
 const FAULT: u8 = 128;
-
-pub(crate) const WRONG_WORDS: u8 = 129;
 
 const VERSION: &str = "globtree 0.1.0\n";
 
@@ -50,7 +47,7 @@ pub fn run_words<R: Files + Env + Clock + Eprint + AllocGlobal + Clone + Drop, I
 {
     let (options, command) = match asked_by(words) {
         Ok(asked) => asked,
-        Err(fault) => return tell_wrong_words(rt, alloc, fault),
+        Err(fault) => return tell_word_fault(rt, alloc, fault),
     };
     match answer_command(rt, alloc, options, command, shows_progress, input, output) {
         Ok(status) => status,
@@ -103,7 +100,7 @@ pub(crate) fn without_words<R: Eprint>(rt: &R, refused: ErrorKind) -> u8
 {
     match refused {
         ErrorKind::OutOfMemory => tell_want_of_memory(rt),
-        _ => tell_bad_text(rt),
+        _ => tell_no_text(rt),
     }
 }
 
@@ -121,24 +118,8 @@ fn tell_fault<R: Eprint>(rt: &R, alloc: Global, fault: anyhow::Error) -> u8
 fn tell_want_of_memory<R: Eprint>(rt: &R) -> u8
     ensures { result ≡ 128 }
 {
-    tell_no_memory(rt);
+    let _ = eprintln!(rt; "fatal: no memory");
     FAULT
-}
-
-/// Tells what is wrong with the words.
-fn tell_wrong_words<R: Eprint>(rt: &R, alloc: Global, fault: WordFault<'_>) -> u8
-    ensures { result ≡ 129 }
-{
-    tell_word_fault(rt, alloc, fault);
-    WRONG_WORDS
-}
-
-/// Tells that a word is no text.
-fn tell_bad_text<R: Eprint>(rt: &R) -> u8
-    ensures { result ≡ 129 }
-{
-    tell_no_text(rt);
-    WRONG_WORDS
 }
 
 /// Writes a text.
@@ -149,9 +130,4 @@ fn write_text<O: Write>(output: &mut Watched<O>, text: &str) -> Result<u8>
     output.write_all(text.as_bytes()).context("writing")?;
     output.flush().context("writing")?;
     Ok(ANSWERED)
-}
-
-/// Tells that memory was refused.
-fn tell_no_memory<R: Eprint>(rt: &R) {
-    let _ = eprintln!(rt; "fatal: no memory");
 }

@@ -10,7 +10,7 @@ ghost use Rattle.globtree.specs.Running.{IsAnswered, IsRefused, manner_by};
 
 use crate::moving::go_to_folders;
 use crate::opening::config_here;
-use crate::running::{ANSWERED, WRONG_WORDS};
+use crate::outcomes::status_by;
 use crate::wrong_words::tell_misuse;
 use anyhow::{Context, Result, bail};
 use config_answers::{Manner, Question, append_answer, key_fault};
@@ -22,9 +22,6 @@ use std::rt::{Env, Files};
 use tree_files::tell_line;
 use tree_words::config::ConfigFlags;
 use tree_words::{CommandName, Options, operands_of};
-
-/// What the command ends with where a key has no value, or is none.
-const NO_VALUE: u8 = 1;
 
 /// Shows what the configuration says, by the words behind `config`.
 pub(crate) fn show_config<R: Files + Env + Eprint + AllocGlobal, O: Write>(
@@ -41,8 +38,7 @@ pub(crate) fn show_config<R: Files + Env + Eprint + AllocGlobal, O: Write>(
 {
     let operands = operands_of(alloc, words).context("the words")?;
     if let Some(wrong) = flags.disagreement(operands.words.len()) {
-        tell_misuse(rt, CommandName::Config, wrong);
-        return Ok(WRONG_WORDS);
+        return Ok(tell_misuse(rt, CommandName::Config, wrong));
     }
     if options.top.is_some() {
         bail!("with --top no configuration is read");
@@ -83,7 +79,7 @@ fn show_key<R: Eprint, O: Write>(
     let Some(key) = canonical_key(alloc, word.as_bytes())? else {
         let fault = key_fault(word.as_bytes());
         tell_line(rt, alloc, format_args!("error: {fault}: {word}"))?;
-        return Ok(NO_VALUE);
+        return Ok(status_by(false));
     };
     write_answer(
         alloc,
@@ -130,12 +126,5 @@ fn write_answer<O: Write>(
     let has = append_answer(alloc, &mut text, config, question, manner)?;
     output.write_all(&text).context("writing")?;
     output.flush().context("writing")?;
-    Ok(status_of(has))
-}
-
-/// What the command ends with, by whether there is an answer.
-fn status_of(has: bool) -> u8
-    ensures { result ≡ (if has then 0 else 1) }
-{
-    if has { ANSWERED } else { NO_VALUE }
+    Ok(status_by(has))
 }

@@ -3,12 +3,12 @@ ghost use Rattle.std.specs.Prelude.{◌≡◌, [], IfOk, map, string_bytes};
 ghost use Rattle.gix_glob.specs.Watched.{inner};
 ghost use Rattle.tree_words.specs.Operands.{operands_among};
 ghost use Rattle.globtree.specs.Answers.{AnswersStatus, IsAtTop};
-ghost use Rattle.globtree.specs.Running.{IsAnswered, form_by};
+ghost use Rattle.globtree.specs.Running.{IsAnswered, form_by, ignored_folders, named_if_normal, status_folders};
 
 use crate::fronts::{Fronts, case_of, fronts_of};
 use crate::index_use::IndexUse;
 use crate::listing::{copies_of, run_listing};
-use crate::running::ANSWERED;
+use crate::outcomes::ANSWERED;
 use anyhow::{Context, Result, bail};
 use gix_glob::search::Watched;
 use std::alloc::Global;
@@ -40,8 +40,8 @@ pub(crate) fn show_status<R: Files + Env + Clock + Eprint + AllocGlobal + Clone 
     if let Some(message) = flags.disagreement(operands.len()) {
         bail!("{message}");
     }
-    if let Some(message) = unknown(flags) {
-        bail!("{message}");
+    if matches!(flags.untracked, UntrackedFiles::Unsaid) {
+        bail!("status.showUntrackedFiles isn't read: give -unormal, -uall or -uno");
     }
     let fronts = fronts_of(rt, alloc, options, IndexUse::Paths)?;
     if !flags.tells_untracked() {
@@ -55,16 +55,6 @@ pub(crate) fn show_status<R: Files + Env + Clock + Eprint + AllocGlobal + Clone 
     // what can't be read for those that aren't ignored can't be for these, which lie in more folders
     let listing = listing_of(alloc, options, flags, &fronts, Mark::Ignored)?;
     run_listing(rt, alloc, listing, &fronts, ".", shows_progress, output)
-}
-
-/// What isn't known of these; `None` where all is.
-fn unknown(flags: StatusFlags) -> Option<&'static str> {
-    match (flags.untracked, flags.ignored) {
-        (UntrackedFiles::Unsaid, _) => {
-            Some("status.showUntrackedFiles isn't read: give -unormal, -uall or -uno")
-        }
-        _ => None,
-    }
 }
 
 /// What is asked of a listing from the top of the files that this mark stands before.
@@ -98,11 +88,33 @@ fn listing_of(
 }
 
 /// How folders are told that have no tracked path, where this mark stands before them.
-fn folders_by(flags: StatusFlags, mark: Mark) -> Folders {
-    match (flags.untracked, mark, flags.ignored) {
-        (_, Mark::Ignored, IgnoredFiles::Matching) => Folders::NamedIfIgnored,
-        (UntrackedFiles::Normal, Mark::Ignored, _) => Folders::EnteredUnlessFilled,
-        (UntrackedFiles::Normal, _, _) => Folders::NamedIfFilled,
-        (_, _, _) => Folders::Entered,
+fn folders_by(flags: StatusFlags, mark: Mark) -> Folders
+    ensures { result ≡ status_folders flags mark }
+{
+    match mark {
+        Mark::Ignored => ignored_folders(flags),
+        Mark::Untracked | Mark::Bare => named_if_normal(flags.untracked, Folders::NamedIfFilled),
+    }
+}
+
+/// How they are told among the ignored paths.
+fn ignored_folders(flags: StatusFlags) -> Folders
+    ensures { result ≡ ignored_folders flags.ignored flags.untracked }
+{
+    match flags.ignored {
+        IgnoredFiles::Matching => Folders::NamedIfIgnored,
+        IgnoredFiles::Traditional | IgnoredFiles::No => {
+            named_if_normal(flags.untracked, Folders::EnteredUnlessFilled)
+        }
+    }
+}
+
+/// How they are told: so, where they are told by their names, and else gone into.
+fn named_if_normal(untracked: UntrackedFiles, named: Folders) -> Folders
+    ensures { result ≡ named_if_normal untracked named }
+{
+    match untracked {
+        UntrackedFiles::Normal => named,
+        UntrackedFiles::Unsaid | UntrackedFiles::No | UntrackedFiles::All => Folders::Entered,
     }
 }

@@ -2,7 +2,7 @@
 ghost use Rattle.std.specs.Prelude.{IfOk};
 ghost use Rattle.globtree.specs.Tracked.{IsOfIndex};
 
-use anyhow::{Context, Error, Result, anyhow, bail};
+use anyhow::{Context, Result, bail};
 use git_index::{Index, IndexFault, ObjectFormat};
 use repository_files::{Sight, Unread, open_seen};
 use std::alloc::{AllocError, Global};
@@ -30,27 +30,33 @@ impl IndexFile {
         let Some(bytes) = bytes_of(rt, alloc, self.name.as_str())? else {
             return Ok(Index::empty(alloc));
         };
-        match Index::from_bytes(alloc, &bytes, self.format) {
+        let read = match Index::from_bytes(alloc, &bytes, self.format) {
+            Err(IndexFault::Split) => self.read_split(rt, alloc, &bytes)?,
+            read => read,
+        };
+        match read {
             Ok(index) => Ok(index),
-            Err(IndexFault::Split) => self.read_split(rt, alloc, &bytes),
-            Err(fault) => Err(self.told(fault)),
+            Err(IndexFault::Memory) => Err(AllocError.into()),
+            Err(fault) => bail!("{}: {fault}", self.name),
         }
     }
 
-    /// What a split index, of these bytes, says together with the shared file that it names.
-    fn read_split<R: Files>(&self, rt: &R, alloc: Global, bytes: &[u8]) -> Result<Index>
-        ensures { IfOk result IsOfIndex }
+    /// What a split index, of these bytes, says together with the shared file that it names. A fault of either's bytes is the answer.
+    fn read_split<R: Files>(
+        &self,
+        rt: &R,
+        alloc: Global,
+        bytes: &[u8],
+    ) -> Result<std::result::Result<Index, IndexFault>>
+        ensures { IfOk result (λ read. IfOk read IsOfIndex) }
     {
         let hash = match Index::shared_hash(alloc, bytes, self.format) {
             Ok(Some(hash)) => hash,
-            Ok(None) => return Err(self.told(IndexFault::NotSplit)),
-            Err(fault) => return Err(self.told(fault)),
+            Ok(None) => return Ok(Err(IndexFault::NotSplit)),
+            Err(fault) => return Ok(Err(fault)),
         };
         let shared = self.shared(rt, alloc, hash)?;
-        match Index::from_split(alloc, bytes, &shared, self.format) {
-            Ok(index) => Ok(index),
-            Err(fault) => Err(self.told(fault)),
-        }
+        Ok(Index::from_split(alloc, bytes, &shared, self.format))
     }
 
     /// The bytes of the shared file with this hash: in the git folder, or else beside the index.
@@ -70,14 +76,6 @@ impl IndexFile {
             "{}: the shared file 'sharedindex.{hash}' isn't there",
             self.name
         )
-    }
-
-    /// A fault that reading it met.
-    fn told(&self, fault: IndexFault) -> Error {
-        match fault {
-            IndexFault::Memory => AllocError.into(),
-            fault => anyhow!("{}: {fault}", self.name),
-        }
     }
 }
 

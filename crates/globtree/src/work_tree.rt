@@ -1,10 +1,10 @@
 //! The work tree that a command is called in: where paths are told from, and the files that count in all of it.
-ghost use Rattle.std.specs.Prelude.{◌≡◌, codes, option_map, IfOk, Some};
+ghost use Rattle.std.specs.Prelude.{◌≡◌, codes, option_map, IfOk, MatchOption, Some};
 ghost use Rattle.std.specs.Vec.{vec_items};
 ghost use Rattle.core_settings.specs.Values.{last_value};
 ghost use Rattle.core_settings.specs.Views.{seen_settings};
 ghost use Rattle.opened_repository.specs.Results.{opened_of};
-ghost use Rattle.globtree.specs.Places.{IsTreeOf};
+ghost use Rattle.globtree.specs.Places.{IsFoundTree, IsNamedTree, IsTreeOf, IsUsersFile};
 ghost use Rattle.globtree.specs.Running.{quoting_by};
 ghost use Rattle.globtree.specs.Tracked.{format_by};
 
@@ -54,7 +54,9 @@ pub(crate) fn work_tree<R: Files + Env + AllocGlobal>(
     rt: &R,
     alloc: Global,
     options: Options<'_>,
-) -> Result<WorkTree> {
+) -> Result<WorkTree>
+    ensures { IfOk result (λ tree. MatchOption options.entry.top (IsFoundTree tree) (λ _. IsNamedTree tree)) }
+{
     match options.top {
         Some(top) => named_tree(rt, alloc, top),
         None => tree_of_repository(rt, alloc, options),
@@ -62,7 +64,9 @@ pub(crate) fn work_tree<R: Files + Env + AllocGlobal>(
 }
 
 /// The work tree with a top that is named: no repository is looked for, and no configuration is read.
-fn named_tree<R: Files + Env + AllocGlobal>(rt: &R, alloc: Global, top: &str) -> Result<WorkTree> {
+fn named_tree<R: Files + Env + AllocGlobal>(rt: &R, alloc: Global, top: &str) -> Result<WorkTree>
+    ensures { IfOk result IsNamedTree }
+{
     let here = current_folder(rt, alloc)?;
     let top = go_to_top(rt, alloc, top)?;
     Ok(WorkTree {
@@ -80,7 +84,9 @@ fn named_tree<R: Files + Env + AllocGlobal>(rt: &R, alloc: Global, top: &str) ->
 }
 
 /// The name of a file in Git's part of the user's folder of settings, whether it is there or not.
-fn users_file<R: Env>(rt: &R, alloc: Global, name: &[u8]) -> Result<Option<Vec<u8>>> {
+fn users_file<R: Env>(rt: &R, alloc: Global, name: &[u8]) -> Result<Option<Vec<u8>>>
+    ensures { IfOk result (λ file. IsUsersFile name.now (option_map vec_items file)) }
+{
     let home = variable(rt, alloc, "HOME")?;
     let settings = variable(rt, alloc, "XDG_CONFIG_HOME")?;
     Ok(settings_file(alloc, settings.as_deref(), home.as_deref(), name)?)
@@ -91,7 +97,9 @@ fn tree_of_repository<R: Files + Env + AllocGlobal>(
     rt: &R,
     alloc: Global,
     options: Options<'_>,
-) -> Result<WorkTree> {
+) -> Result<WorkTree>
+    ensures { IfOk result IsFoundTree }
+{
     let here = current_folder(rt, alloc)?;
     let current = from_root(alloc, &here)?;
     let opened = open_here(rt, alloc, options, &current)?;

@@ -7,6 +7,7 @@ use crate::fault::CheckFault;
 use crate::folder_names::NameReader;
 use crate::indexed_files::IndexedFiles;
 use crate::nested::NestedRepositories;
+use crate::progress::Progress;
 use crate::seen_files::seen_file_list;
 use crate::sources::{BY_GIT, FolderFiles, IGNORE_FILE};
 use crate::standing::{OwnFile, file_in, own_file};
@@ -19,14 +20,14 @@ use std::alloc::{AllocError, Global};
 use std::fmt::Display;
 use std::fs::FileType;
 use std::io::ErrorKind;
-use std::rt::Files;
+use std::rt::{Clock, Files};
 use std::{fs, io};
 use told_paths::folder_of;
 use tree_commands::files::source::{EntryKind, FileSource, FolderNames};
 
 /// The folders below the one that the program stands in.
 #[derive(Drop)]
-pub struct TreeFiles<'a, R: Files + Eprint> {
+pub struct TreeFiles<'a, R: Files + Clock + Eprint> {
     rt: &'a R,
     alloc: Global,
     reader: NameReader,
@@ -39,15 +40,18 @@ pub struct TreeFiles<'a, R: Files + Eprint> {
     has_begun: bool,
     /// Whether something couldn't be read.
     is_short: bool,
+    progress: Progress<'a, R>,
 }
 
-impl<'a, R: Files + Eprint> TreeFiles<'a, R> {
+impl<'a, R: Files + Clock + Eprint> TreeFiles<'a, R> {
     /// Nothing was looked at yet. Where an ignore file that is in the index isn't in the work tree, what lies in its folder can't be listed.
+    /// Where it `shows_progress`, how many folders were entered is told while that takes long.
     pub fn new(
         rt: &'a R,
         alloc: Global,
         indexed: &'a IndexedFiles,
         nested: NestedRepositories<'a, R>,
+        shows_progress: bool,
     ) -> Result<TreeFiles<'a, R>, AllocError> {
         Ok(TreeFiles {
             rt,
@@ -58,11 +62,15 @@ impl<'a, R: Files + Eprint> TreeFiles<'a, R> {
             bytes: Vec::new(alloc),
             has_begun: false,
             is_short: false,
+            progress: Progress::new(rt, shows_progress),
         })
     }
 
-    /// Whether something couldn't be read.
-    pub fn is_short(&self) -> bool {
+    /// Takes away what was told of the progress, and says whether something couldn't be read.
+    pub fn end(&self) -> bool
+        ensures { result ≡ self.now.is_short }
+    {
+        self.progress.end();
         self.is_short
     }
 
@@ -153,7 +161,7 @@ impl<'a, R: Files + Eprint> TreeFiles<'a, R> {
     }
 }
 
-impl<'a, R: Files + Eprint> FileSource for TreeFiles<'a, R> {
+impl<'a, R: Files + Clock + Eprint> FileSource for TreeFiles<'a, R> {
     type Fault = CheckFault;
 
     ghost shows = { λ _ _. ⊥ };
@@ -162,6 +170,7 @@ impl<'a, R: Files + Eprint> FileSource for TreeFiles<'a, R> {
 
     fn names(&mut self, folder: &[u8]) -> Result<FolderNames, CheckFault> {
         self.has_begun = true;
+        self.progress.enter();
         let name = if folder.is_empty() {
             "."
         } else {

@@ -1,4 +1,5 @@
-//! The files of the operating system, as the commands over a work tree ask for them. What can't be read is told on the standard error.
+//! The files of the operating system, as the commands over a work tree ask for them. What can't be read is told on the standard
+//! error, and how far a long listing is.
 #![tactic(auto)]
 
 mod attribute_files;
@@ -9,6 +10,7 @@ mod files;
 mod folder_names;
 mod indexed_files;
 mod nested;
+mod progress;
 mod seen_files;
 mod sources;
 mod standing;

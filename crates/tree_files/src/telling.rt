@@ -1,4 +1,4 @@
-//! What is told on the standard error: all of it goes through here, so that no name brings a control character to a terminal.
+//! What is told on the standard error: all lines go through here, so that no name brings a control character to a terminal.
 ghost use Rattle.std.specs.Prelude.{◌≡◌, ◌++◌, map, OnOk};
 ghost use Rattle.tree_files.specs.Telling.{is_shown, shown};
 

@@ -1,11 +1,11 @@
-use Rattle.std.proofs.Common.{◌≡◌, IfOk, List, ℕ, ap, if◌then◌else◌, map, sym, string_bytes, subst, ◌∙◌}
+use Rattle.std.proofs.Common.{◌≡◌, IfOk, List, OnOk, ℕ, ap, if◌then◌else◌, map, sym, string_bytes, subst, ◌∙◌}
 use Rattle.std.proofs.lemmas.Bool.{false≢true}
 use Rattle.std.specs.Borrow.{Bor}
 use Rattle.gix_glob.specs.Watched.{inner}
 use Rattle.tree_commands.specs.CheckAttr as attributes
 use Rattle.tree_words.specs.declared.operands.Operands.{Operands}
 use Rattle.tree_words.specs.Operands.{dashes_at, operands_among}
-use Rattle.globtree.specs.Answers.{TellsStates}
+use Rattle.globtree.specs.Answers.{ReadsStates, TellsStates}
 use Rattle.globtree.proofs.lemmas.OperandLemmas.{back_seen, front_seen, names_seen}
 use Rattle.globtree.proofs.check_attr.check_attr.Goals as goal
 
@@ -26,7 +26,7 @@ returns-then-flags-clause-answered g c answered =
       cased = c.question_of-question.ensures.case;
       form = c.question_of-question.ensures.form;
       asks = c.question_of-question.ensures.asks ∙ ap (λ names. if c.args.flags.all then attributes.all else attributes.named names) (ap (map see) c.deref-2.ensures.value ∙ names);
-      read = λ _. c.in_ok-answer_input.ensures;
+      read = λ _. subst (λ r. OnOk r (ReadsStates c.question_of-question.result (g.I.Read.remaining (inner c.args.input.now)) (g.I.Read.remaining (inner c.run_check_attr-outcome.new.records)) (g.O.Write.contents (inner c.args.output.now)) (g.O.Write.contents (inner c.run_check_attr-outcome.new.writer)))) c.in_ok-answer_of.ensures c.run_check_attr-outcome.ensures.ok;
       told = λ is. absurd (false≢true (sym is ∙ c.if-flags.true));
     }
 
@@ -49,5 +49,6 @@ returns-clause-answered g c answered =
       form = c.question_of-question.ensures.form;
       asks = c.question_of-question.ensures.asks ∙ ap (λ names. if c.args.flags.all then attributes.all else attributes.named names) (ap (map see) c.deref-2.ensures.value ∙ names);
       read = λ is. absurd (false≢true (sym c.if-flags.false ∙ is));
-      told = λ _. subst (λ paths. TellsStates c.question_of-question.result paths (g.O.Write.contents (inner c.args.output.now)) (g.O.Write.contents (inner c.answer_paths.new.output))) (ap (map see) c.deref-3.ensures.value ∙ paths) c.in_ok-answer_paths.ensures;
+      told = λ _. subst (λ paths. TellsStates c.question_of-question.result paths (g.O.Write.contents (inner c.args.output.now)) (g.O.Write.contents (inner c.check_attr_paths-outcome.new.writer))) (ap (map see) c.deref-3.ensures.value ∙ paths)
+          (subst (λ r. OnOk r (TellsStates c.question_of-question.result (map see c.deref-3.result.now) (g.O.Write.contents (inner c.args.output.now)) (g.O.Write.contents (inner c.check_attr_paths-outcome.new.writer)))) c.in_ok-answer_of-2.ensures c.check_attr_paths-outcome.ensures.ok);
     }

@@ -6,7 +6,7 @@ use Rattle.glob_lists.specs.Rules.{by_git}
 use Rattle.tree_commands.specs.CheckIgnore.{Question, question_of}
 use Rattle.tree_words.specs.declared.operands.Operands.{Operands}
 use Rattle.tree_words.specs.Operands.{operands_among}
-use Rattle.globtree.specs.Answers.{TellsIgnore}
+use Rattle.globtree.specs.Answers.{ReadsIgnore, TellsIgnore}
 use Rattle.globtree.specs.Tracked.{IsOfIndex}
 use Rattle.globtree.specs.declared.index_use.IndexUse.{IndexUse}
 use Rattle.globtree.specs.declared.index_use.IndexUse.TheVariants.{Nothing, Paths}
@@ -27,9 +27,9 @@ returns-then-flags-clause-answered g c =
     let question : Question = question_of fronts.standpoint c.asked_by_flags-asked.result c.new-tracked.result tree (λ _. None) in
     let left : Option (List ℕ) = g.I.Read.remaining (inner c.args.input.now) in
     let here : Option (List ℕ) = g.I.Read.remaining (inner c.refuse_settings_for.new.input) in
-    let rest : Option (List ℕ) = g.I.Read.remaining (inner c.answer_input.new.input) in
+    let rest : Option (List ℕ) = g.I.Read.remaining (inner c.run_check_ignore-sources.new.records) in
     let old : Option (List ℕ) = g.O.Write.contents (inner c.args.output.now) in
-    let new : Option (List ℕ) = g.O.Write.contents (inner c.answer_input.new.output) in
+    let new : Option (List ℕ) = g.O.Write.contents (inner c.run_check_ignore-sources.new.writer) in
     record {
       standpoint = fronts.standpoint;
       folds = fronts.folds;
@@ -42,8 +42,9 @@ returns-then-flags-clause-answered g c =
       by_rules = c.in_ok-tree.ensures.rules ∙ ap by_git c.case_of-case.ensures;
       asks = c.asked_by_flags-asked.ensures;
       is_any = is_any;
-      ends = c.status_of.ensures;
-      read = λ _. read_from_front question is_any left here rest old new c.in_ok-refuse_settings_for.ensures.kept c.in_ok-is_any.ensures;
+      ends = c.status_by.ensures;
+      read = λ _. read_from_front question is_any left here rest old new c.in_ok-refuse_settings_for.ensures.kept
+          (subst (λ r. IfOk r (λ is_any. ReadsIgnore question is_any here rest old new)) c.in_ok-is_any.ensures c.run_check_ignore-sources.ensures.ends.ok);
       told = λ is. absurd (false≢true (sym is ∙ c.if-flags.true));
     }
 
@@ -57,7 +58,7 @@ returns-clause-answered g c =
     let is_any = c.in_ok-is_any-2.is_any in
     let question : Question = question_of fronts.standpoint c.asked_by_flags-asked.result c.new-tracked.result tree (λ _. None) in
     let old : Option (List ℕ) = g.O.Write.contents (inner c.args.output.now) in
-    let new : Option (List ℕ) = g.O.Write.contents (inner c.answer_paths.new.output) in
+    let new : Option (List ℕ) = g.O.Write.contents (inner c.check_ignore_paths-sources.new.writer) in
     let paths = ap (map see) c.deref-2.ensures.value ∙ (c.in_ok-paths-2.ensures ∙ (ap (map see) c.deref.ensures.value ∙ all)) in
     record {
       standpoint = fronts.standpoint;
@@ -71,7 +72,8 @@ returns-clause-answered g c =
       by_rules = c.in_ok-tree.ensures.rules ∙ ap by_git c.case_of-case.ensures;
       asks = c.asked_by_flags-asked.ensures;
       is_any = is_any;
-      ends = c.status_of-2.ensures;
+      ends = c.status_by-2.ensures;
       read = λ is. absurd (false≢true (sym c.if-flags.false ∙ is));
-      told = λ _. subst (λ paths. TellsIgnore question paths is_any old new) paths c.in_ok-is_any-2.ensures;
+      told = λ _. subst (λ paths. TellsIgnore question paths is_any old new) paths
+          (subst (λ r. IfOk r (λ is_any. TellsIgnore question (map see c.deref-2.result.now) is_any old new)) c.in_ok-is_any-2.ensures c.check_ignore_paths-sources.ensures.ok);
     }

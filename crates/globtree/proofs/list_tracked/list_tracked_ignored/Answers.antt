@@ -6,7 +6,7 @@ use Rattle.tree_commands.specs.Answering.{Writes}
 use Rattle.tree_commands.specs.CheckIgnore.{question_of}
 use Rattle.tree_commands.specs.TrackedFiles.{AreIgnored, names_alone}
 use Rattle.tree_files.specs.FileLists.{IsOfFolder}
-use Rattle.globtree.proofs.lemmas.ResultLemmas.{of_mapped_err}
+use Rattle.globtree.proofs.lemmas.ResultLemmas.{of_answer}
 use Rattle.globtree.proofs.list_tracked.list_tracked_ignored.Goals as goal
 
 pub returns : goal.returns
@@ -15,7 +15,7 @@ returns g c =
     let old : Option (List ℕ) = g.O.Write.contents (inner c.args.output.now) in
     let new : Option (List ℕ) = g.O.Write.contents (inner c.write_ignored-sources.new.writer) in
     let question = question_of c.args.standpoint.now (names_alone c.args.form) [] c.args.tree (λ _. None) in
-    of_mapped_err c.write_ignored-sources.result.1 c.map_err.result _ _ _ c.map_err.ensures.cases c.write_ignored-sources.ensures.ok
+    of_answer c.write_ignored-sources.result.1 c.answer_of.result _ _ _ c.answer_of.ensures c.write_ignored-sources.ensures.ok
     (λ _ written. record {
       paths = map see c.in_ok-paths.paths.items;
       asked = c.in_ok-paths.ensures;
