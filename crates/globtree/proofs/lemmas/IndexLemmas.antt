@@ -2,13 +2,11 @@
 use Rattle.std.proofs.Common.{◌≡◌, ◌==◌, ◌≢◌, ◌<◌, ◌+◌, Bool, IsTrue, get_or, false, true, length, ◌↔◌, ◌⊎◌, ◌++◌, ◌∷◌, [], ℕ, List, MatchOption, Option, None, Some, ap, append_assoc, arith, codes, inl, inr, map, refl, subst, sym, take, ◌∙◌}
 use Rattle.std.specs.Borrow.{Bor}
 use Rattle.std.specs.Option.{option_copied}
-use Rattle.std.specs.Prelude.{Contains}
 use Rattle.std.proofs.lemmas.Bool.{eqb-true, false≢true}
 use Rattle.std.proofs.lemmas.List.{append_cancel_right, map-append, take_more}
 use Rattle.std.proofs.lemmas.List.Elements.{Contains-append_left, Contains-push, Contains-push_cases}
 use Rattle.std.proofs.lemmas.Option.{same_Some}
 use Rattle.git_index.specs.Entries.{Tracked, tracked}
-use Rattle.tree_files.specs.Indexed.{is_indexed}
 use Rattle.globtree.specs.Tracked.{GivesFolder, IsFileIn, IsGiven}
 use Rattle.globtree.specs.declared.index_use.IndexUse.{IndexUse}
 use Rattle.globtree.specs.declared.index_use.IndexUse.TheVariants.{Attributes, Paths, Patterns}

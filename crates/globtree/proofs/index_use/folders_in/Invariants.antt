@@ -1,4 +1,4 @@
-use Rattle.std.proofs.Common.{◌≡◌, ◌↔◌, ℕ, List, IsTrue, map, take}
+use Rattle.std.proofs.Common.{◌↔◌, ℕ, List, IsTrue, map, take}
 use Rattle.git_index.specs.Entries.{tracked}
 use Rattle.tree_files.specs.Indexed.{is_indexed}
 use Rattle.globtree.specs.Tracked.{IsGiven}
