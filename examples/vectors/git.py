@@ -300,7 +300,7 @@ def folded_paths(format_, index, path):
 
     def lists(name, *words):
         with rows.repository_of([(b".git/config", config), (b".git/index", index), (name, b"")]) as top:
-            ran = subprocess.run([PROGRAM, "ls-files" if IS_GIT else "files", "-o", "-z", *words], cwd=top, env=ALONE, capture_output=True, check=True)
+            ran = subprocess.run([PROGRAM, "ls-files" if IS_GIT else "files", "-o", "-z", *words], cwd=top, env=ALONE, capture_output=True, check=False)
         return name in ran.stdout.split(b"\0")
 
     below = path + b"/~"
