@@ -296,6 +296,8 @@ def tracked_paths(format_, index, asked, literal):
 
 def folded_paths(format_, index, path):
     """What is listed of a file of this path, and of a file in a folder of this path."""
+    if not IS_GIT and not rows.is_text(path):
+        return ()
     config = b"[core]\nrepositoryFormatVersion=1\nignoreCase=true\n[extensions]\nobjectFormat=%s\n" % format_
 
     def lists(name, *words):
