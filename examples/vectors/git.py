@@ -296,11 +296,13 @@ def tracked_paths(format_, index, asked, literal):
 
 def folded_paths(format_, index, path):
     """What is listed of a file of this path, and of a file in a folder of this path."""
+    if not IS_GIT and not rows.is_text(path):
+        return ()
     config = b"[core]\nrepositoryFormatVersion=1\nignoreCase=true\n[extensions]\nobjectFormat=%s\n" % format_
 
     def lists(name, *words):
         with rows.repository_of([(b".git/config", config), (b".git/index", index), (name, b"")]) as top:
-            ran = subprocess.run([PROGRAM, "ls-files" if IS_GIT else "files", "-o", "-z", *words], cwd=top, env=ALONE, capture_output=True, check=True)
+            ran = subprocess.run([PROGRAM, "ls-files" if IS_GIT else "files", "-o", "-z", *words], cwd=top, env=ALONE, capture_output=True, check=False)
         return name in ran.stdout.split(b"\0")
 
     below = path + b"/~"
