@@ -70,10 +70,10 @@ tells_folders_twice flags = ((flags.others && flags.directory) && flags.ignored)
 
 -- folders are told so where `status` tells them by their names, and else gone into
 abbrev pub named_if_normal : UntrackedFiles → Folders → Folders
-named_if_normal untracked.Normal named = named
-named_if_normal untracked.Unsaid named = folders.Entered
-named_if_normal untracked.No named = folders.Entered
-named_if_normal untracked.All named = folders.Entered
+named_if_normal untracked.Normal way = way
+named_if_normal untracked.Unsaid way = folders.Entered
+named_if_normal untracked.No way = folders.Entered
+named_if_normal untracked.All way = folders.Entered
 
 abbrev pub ignored_folders : IgnoredFiles → UntrackedFiles → Folders
 ignored_folders ignored.Matching told = folders.NamedIfIgnored
