@@ -22,7 +22,7 @@ WRONG = ["-n a", "-q -v a", "-q a b", "--stdin a", "-z a", "", "-q", "--stdin -q
 BEHIND = [[], [], ["-v"], ["--", "a"]]
 # words for where Git's own folder is the current one
 WITHIN_GIT = ["a", "-v -n -- HEAD ../a", "-q .", "--stdin", "-z --stdin"]
-NO_TEXT, NO_FOLDER, NO_FILE = b"no UTF-8 text", b": no folder", b": No such file"
+NO_TEXT, NOT_THERE = b"no UTF-8 text", (b": no folder", b": No such file", b": Not a directory")
 # kinds of differences, which count as such where "From Git" in docs/GLOBTREE.md names them
 UNLISTED, MESSAGES = "what can't be listed", "messages"
 NAMED = kinds_in("GLOBTREE.md")
@@ -246,7 +246,7 @@ class Comparison:
             left = [name for name in names if is_text(name if "-z" in words else unquoted(name))]
             expected = Told(1, b"".join(name + end for name in left), found.errors)
             self.unreadable += len(names) - len(left)
-        elif UNLISTED in NAMED and found.status == 1 and expected.status == 0 and (NO_FOLDER in found.errors or NO_FILE in found.errors):
+        elif UNLISTED in NAMED and found.status == 1 and expected.status == 0 and any(it in found.errors for it in NOT_THERE):
             self.named[UNLISTED] += 1
             expected = expected._replace(status=1, errors=found.errors)
         elif MESSAGES in NAMED and expected.errors and self.is_in_repository(folder, words):
