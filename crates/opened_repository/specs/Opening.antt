@@ -200,7 +200,7 @@ module _ (tree : FileTree) (Shows : Files) (said : Said) where
     top ← TopOf found own
     settings ← ReadThere found own top folders
     _ ← is (top_checked tree said.needs_work_tree top)
-    core ← is (core_told (core_of said.around said.places.config_home settings))
+    core ← is (core_told (core_of said.for_status said.around said.places.config_home settings))
     name ← NameOf found own top
     is (Ok (record {
       found_by = found.by;

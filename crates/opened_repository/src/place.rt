@@ -39,8 +39,8 @@ pub struct ConfigPlace {
     pub work_tree: Option<Vec<u8>>,
 }
 
-/// Tells where the configuration lies that counts in the current folder. `needs_work_tree` of what was told is passed over. Where there
-/// is no repository, or Git takes one for none since it may not be taken, there is no file of one.
+/// Tells where the configuration lies that counts in the current folder. `needs_work_tree` and `for_status` of what was told are passed
+/// over. Where there is no repository, or Git takes one for none since it may not be taken, there is no file of one.
 ///
 /// # Errors
 /// The first fault in Git's order, as [`open`](crate::open) tells it. Of the files only those are read that say where a repository is.
