@@ -1,6 +1,6 @@
 //! The head of a line: a pattern, or what defines a macro, bare or between quotes.
 ghost use Rattle.std.specs.Prelude.{◌≡◌, ℕ, List, IfOk, MatchOption, option_map};
-ghost use Rattle.glob_attributes.specs.Equations.Heads.{head_of, letter_byte, quoted_from, unit_at};
+ghost use Rattle.glob_attributes.specs.Equations.Heads.{escape_at, head_of, letter_byte, quoted_from, unit_at};
 ghost use Rattle.glob_attributes.specs.Heads.{IsQuotedHead};
 
 use crate::words::split_at_blank;
@@ -57,17 +57,29 @@ fn read_units(alloc: Global, quoted: &[u8]) -> Result<Option<(Vec<u8>, &[u8])>, 
 
 /// The byte that is spelled at the front of a quoted text, and how many bytes behind the first belong to its spelling. `None` at a
 /// quote, at the end, and where a backslash begins no right escape.
+#[inline(always)]
 pub(crate) fn unit_at(bytes: &[u8]) -> Option<(u8, usize)>
     ensures { result ≡ unit_at bytes.now }
 {
     match bytes {
         [] | [b'"', ..] => None,
-        [b'\\', x @ b'0'..=b'3', y @ b'0'..=b'7', z @ b'0'..=b'7', ..] => {
+        [b'\\', behind @ ..] => escape_at(behind),
+        [b, ..] => Some((*b, 0)),
+    }
+}
+
+/// The byte that a backslash and what follows it spell, and how many bytes behind the backslash belong to it. `None` where they are no
+/// right escape.
+#[inline(always)]
+fn escape_at(behind: &[u8]) -> Option<(u8, usize)>
+    ensures { result ≡ escape_at behind.now }
+{
+    match behind {
+        [x @ b'0'..=b'3', y @ b'0'..=b'7', z @ b'0'..=b'7', ..] => {
             Some(((*x - b'0') * 64 + (*y - b'0') * 8 + (*z - b'0'), 3))
         }
-        [b'\\', letter, ..] => Some((letter_byte(*letter)?, 1)),
-        [b'\\'] => None,
-        [b, ..] => Some((*b, 0)),
+        [letter, ..] => Some((letter_byte(*letter)?, 1)),
+        [] => None,
     }
 }
 

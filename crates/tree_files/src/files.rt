@@ -1,7 +1,8 @@
 //! What a real work tree tells `files`: the names in its folders, what stands there, and their ignore files. What can't be looked at is told.
-ghost use Rattle.std.specs.Prelude.{◌≡◌, ◌⊎◌, IfOk, MatchBool, MatchOption};
+ghost use Rattle.std.specs.Prelude.{◌≡◌, ◌⊎◌, IfOk, IsTrue, MatchBool, MatchOption};
 ghost use Rattle.std.specs.Fs.{IsDir, IsFile, IsSymlink};
 ghost use Rattle.tree_commands.specs.Files.{is_folder};
+ghost use Rattle.tree_files.specs.Indexed.{is_indexed};
 
 use crate::fault::CheckFault;
 use crate::folder_names::NameReader;
@@ -75,11 +76,15 @@ impl<'a, R: Files + Clock + Eprint> TreeFiles<'a, R> {
     }
 
     /// What is found in a folder of which these are the names.
-    fn found_in(&self, folder: &[u8], bytes: Vec<u8>) -> Result<FolderNames, CheckFault> {
+    fn found_in(&self, folder: &[u8], bytes: Vec<u8>) -> Result<FolderNames, CheckFault>
+        ensures { IfOk result (λ found. IsTrue (is_indexed self.now.above.indexed.now folder.now) → IsTrue found.has_patterns) }
+    {
         let mut found = FolderNames::of_names(bytes);
         if found.has_git && !folder.is_empty() {
             found.has_git = self.is_repository(folder)?;
         }
+        // one that the index alone has is asked for, too: where it counts, that refuses the folder
+        found.has_patterns |= self.above.is_indexed(folder);
         Ok(found)
     }
 

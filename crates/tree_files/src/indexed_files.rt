@@ -39,6 +39,13 @@ impl IndexedFiles {
         Ok(())
     }
 
+    /// Whether the file of this folder is in the index.
+    pub(crate) fn has(&self, folder: &[u8]) -> bool
+        ensures { result ≡ is_indexed self.now folder.now }
+    {
+        self.folders.contains(folder)
+    }
+
     /// Refuses a folder whose file of this name is in the index, and not in the work tree, where a link isn't followed.
     pub(crate) fn check<R: Files>(
         &self,
@@ -46,7 +53,7 @@ impl IndexedFiles {
         folder: &[u8],
         name: &str,
     ) -> Result<(), CheckFault> {
-        if !self.folders.contains(folder) {
+        if !self.has(folder) {
             return Ok(());
         }
         let folder = path_text(self.alloc, folder)?;

@@ -1,8 +1,9 @@
 //! The ignore files of folders.
-ghost use Rattle.std.specs.Prelude.{IfOk, codes};
+ghost use Rattle.std.specs.Prelude.{◌≡◌, IfOk, codes};
 ghost use Rattle.gix_glob.specs.EntryLists.{entry_list_of};
 ghost use Rattle.told_paths.specs.Paths.{below};
 ghost use Rattle.tree_files.specs.FileLists.{IsOfFolder, IsSpelled};
+ghost use Rattle.tree_files.specs.Indexed.{is_indexed};
 
 use crate::closed_folders::ClosedFolders;
 use crate::fault::CheckFault;
@@ -50,6 +51,13 @@ impl<'a, R> FolderFiles<'a, R> {
 }
 
 impl<'a, R: Files + Eprint> FolderFiles<'a, R> {
+    /// Whether the index has the file of a folder, in the work tree or not.
+    pub(crate) fn is_indexed(&self, folder: &[u8]) -> bool
+        ensures { result ≡ is_indexed self.now.indexed.now folder.now }
+    {
+        self.indexed.has(folder)
+    }
+
     /// Refuses a folder whose file the index alone has.
     pub(crate) fn check_indexed(&self, folder: &[u8]) -> Result<(), CheckFault> {
         self.indexed.check(self.rt, folder, IGNORE_FILE)
