@@ -41,7 +41,6 @@ TOLD = {
 }
 # and what isn't read, by the fault that names it
 UNREAD = {
-    "a listing from outside": b"a relative core.excludesFile isn't read",
     "relative files of the environment": b"is a relative path of a file of configuration",
     "a relative GIT_COMMON_DIR": b"GIT_COMMON_DIR is a relative path",
     "a reference that may lead on": b"no condition 'onbranch' can be answered",
@@ -205,7 +204,7 @@ class Comparison:
     def named_kind(self, question, expected, found):
         """What the documents call a difference, or None."""
         command = question.words[0]
-        if command in ("check-attr", "files") and found.errors == NO_WORK_TREE and expected.errors != found.errors:
+        if command == "check-attr" and found.errors == NO_WORK_TREE and expected.errors != found.errors:
             return BARE
         if UNKNOWN_FOLDER.fullmatch(found.errors) and expected.errors != found.errors:
             return UNKNOWN

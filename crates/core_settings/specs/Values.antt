@@ -1,5 +1,5 @@
 -- What a configuration sets of matching, printing and listing, by its entries.
-use Rattle.std.specs.Prelude.{ℕ, Bool, true, false, ◌&&◌, ◌==◌, if◌then◌else◌, List, [], ◌∷◌, length, map, codes, Option, Some, None, is_some, option_map, option_and_then, unwrap_or, Result, Ok, Err}
+use Rattle.std.specs.Prelude.{ℕ, Bool, true, false, not, ◌&&◌, ◌==◌, if◌then◌else◌, List, [], ◌∷◌, length, map, codes, Option, Some, None, is_some, option_map, option_and_then, unwrap_or, Result, Ok, Err}
 use Rattle.std.specs.List.{last_or, list_any}
 use Rattle.std.specs.Option.{option_or}
 use Rattle.std.specs.Str.{bytes_eq}
@@ -45,14 +45,22 @@ abbrev pub path_fault : Surroundings → Seen → Option (List ℕ) → Option F
 path_fault around s None = Some (entry_fault s)
 path_fault around s (Some value) = if is_some (told_path around value) then None else Some (NoFolder value)
 
-abbrev pub mode_fault : Seen → Option Fault
-mode_fault s = if is_some (mode_of s.entry.value) then None else Some (entry_fault s)
+-- how `git push` works by default: one of these words; case counts
+abbrev pub is_way_to_push : Option (List ℕ) → Bool
+is_way_to_push None = false
+is_way_to_push (Some word) =
+    list_any (bytes_eq word) (codes "nothing" ∷ codes "matching" ∷ codes "simple" ∷ codes "upstream" ∷ codes "tracking" ∷ codes "current" ∷ [])
+
+-- at a key at which some words alone are known, the value is none of them
+abbrev pub is_wrong_word : Bool → List ℕ → Option (List ℕ) → Bool
+is_wrong_word for_status key value =
+    if is_mode for_status key then not (is_some (mode_of value)) else (bytes_eq key (codes "push.default") && not (is_way_to_push value))
 
 abbrev pub fault_of : Bool → Surroundings → Seen → Option Fault
 fault_of for_status around s =
     if is_boolean (key_of s) then boolean_fault (key_of s) s.entry.value
     else (if is_path (key_of s) then path_fault around s s.entry.value
-    else (if is_mode for_status (key_of s) then mode_fault s else None))
+    else (if is_wrong_word for_status (key_of s) s.entry.value then Some (entry_fault s) else None))
 
 abbrev pub first_fault : Bool → Surroundings → List Seen → Option Fault
 first_fault for_status around [] = None

@@ -67,7 +67,7 @@ pub enum CoreFault<B> {
         /// The value.
         value: B,
     },
-    /// An entry says what it can't: the key of a path has no value, or `status.showUntrackedFiles` names no mode.
+    /// An entry says what it can't: the key of a path has no value, or a word is none of those that Git knows at its key.
     Entry {
         /// The key, in lower case.
         key: B,

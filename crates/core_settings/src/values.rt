@@ -7,7 +7,7 @@ ghost use Rattle.std.specs.Vec.{vec_items};
 ghost use Rattle.git_config.specs.Configuration.{key_of, seen_setting};
 ghost use Rattle.git_config.specs.Grammar.{before_zero};
 ghost use Rattle.core_settings.specs.Private.{Tells};
-ghost use Rattle.core_settings.specs.Values.{boolean_at, boolean_fault, core_of, entry_fault, fault_of, file_at, first_fault, if_path, is_boolean, is_mode, is_path, last_value, path_fault, told_path};
+ghost use Rattle.core_settings.specs.Values.{boolean_at, boolean_fault, core_of, entry_fault, fault_of, file_at, first_fault, if_path, is_boolean, is_mode, is_path, is_way_to_push, is_wrong_word, last_value, path_fault, told_path};
 ghost use Rattle.core_settings.specs.UserFiles.{settings_file};
 ghost use Rattle.core_settings.specs.Views.{fault_with, seen_settings, settings_with};
 ghost use Rattle.core_settings.specs.declared.fault.CoreFault.TheVariants.{Memory};
@@ -39,8 +39,8 @@ pub struct CoreSettings<B> {
 /// What a configuration sets. `config_home` is `XDG_CONFIG_HOME`, and `around.home` is `HOME`.
 ///
 /// # Errors
-/// The first entry that is wrong, of all the keys of `core` that Git looks at, and `for_status` of `status.showUntrackedFiles`, too; also
-/// where a later one is right: a boolean that is none, a path without a value, or one in a folder that isn't known, a mode that is none.
+/// The first entry that is wrong, of the keys that Git looks at, and `for_status` of `status.showUntrackedFiles`, too; also
+/// where a later one is right: a boolean that is none, a path without a value, or one in a folder that isn't known, a word that is none of those that Git knows.
 /// [`CoreFault::Memory`] where memory was refused.
 pub fn core_settings(
     alloc: Global,
@@ -109,7 +109,7 @@ fn check_setting(
     if is_path(&key) {
         return check_path(alloc, around, key, setting);
     }
-    if is_mode(for_status, &key) && mode_of(&setting.entry.value).is_none() {
+    if is_wrong_word(for_status, &key, &setting.entry.value) {
         return Err(entry_fault(alloc, key, setting)?);
     }
     Ok(())
@@ -241,6 +241,36 @@ fn is_path(key: &[u8]) -> bool
     ensures { result ≡ is_path key.now }
 {
     is_among(key, &PATHS)
+}
+
+/// Whether Git knows some words alone at a key, and a value is none of them.
+fn is_wrong_word(for_status: bool, key: &[u8], value: &Option<Vec<u8>>) -> bool
+    ensures { result ≡ is_wrong_word for_status key.now (option_map vec_items value.now) }
+{
+    if is_mode(for_status, key) {
+        return mode_of(value).is_none();
+    }
+    key == b"push.default".as_slice() && !is_way_to_push(value)
+}
+
+/// What `git push` may do by default.
+const WAYS_TO_PUSH: [&[u8]; 6] = [
+    b"nothing",
+    b"matching",
+    b"simple",
+    b"upstream",
+    b"tracking",
+    b"current",
+];
+
+/// Whether a value says what `git push` does by default. Case counts.
+fn is_way_to_push(value: &Option<Vec<u8>>) -> bool
+    ensures { result ≡ is_way_to_push (option_map vec_items value.now) }
+{
+    match value {
+        Some(word) => is_among(word, &WAYS_TO_PUSH),
+        None => false,
+    }
 }
 
 /// Whether Git, for `status`, looks for a mode at a key.

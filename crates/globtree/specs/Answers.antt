@@ -123,6 +123,14 @@ abbrev pub ListsTracked : Standpoint → Form → List Tracked → List ℕ → 
 ListsTracked standpoint form tracked told old new =
     (paths : List (List ℕ)) × (paths_asked standpoint told tracked ≡ Some paths) × Appends old new (flat_map (path_line marks.Bare standpoint form) paths)
 
+-- those of the paths that some index tracks were, told from some standpoint
+pub record ListsIndex (nul : Bool) (told : List ℕ) (old new : Option (List ℕ)) : Type 0 where
+  pub standpoint : Standpoint
+  pub quoting : Quoting
+  pub tracked : List Tracked
+  pub of_index : IsOfIndex tracked
+  pub listed : ListsTracked standpoint (form_by nul quoting) tracked told old new
+
 -- the lines of those of them that are ignored were: patterns are matched by these rules
 pub record ListsIgnored (standpoint : Standpoint) (rules : Rules) (form : Form) (tracked : List Tracked) (told : List ℕ) (old new : Option (List ℕ)) : Type 0 where
   pub paths : List (List ℕ)

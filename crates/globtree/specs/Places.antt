@@ -1,5 +1,5 @@
 -- Where a command stands: by the paths of the top and of the current folder, without the slash at their front, and by the words.
-use Rattle.std.specs.Prelude.{◌≡◌, ℕ, Bool, true, false, not, ◌&&◌, List, [], ◌∷◌, Option, None, Some, is_some, option_map, string_bytes, codes}
+use Rattle.std.specs.Prelude.{◌≡◌, ℕ, Bool, true, false, not, ◌&&◌, if◌then◌else◌, List, [], ◌∷◌, MatchOption, Option, None, Some, is_some, option_map, string_bytes, codes}
 use Rattle.std.specs.Option.{option_copied, option_or, unwrap_or}
 use Rattle.git_repository.specs.declared.environment.Environment.{Environment}
 use Rattle.std.specs.Vec.{vec_items}
@@ -21,10 +21,10 @@ use Rattle.globtree.specs.declared.work_tree.WorkTree.{WorkTree}
 use Rattle.globtree.specs.Running.{quoting_by}
 use Rattle.globtree.specs.Tracked.{format_by}
 
--- a path that is told from a folder
-abbrev pub is_relative_file : Option (List ℕ) → Bool
-is_relative_file None = false
-is_relative_file (Some path) = is_relative path
+-- the file of excludes that a listing takes in place of this one: outside of the work tree, a relative path is told from the current folder
+abbrev pub listing_excludes : Bool → List ℕ → Option (List ℕ) → Option (List ℕ)
+listing_excludes outside current None = None
+listing_excludes outside current (Some path) = if outside && is_relative path then Some (told_from current path) else None
 
 -- a git folder is told and no work tree, and the value of `GIT_IMPLICIT_WORK_TREE` isn't true
 abbrev pub denies : Option (List ℕ) → Bool
@@ -58,24 +58,29 @@ with_options options variables = record variables {
   work_tree = option_or (option_copied options.work_tree) variables.work_tree;
 }
 
+-- the index of an opened repository, which is told from the folder that was the current one
+pub record IsIndexOf (current : List ℕ) (opened : Opened (List ℕ) (List Seen)) (index : IndexFile) : Type 0 where
+  pub name : string_bytes index.name ≡ told_from current opened.index_file
+  pub format : index.format ≡ format_by (last_value (codes "extensions.objectformat") opened.config)
+
 -- What counts for all paths of the work tree of an opened repository: its configuration tells files from the top, and all else is told
--- from the folder that was the current one.
-pub record IsTreeOf (standpoint : Standpoint) (current : List ℕ) (opened : Opened (List ℕ) (List Seen)) (tree : WorkTree) : Type 0 where
+-- from the folder that was the current one, which may lie outside.
+pub record IsTreeOf (standpoint : Standpoint) (outside : Bool) (current : List ℕ) (opened : Opened (List ℕ) (List Seen)) (tree : WorkTree) : Type 0 where
   pub from : tree.standpoint ≡ standpoint
   pub folds : tree.folds ≡ opened.core.ignore_case
   pub quoting : tree.quoting ≡ quoting_by opened.core.quote_path
   pub excludes : option_map vec_items tree.excludes ≡ opened.core.excludes
+  pub listing : option_map vec_items tree.listing_excludes ≡ listing_excludes outside current opened.core.excludes
   pub attributes : option_map vec_items tree.attributes ≡ opened.core.attributes
   pub untracked : tree.untracked ≡ opened.core.untracked
   pub own_excludes : opened.exclude_name ≡ Some (string_bytes tree.own_excludes)
   pub own_attributes : string_bytes tree.own_attributes ≡ told_from current opened.attributes_file
   pub git_folder : option_map vec_items tree.git_folder ≡ Some (told_from current opened.git_folder)
-  pub index : option_map (λ (index : IndexFile). string_bytes index.name) tree.index ≡ Some (told_from current opened.index_file)
-  pub format : option_map (λ (index : IndexFile). index.format) tree.index ≡ Some (format_by (last_value (codes "extensions.objectformat") opened.config))
+  pub index : MatchOption tree.index ⊥ (IsIndexOf current opened)
 
 -- the work tree of some opened repository
 abbrev pub IsFoundTree : WorkTree → Type 0
-IsFoundTree tree = (standpoint : Standpoint) × (current : List ℕ) × (opened : Opened (List ℕ) (List Seen)) × IsTreeOf standpoint current opened tree
+IsFoundTree tree = (standpoint : Standpoint) × (outside : Bool) × (current : List ℕ) × (opened : Opened (List ℕ) (List Seen)) × IsTreeOf standpoint outside current opened tree
 
 -- a file of this name in Git's part of some user's folder of settings, if the user has one
 abbrev pub IsUsersFile : List ℕ → Option (List ℕ) → Type 0
@@ -85,10 +90,10 @@ IsUsersFile name file = (config_home home : Option (List ℕ)) × (file ≡ sett
 -- current folder lies.
 pub record IsNamedTree (tree : WorkTree) : Type 0 where
   pub from : (top here : List ℕ) × StandsAt top here tree.standpoint
-  pub inside : tree.is_outside ≡ false
   pub folds : tree.folds ≡ false
   pub quoting : tree.quoting ≡ Full
   pub excludes : IsUsersFile (codes "ignore") (option_map vec_items tree.excludes)
+  pub listing : tree.listing_excludes ≡ None
   pub attributes : IsUsersFile (codes "attributes") (option_map vec_items tree.attributes)
   pub untracked : tree.untracked ≡ Normal
   pub own_excludes : string_bytes tree.own_excludes ≡ codes ".git/info/exclude"

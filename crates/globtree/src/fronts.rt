@@ -1,15 +1,14 @@
 //! The lists of patterns that count before those of all folders, and the tree that they begin.
-ghost use Rattle.std.specs.Prelude.{◌≡◌, ◌≢◌, ◌&&◌, ◌∷◌, [], IfOk, IfSome, length, map, option_map};
-ghost use Rattle.std.specs.Vec.{vec_items};
+ghost use Rattle.std.specs.Prelude.{◌≡◌, ◌≢◌, ◌∷◌, [], IfOk, IfSome, length, map};
 ghost use Rattle.gix_glob.specs.EntryLists.{entry_list_of};
 ghost use Rattle.glob_lists.specs.Rules.{by_git};
 ghost use Rattle.globtree.specs.Answers.{AreFronts, IsOfSomeFile, case_by};
-ghost use Rattle.globtree.specs.Places.{is_relative_file};
 ghost use Rattle.globtree.specs.Tracked.{IsOfIndex};
 
 use crate::excludes::{excludes, named_excludes};
 use crate::index_use::{IndexUse, Taken, take_from_index};
 use crate::moving::go_to_folders;
+use crate::opening::Purpose;
 use crate::work_tree::{WorkTree, work_tree};
 use anyhow::{Context, Result};
 use git_index::Index;
@@ -34,8 +33,6 @@ pub(crate) struct Fronts {
     pub(crate) standpoint: Standpoint,
     /// The lists before those of all folders, the weakest first.
     pub(crate) lists: Vec<PreparedList<IgnoreLines>>,
-    /// Whether Git, to list files, tells the usual file of excludes from another folder.
-    pub(crate) excludes_are_elsewhere: bool,
     /// Whether the configuration says that the case of letters doesn't count.
     pub(crate) folds: bool,
     /// Which names stand in quotes.
@@ -68,22 +65,22 @@ pub(crate) fn fronts_of<R: Files + Env + Eprint + AllocGlobal>(
     ensures before { IfOk result (λ fronts. AreFronts (length fronts.lists.items) (map (entry_list_of (λ _. tt)) fronts.lists.items)) }
     ensures unread { IfOk result (λ fronts. index ≢ IndexUse.Paths → fronts.tracked ≡ []) }
 {
-    let ground = ground_of(rt, alloc, options, false)?;
+    let ground = ground_of(rt, alloc, options, Purpose::Paths)?;
     fronts_on(rt, alloc, ground, index)
 }
 
-/// Goes to the top of the work tree. `for_status` a wrong `status.showUntrackedFiles` is a fault.
+/// Goes to the top of the work tree.
 pub(crate) fn ground_of<R: Files + Env + AllocGlobal>(
     rt: &R,
     alloc: Global,
     options: Options<'_>,
-    for_status: bool,
+    purpose: Purpose,
 ) -> Result<Ground>
     ensures { IfOk result (λ ground. IfSome ground.named (λ list. IsOfSomeFile (entry_list_of (λ _. tt) list))) }
 {
     go_to_folders(rt, alloc, options)?;
     let named = excludes_by_option(rt, alloc, options)?;
-    let tree = work_tree(rt, alloc, options, for_status)?;
+    let tree = work_tree(rt, alloc, options, purpose)?;
     Ok(Ground { tree, named })
 }
 
@@ -103,7 +100,6 @@ pub(crate) fn fronts_on<R: Files + Eprint>(
     let Taken { tracked, indexed } = take_from_index(rt, alloc, &tree.index, index)?;
     let WorkTree {
         standpoint,
-        is_outside,
         folds,
         quoting,
         excludes: file,
@@ -111,30 +107,18 @@ pub(crate) fn fronts_on<R: Files + Eprint>(
         git_folder,
         ..
     } = tree;
-    let excludes_are_elsewhere = named.is_none() && is_elsewhere(is_outside, &file);
     let outer = outer_excludes(rt, alloc, named, file)?;
     let own = excludes(rt, alloc, own_excludes)?;
     let lists = both(alloc, outer, own)?;
     Ok(Fronts {
         standpoint,
         lists,
-        excludes_are_elsewhere,
         folds,
         quoting,
         tracked,
         indexed,
         git_folder,
     })
-}
-
-/// Whether Git, to list files, tells the file of excludes from another folder: a relative path, outside of the work tree.
-fn is_elsewhere(is_outside: bool, file: &Option<Vec<u8>>) -> bool
-    ensures { result ≡ (is_outside && is_relative_file (option_map vec_items file.now)) }
-{
-    match file {
-        Some(path) => is_outside && !path.is_empty() && !path.starts_with(b"/"),
-        None => false,
-    }
 }
 
 /// The list of the file of excludes that an option names, where one does.

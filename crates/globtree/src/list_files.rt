@@ -1,5 +1,5 @@
 //! The command `files`.
-ghost use Rattle.std.specs.Prelude.{◌≡◌, ◌||◌, if◌then◌else◌, IfOk, MatchBool, OnOk, length, map};
+ghost use Rattle.std.specs.Prelude.{◌≡◌, ◌&&◌, ◌||◌, not, if◌then◌else◌, IfOk, MatchBool, OnOk, length, map};
 ghost use Rattle.gix_glob.specs.EntryLists.{entry_list_of};
 ghost use Rattle.gix_glob.specs.Watched.{inner};
 ghost use Rattle.glob_lists.specs.Rules.{by_git};
@@ -7,11 +7,13 @@ ghost use Rattle.tree_commands.specs.declared.files.mark.Mark.TheVariants as mar
 ghost use Rattle.globtree.specs.Answers.{AnswersFiles, AreFronts, ListsFound, ListsIgnored, ListsTracked, case_by};
 ghost use Rattle.tree_words.specs.Files.{are_usual, lists_tracked};
 ghost use Rattle.globtree.specs.Running.{IsAnswered, chosen_by, folders_by, form_by, tells_folders_twice};
+ghost use Rattle.globtree.specs.Tracked.{IsOfIndex};
 
-use crate::fronts::{Fronts, case_of, fronts_of, tree_behind};
+use crate::fronts::{Fronts, case_of, fronts_on, ground_of, tree_behind};
 use crate::index_use::IndexUse;
-use crate::list_tracked::{list_tracked, list_tracked_ignored};
+use crate::list_tracked::{list_index, list_tracked, list_tracked_ignored};
 use crate::listing::{copies_of, run_listing};
+use crate::opening::Purpose;
 use crate::outcomes::ANSWERED;
 use anyhow::{Result, bail};
 use gix_glob::search::Watched;
@@ -45,10 +47,11 @@ pub(crate) fn list_files<R: Files + Env + Clock + Eprint + AllocGlobal + Clone +
     if tells_folders_twice(flags) {
         bail!("--directory isn't known with -i, unless with --no-empty-directory");
     }
-    let fronts = fronts_of(rt, alloc, options, index_by(flags))?;
-    if counts_patterns(flags) && fronts.excludes_are_elsewhere {
-        bail!("a relative core.excludesFile isn't read from outside of the work tree");
+    if lists_index(flags) && options.top.is_none() {
+        list_index(rt, alloc, options, flags.nul, folder, output)?;
+        return Ok(ANSWERED);
     }
+    let fronts = listing_fronts(rt, alloc, options, index_by(flags))?;
     let status = list_found(
         rt,
         alloc,
@@ -61,6 +64,30 @@ pub(crate) fn list_files<R: Files + Env + Clock + Eprint + AllocGlobal + Clone +
     )?;
     list_tracked_by(rt, alloc, options, flags, fronts, folder, output)?;
     Ok(status)
+}
+
+/// Whether nothing is listed but what the index has, whatever the patterns say: a work tree isn't needed then.
+fn lists_index(flags: FilesFlags) -> bool
+    ensures { result ≡ (flags.cached && not ((flags.others || flags.ignored) || flags.exclude_standard)) }
+{
+    flags.cached && !(flags.others || flags.ignored || flags.exclude_standard)
+}
+
+/// Goes to the top of the work tree, and reads the files that count before those of all folders, where files are listed.
+fn listing_fronts<R: Files + Env + Eprint + AllocGlobal>(
+    rt: &R,
+    alloc: Global,
+    options: Options<'_>,
+    index: IndexUse,
+) -> Result<Fronts>
+    ensures tracked { IfOk result (λ fronts. IsOfIndex fronts.tracked) }
+    ensures before { IfOk result (λ fronts. AreFronts (length fronts.lists.items) (map (entry_list_of (λ _. tt)) fronts.lists.items)) }
+{
+    let mut ground = ground_of(rt, alloc, options, Purpose::Paths)?;
+    if let Some(file) = ground.tree.listing_excludes.take() {
+        ground.tree.excludes = Some(file);
+    }
+    fronts_on(rt, alloc, ground, index)
 }
 
 /// Whether the patterns of the usual files count.

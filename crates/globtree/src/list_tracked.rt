@@ -4,21 +4,24 @@ ghost use Rattle.std.specs.Borrow.{Bor};
 ghost use Rattle.gix_glob.specs.EntryLists.{entry_list_of};
 ghost use Rattle.gix_glob.specs.Watched.{has_failed, inner};
 ghost use Rattle.tree_commands.specs.TrackedFiles.{paths_asked};
-ghost use Rattle.globtree.specs.Answers.{AreFronts, ListsIgnored, ListsTracked};
+ghost use Rattle.globtree.specs.Answers.{AreFronts, ListsIgnored, ListsIndex, ListsTracked};
 
+use crate::moving::go_to_folders;
 use crate::outcomes::answer_of;
-use anyhow::Result;
+use crate::work_tree::index_place;
+use anyhow::{Result, bail};
 use git_index::Index;
 use gix_glob::search::Watched;
 use glob_lines::IgnoreLines;
 use glob_trees::Tree;
 use std::alloc::Global;
 use std::io::Write;
-use std::rt::Files;
+use std::rt::{Env, Files};
 use told_paths::Standpoint;
 use tree_answers::Form;
 use tree_commands::tracked_files::{tracked_at, write_ignored, write_paths};
 use tree_files::{CheckFault, FileKinds, FolderFiles};
+use tree_words::Options;
 
 /// Lists the tracked paths at or below a folder.
 pub(crate) fn list_tracked<O: Write>(
@@ -35,6 +38,27 @@ pub(crate) fn list_tracked<O: Write>(
     let paths = asked_paths(alloc, standpoint, tracked, folder)?;
     let told = write_paths(alloc, standpoint, form, &paths, output);
     answer_of(told, |fault| CheckFault::of_ignore(alloc, fault))
+}
+
+/// Lists the tracked paths at or below a folder, where the repository may have no work tree. No file of patterns is read.
+pub(crate) fn list_index<R: Files + Env + AllocGlobal, O: Write>(
+    rt: &R,
+    alloc: Global,
+    options: Options<'_>,
+    nul: bool,
+    folder: &str,
+    output: &mut Watched<O>,
+) -> Result<()>
+    ensures { OnOk result (ListsIndex nul folder.now (O.contents (inner output.old)) (O.contents (inner output.new))) }
+{
+    if output.failed() {
+        bail!("writing");
+    }
+    go_to_folders(rt, alloc, options)?;
+    let place = index_place(rt, alloc, options)?;
+    let tracked = place.index.read(rt, alloc)?;
+    let form = Form::ended_by(nul, place.quoting);
+    list_tracked(alloc, &place.standpoint, form, &tracked, folder, output)
 }
 
 /// Lists those of them that are ignored, by the patterns of a tree.

@@ -22,6 +22,17 @@ use std::rt::{Env, Files};
 use tree_files::path_text;
 use tree_words::{Options, values_of};
 
+/// What a repository is opened for.
+#[derive(Clone, Copy, PartialEq, Eq, Drop)]
+pub(crate) enum Purpose {
+    /// The paths of its work tree.
+    Paths,
+    /// The same, for `status`: a wrong `status.showUntrackedFiles` is a fault.
+    Status,
+    /// Its index, which it has without a work tree, too.
+    Index,
+}
+
 /// What the environment says before a repository is looked for.
 #[derive(Drop)]
 struct Asked {
@@ -56,14 +67,13 @@ impl Asked {
     }
 }
 
-/// Opens the repository of the current folder, whose path this is, by the variables of the environment and the words. `for_status` a wrong
-/// `status.showUntrackedFiles` is a fault.
+/// Opens the repository of the current folder, whose path this is, by the variables of the environment and the words.
 pub(crate) fn open_here<R: Files + Env>(
     rt: &R,
     alloc: Global,
     options: Options<'_>,
     current: &[u8],
-    for_status: bool,
+    purpose: Purpose,
 ) -> Result<Opened<Vec<u8>, Config>> {
     let files = DiskFiles::new(rt, alloc, User::of_process(rt, alloc)?);
     let asked = Asked::read(rt, alloc, &files)?;
@@ -78,8 +88,8 @@ pub(crate) fn open_here<R: Files + Env>(
         pairs: &pairs,
         words: &words,
         around: &asked.around,
-        needs_work_tree: true,
-        for_status,
+        needs_work_tree: purpose != Purpose::Index,
+        for_status: purpose == Purpose::Status,
     };
     with_fault_told(open(alloc, &files, &told))
 }

@@ -3,6 +3,7 @@ ghost use Rattle.std.specs.Prelude.{◌≡◌, [], IfOk, None};
 
 use crate::index_use::{IndexUse, Taken, take_from_index};
 use crate::moving::go_to_folders;
+use crate::opening::Purpose;
 use crate::work_tree::{WorkTree, work_tree};
 use anyhow::Result;
 use std::alloc::Global;
@@ -53,7 +54,7 @@ pub(crate) fn outer_attributes<R: Files + Env + Eprint + AllocGlobal>(
     let reader = AttributeFiles::new(rt, alloc, &none);
     let system = bytes_of_file(alloc, &reader, options.system.map(str::as_bytes))?;
     let named = bytes_of_file(alloc, &reader, options.attributes.map(str::as_bytes))?;
-    let tree = work_tree(rt, alloc, options, false)?;
+    let tree = work_tree(rt, alloc, options, Purpose::Paths)?;
     let Taken { indexed, .. } = take_from_index(rt, alloc, &tree.index, IndexUse::Attributes)?;
     let WorkTree {
         standpoint,

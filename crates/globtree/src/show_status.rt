@@ -8,6 +8,7 @@ ghost use Rattle.globtree.specs.Running.{IsAnswered, flags_by, form_by, ignored_
 use crate::fronts::{Fronts, case_of, fronts_on, ground_of};
 use crate::index_use::{IndexUse, take_from_index};
 use crate::listing::{copies_of, run_listing};
+use crate::opening::Purpose;
 use crate::outcomes::ANSWERED;
 use anyhow::{Context, Result, bail};
 use core_settings::ShowUntracked;
@@ -38,7 +39,7 @@ pub(crate) fn show_status<R: Files + Env + Clock + Eprint + AllocGlobal + Clone 
     ensures answered { IfOk result (λ _. AnswersStatus flags (O.contents (inner output.old)) (O.contents (inner output.new))) }
 {
     let operands = operands_of(alloc, words).context("the words")?.words;
-    let ground = ground_of(rt, alloc, options, true)?;
+    let ground = ground_of(rt, alloc, options, Purpose::Status)?;
     let flags = flags_by(flags, ground.tree.untracked);
     if let Some(message) = flags.disagreement(operands.len()) {
         bail!("{message}");

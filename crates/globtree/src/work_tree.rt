@@ -4,12 +4,12 @@ ghost use Rattle.std.specs.Vec.{vec_items};
 ghost use Rattle.core_settings.specs.Values.{last_value};
 ghost use Rattle.core_settings.specs.Views.{seen_settings};
 ghost use Rattle.opened_repository.specs.Results.{opened_of};
-ghost use Rattle.globtree.specs.Places.{IsFoundTree, IsNamedTree, IsTreeOf, IsUsersFile};
+ghost use Rattle.globtree.specs.Places.{IsFoundTree, IsIndexOf, IsNamedTree, IsTreeOf, IsUsersFile, listing_excludes};
 ghost use Rattle.globtree.specs.Running.{quoting_by};
 ghost use Rattle.globtree.specs.Tracked.{format_by};
 
 use crate::moving::{current_folder, go_to_top};
-use crate::opening::open_here;
+use crate::opening::{Purpose, open_here};
 use crate::places::{from_root, standpoint_at, standpoint_in};
 use crate::tracked::IndexFile;
 use anyhow::{Context, Result};
@@ -18,7 +18,7 @@ use git_config::Config;
 use git_index::ObjectFormat;
 use opened_repository::{Opened, told_from};
 use repository_files::variable;
-use std::alloc::Global;
+use std::alloc::{AllocError, Global};
 use std::rt::{Env, Files};
 use told_paths::{Quoting, Standpoint, below_folder};
 use tree_files::path_text;
@@ -29,14 +29,14 @@ use tree_words::Options;
 pub(crate) struct WorkTree {
     /// Where paths are told from.
     pub(crate) standpoint: Standpoint,
-    /// Whether the current folder lies outside of the work tree of a repository.
-    pub(crate) is_outside: bool,
     /// Whether the configuration says that the case of letters doesn't count.
     pub(crate) folds: bool,
     /// Which names stand in quotes, by the configuration.
     pub(crate) quoting: Quoting,
     /// The file of excludes for all repositories.
     pub(crate) excludes: Option<Vec<u8>>,
+    /// The file that a listing takes in its place, as `git ls-files` does; `None` where it takes the same.
+    pub(crate) listing_excludes: Option<Vec<u8>>,
     /// The file of attributes for all repositories.
     pub(crate) attributes: Option<Vec<u8>>,
     /// Which files `status` tells that aren't tracked, where no option says so.
@@ -51,19 +51,18 @@ pub(crate) struct WorkTree {
     pub(crate) index: Option<IndexFile>,
 }
 
-/// Goes to the top of the work tree: the folder that is named, or that of the repository of the current folder. `for_status` a wrong
-/// `status.showUntrackedFiles` is a fault.
+/// Goes to the top of the work tree: the folder that is named, or that of the repository of the current folder.
 pub(crate) fn work_tree<R: Files + Env + AllocGlobal>(
     rt: &R,
     alloc: Global,
     options: Options<'_>,
-    for_status: bool,
+    purpose: Purpose,
 ) -> Result<WorkTree>
     ensures { IfOk result (λ tree. MatchOption options.entry.top (IsFoundTree tree) (λ _. IsNamedTree tree)) }
 {
     match options.top {
         Some(top) => named_tree(rt, alloc, top),
-        None => tree_of_repository(rt, alloc, options, for_status),
+        None => tree_of_repository(rt, alloc, options, purpose),
     }
 }
 
@@ -75,10 +74,10 @@ fn named_tree<R: Files + Env + AllocGlobal>(rt: &R, alloc: Global, top: &str) ->
     let top = go_to_top(rt, alloc, top)?;
     Ok(WorkTree {
         standpoint: standpoint_at(alloc, &here, top)?,
-        is_outside: false,
         folds: false,
         quoting: Quoting::Full,
         excludes: users_file(rt, alloc, b"ignore")?,
+        listing_excludes: None,
         attributes: users_file(rt, alloc, b"attributes")?,
         untracked: ShowUntracked::Normal,
         own_excludes: String::from_str(alloc, ".git/info/exclude")?,
@@ -102,13 +101,13 @@ fn tree_of_repository<R: Files + Env + AllocGlobal>(
     rt: &R,
     alloc: Global,
     options: Options<'_>,
-    for_status: bool,
+    purpose: Purpose,
 ) -> Result<WorkTree>
     ensures { IfOk result IsFoundTree }
 {
     let here = current_folder(rt, alloc)?;
     let current = from_root(alloc, &here)?;
-    let opened = open_here(rt, alloc, options, &current, for_status)?;
+    let opened = open_here(rt, alloc, options, &current, purpose)?;
     let top = opened.top.as_deref().context("there is no work tree")?;
     let top = path_text(alloc, &told_from(alloc, &current, top)?)?;
     let top = go_to_top(rt, alloc, top.as_str())?;
@@ -125,29 +124,96 @@ fn tree_at(
     current: &[u8],
     opened: Opened<Vec<u8>, Config>,
 ) -> Result<WorkTree>
-    ensures { IfOk result (IsTreeOf standpoint current.now (opened_of opened)) }
+    ensures { IfOk result (IsTreeOf standpoint is_outside current.now (opened_of opened)) }
 {
-    let own_excludes = opened.exclude_name.context("there is no work tree")?;
     let own_attributes = told_from(alloc, current, &opened.attributes_file)?;
-    let index = told_from(alloc, current, &opened.index_file)?;
     let git_folder = told_from(alloc, current, &opened.git_folder)?;
-    let index = IndexFile {
-        name: path_text(alloc, &index)?,
-        git_folder: path_text(alloc, &git_folder)?,
-        format: format_of(&opened.config),
-    };
+    let index = index_file_of(alloc, current, &opened)?;
+    let listing_excludes = listing_excludes(alloc, current, is_outside, &opened.core.excludes)?;
+    let own_excludes = opened.exclude_name.context("there is no work tree")?;
     Ok(WorkTree {
         standpoint,
-        is_outside,
         folds: opened.core.ignore_case,
         quoting: quoting_of(opened.core.quote_path),
         excludes: opened.core.excludes,
+        listing_excludes,
         attributes: opened.core.attributes,
         untracked: opened.core.untracked,
         own_excludes: path_text(alloc, &own_excludes)?,
         own_attributes: path_text(alloc, &own_attributes)?,
         git_folder: Some(git_folder),
         index: Some(index),
+    })
+}
+
+/// The file of excludes that a listing takes in place of this one. Outside of the work tree, a relative path is told from the current folder.
+fn listing_excludes(
+    alloc: Global,
+    current: &[u8],
+    is_outside: bool,
+    file: &Option<Vec<u8>>,
+) -> Result<Option<Vec<u8>>, AllocError>
+    ensures { IfOk result (λ told. option_map vec_items told ≡ listing_excludes is_outside current.now (option_map vec_items file.now)) }
+{
+    match file {
+        Some(path) if is_outside && !path.is_empty() && !path.starts_with(b"/") => {
+            Ok(Some(told_from(alloc, current, path)?))
+        }
+        _ => Ok(None),
+    }
+}
+
+/// The index of an opened repository, which is told from this folder.
+fn index_file_of(
+    alloc: Global,
+    current: &[u8],
+    opened: &Opened<Vec<u8>, Config>,
+) -> Result<IndexFile>
+    ensures { IfOk result (IsIndexOf current.now (opened_of opened.now)) }
+{
+    let name = told_from(alloc, current, &opened.index_file)?;
+    let git_folder = told_from(alloc, current, &opened.git_folder)?;
+    Ok(IndexFile {
+        name: path_text(alloc, &name)?,
+        git_folder: path_text(alloc, &git_folder)?,
+        format: format_of(&opened.config),
+    })
+}
+
+/// The index of a repository, and from where its paths are told.
+#[derive(Drop)]
+pub(crate) struct IndexPlace {
+    /// The current folder where it lies in the work tree, and else the top.
+    pub(crate) standpoint: Standpoint,
+    /// Which names stand in quotes, by the configuration.
+    pub(crate) quoting: Quoting,
+    /// The index.
+    pub(crate) index: IndexFile,
+}
+
+/// The index of the repository of the current folder, which may have no work tree. If it has one, its top becomes the current folder.
+pub(crate) fn index_place<R: Files + Env + AllocGlobal>(
+    rt: &R,
+    alloc: Global,
+    options: Options<'_>,
+) -> Result<IndexPlace> {
+    let here = current_folder(rt, alloc)?;
+    let current = from_root(alloc, &here)?;
+    let opened = open_here(rt, alloc, options, &current, Purpose::Index)?;
+    let index = index_file_of(alloc, &current, &opened)?;
+    let quoting = quoting_of(opened.core.quote_path);
+    let standpoint = match opened.top {
+        Some(top) => {
+            let top = path_text(alloc, &told_from(alloc, &current, &top)?)?;
+            let top = go_to_top(rt, alloc, top.as_str())?;
+            standpoint_in(alloc, &here, top)?
+        }
+        None => standpoint_in(alloc, b"", Vec::new(alloc))?,
+    };
+    Ok(IndexPlace {
+        standpoint,
+        quoting,
+        index,
     })
 }
 
