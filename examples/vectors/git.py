@@ -270,6 +270,26 @@ def core_settings(home, config_home, sources, words, *fields):
         return [*rows.told(folded.startswith(b".gitignore")), *rows.told(b"\\303" in quoted), excludes or None, None if named == b"unspecified" else named]
 
 
+def status_settings(home, sources, words, *fields):
+    """Which files status tells where no option says it: in a folder with a file, or by the folder's name."""
+    if not set(sources.split()) <= READ:
+        return ()
+    with rows.folder_of([]) as folder:
+        top = os.path.realpath(os.fsencode(folder))
+        home, words, *fields = (it and it.replace(b"/top", top) for it in (home, words, *fields))
+        start = make_git_folder(top + b"/r/.git", b"main")
+        for path, text in rows.pairs(fields):
+            rows.write(path, text)
+        rows.write(start + b"/d/x", b"")
+        given = {b"PATH": os.fsencode(os.environ["PATH"]), b"HOME": home, b"GIT_CONFIG_NOSYSTEM": b"%d" % (b"/top/sys" not in sources), b"GIT_CONFIG_SYSTEM": top + b"/sys"}
+        environment = {key: value for key, value in given.items() if value is not None}
+        options = [part for word in words.split(b"\n") if word for part in (b"-c", word)]
+        ran = subprocess.run([PROGRAM, *options, "status", "--porcelain"], cwd=start, env=environment, capture_output=True, check=False)
+        if fault := re.search(rb"^fatal: (.*)$", ran.stderr, re.M):
+            return [fault[1].replace(top, b"/top")]
+        return [{b"": b"no", b"?? d/\n": b"normal", b"?? d/x\n": b"all"}[ran.stdout]]
+
+
 def config_booleans(value):
     quoted = b"" if value is None else b'="' + re.sub(rb'(["\\])', rb"\\\1", value) + b'"'
     if IS_GIT:
@@ -390,5 +410,5 @@ def exclude_names(current, words, *fields):
 
 
 OF_PATTERNS = (matching, git_paths, trees, trees_told, git_told, git_attributes, attribute_states, all_states, attribute_streams, attribute_names)
-OF_CONFIGURATION = (config_files, config_includes, config_sources, core_settings, config_booleans)
+OF_CONFIGURATION = (config_files, config_includes, config_sources, core_settings, status_settings, config_booleans)
 rows.answer({it.__name__: it for it in (*OF_PATTERNS, *OF_CONFIGURATION, repositories, work_trees, exclude_names, tracked_paths, folded_paths, pathspecs)})

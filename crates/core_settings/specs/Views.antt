@@ -8,7 +8,7 @@ use Rattle.git_config.specs.declared.config.Source.{Source}
 use Rattle.git_config.specs.declared.config.Source.TheVariants as git
 use Rattle.git_config.specs.Configuration.{Seen, seen_setting}
 use Rattle.core_settings.specs.declared.fault.CoreFault.{CoreFault}
-use Rattle.core_settings.specs.declared.fault.CoreFault.TheVariants.{Boolean, Memory, NoFolder, NoPath}
+use Rattle.core_settings.specs.declared.fault.CoreFault.TheVariants.{Boolean, Entry, Memory, NoFolder}
 use Rattle.core_settings.specs.declared.fault.SourcesFault.{SourcesFault}
 use Rattle.core_settings.specs.declared.fault.SourcesFault.TheVariants.{NoSystem, Pairs}
 use Rattle.core_settings.specs.declared.sources.ConfigPlaces.{ConfigPlaces}
@@ -52,12 +52,18 @@ sources_fault_with see (NoSystem value) = NoSystem (see value)
 sources_fault_with see (Pairs wrong) = Pairs wrong
 
 abbrev pub settings_with : {A B : Type 0} → (A → B) → CoreSettings A → CoreSettings B
-settings_with see core = record { ignore_case = core.ignore_case; quote_path = core.quote_path; excludes = option_map see core.excludes; attributes = option_map see core.attributes }
+settings_with see core = record {
+  ignore_case = core.ignore_case;
+  quote_path = core.quote_path;
+  excludes = option_map see core.excludes;
+  attributes = option_map see core.attributes;
+  untracked = core.untracked;
+}
 
 abbrev pub fault_with : {A B : Type 0} → (A → B) → CoreFault A → CoreFault B
 fault_with see Memory = Memory
 fault_with see (Boolean key value) = Boolean (see key) (see value)
-fault_with see (NoPath key file line) = NoPath (see key) (option_map see file) line
+fault_with see (Entry key file line) = Entry (see key) (option_map see file) line
 fault_with see (NoFolder value) = NoFolder (see value)
 
 -- the entries of a configuration

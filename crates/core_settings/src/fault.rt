@@ -67,8 +67,8 @@ pub enum CoreFault<B> {
         /// The value.
         value: B,
     },
-    /// The key of a path has no value.
-    NoPath {
+    /// An entry says what it can't: the key of a path has no value, or `status.showUntrackedFiles` names no mode.
+    Entry {
         /// The key, in lower case.
         key: B,
         /// The file that says so; `None` where it is a word.
@@ -105,7 +105,7 @@ impl fmt::Display for CoreFault<Vec<u8>> {
                 let (key, value) = (BStr::new(key), BStr::new(value));
                 write!(f, "bad boolean config value '{value}' for '{key}'")
             }
-            CoreFault::NoPath { key, file, line } => {
+            CoreFault::Entry { key, file, line } => {
                 let key = BStr::new(key);
                 match file {
                     Some(file) => {

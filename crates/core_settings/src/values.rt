@@ -1,4 +1,4 @@
-//! What the section `core` sets of matching and printing.
+//! What a configuration sets of matching, printing and listing.
 ghost use Rattle.std.specs.Prelude.{◌≡◌, ◌⊎◌, ◌==◌, map, option_and_then, option_map, position, IfErr, IfOk};
 ghost use Rattle.std.specs.List.{list_any};
 ghost use Rattle.std.specs.Option.{option_copied};
@@ -7,7 +7,7 @@ ghost use Rattle.std.specs.Vec.{vec_items};
 ghost use Rattle.git_config.specs.Configuration.{key_of, seen_setting};
 ghost use Rattle.git_config.specs.Grammar.{before_zero};
 ghost use Rattle.core_settings.specs.Private.{Tells};
-ghost use Rattle.core_settings.specs.Values.{boolean_at, boolean_fault, core_of, fault_of, file_at, first_fault, if_path, is_boolean, is_path, last_value, path_fault, told_path};
+ghost use Rattle.core_settings.specs.Values.{boolean_at, boolean_fault, core_of, entry_fault, fault_of, file_at, first_fault, if_path, is_boolean, is_mode, is_path, last_value, path_fault, told_path};
 ghost use Rattle.core_settings.specs.UserFiles.{settings_file};
 ghost use Rattle.core_settings.specs.Views.{fault_with, seen_settings, settings_with};
 ghost use Rattle.core_settings.specs.declared.fault.CoreFault.TheVariants.{Memory};
@@ -15,11 +15,12 @@ ghost use Rattle.core_settings.specs.declared.fault.CoreFault.TheVariants.{Memor
 use crate::bytes::{joined, slice_of};
 use crate::fault::CoreFault;
 use crate::paths::told_path;
+use crate::untracked::{ShowUntracked, mode_in, mode_of};
 use crate::user_files::settings_file;
 use git_config::{Config, ReadSetting, Surroundings, boolean};
 use std::alloc::{AllocError, Global};
 
-/// What the section `core` sets of matching and printing. `B` holds the bytes of a path; one that isn't absolute is told from the top
+/// What the section `core` sets of matching and printing, and `status` of listing. `B` holds the bytes of a path; one that isn't absolute is told from the top
 /// of the work tree.
 #[derive(Debug, PartialEq, Eq, Drop)]
 pub struct CoreSettings<B> {
@@ -31,23 +32,27 @@ pub struct CoreSettings<B> {
     pub excludes: Option<B>,
     /// `attributesFile`: a file of attributes for each repository.
     pub attributes: Option<B>,
+    /// `status.showUntrackedFiles`: which files `status` tells that aren't tracked.
+    pub untracked: ShowUntracked,
 }
 
 /// What a configuration sets. `config_home` is `XDG_CONFIG_HOME`, and `around.home` is `HOME`.
 ///
 /// # Errors
-/// The first entry that is wrong, of all the keys of `core` that Git looks at, also where a later one is right: a boolean that is none,
-/// a path without a value, or one in a folder that isn't known. [`CoreFault::Memory`] where memory was refused.
+/// The first entry that is wrong, of all the keys of `core` that Git looks at, and `for_status` of `status.showUntrackedFiles`, too; also
+/// where a later one is right: a boolean that is none, a path without a value, or one in a folder that isn't known, a mode that is none.
+/// [`CoreFault::Memory`] where memory was refused.
 pub fn core_settings(
     alloc: Global,
     config: &Config,
     around: &Surroundings,
     config_home: Option<&[u8]>,
+    for_status: bool,
 ) -> Result<CoreSettings<Vec<u8>>, CoreFault<Vec<u8>>>
-    ensures settings { IfOk result (λ core. core_of around.now (option_copied config_home.entry) (seen_settings config.now) ≡ Ok (settings_with vec_items core)) }
-    ensures fault { IfErr result (λ fault. (fault ≡ Memory) ⊎ (core_of around.now (option_copied config_home.entry) (seen_settings config.now) ≡ Err (fault_with vec_items fault))) }
+    ensures settings { IfOk result (λ core. core_of for_status around.now (option_copied config_home.entry) (seen_settings config.now) ≡ Ok (settings_with vec_items core)) }
+    ensures fault { IfErr result (λ fault. (fault ≡ Memory) ⊎ (core_of for_status around.now (option_copied config_home.entry) (seen_settings config.now) ≡ Err (fault_with vec_items fault))) }
 {
-    check_settings(alloc, config, around)?;
+    check_settings(alloc, config, around, for_status)?;
     Ok(CoreSettings {
         ignore_case: boolean_at(config, b"core.ignorecase", false),
         quote_path: boolean_at(config, b"core.quotepath", true),
@@ -67,6 +72,7 @@ pub fn core_settings(
             b"core.attributesfile",
             b"attributes",
         )?,
+        untracked: mode_in(config),
     })
 }
 
@@ -75,13 +81,14 @@ fn check_settings(
     alloc: Global,
     config: &Config,
     around: &Surroundings,
+    for_status: bool,
 ) -> Result<(), CoreFault<Vec<u8>>>
-    ensures { Tells (first_fault around.now (seen_settings config.now)) result }
+    ensures { Tells (first_fault for_status around.now (seen_settings config.now)) result }
 {
     let mut rest = config.settings.as_slice();
     'settings: while let Some((setting, more)) = rest.split_first() {
         rest = more;
-        check_setting(alloc, around, setting)?;
+        check_setting(alloc, around, for_status, setting)?;
     }
     Ok(())
 }
@@ -90,9 +97,10 @@ fn check_settings(
 fn check_setting(
     alloc: Global,
     around: &Surroundings,
+    for_status: bool,
     setting: &ReadSetting,
 ) -> Result<(), CoreFault<Vec<u8>>>
-    ensures { Tells (fault_of around.now (seen_setting setting.now)) result }
+    ensures { Tells (fault_of for_status around.now (seen_setting setting.now)) result }
 {
     let key = key_of(alloc, setting)?;
     if is_boolean(&key) {
@@ -100,6 +108,9 @@ fn check_setting(
     }
     if is_path(&key) {
         return check_path(alloc, around, key, setting);
+    }
+    if is_mode(for_status, &key) && mode_of(&setting.entry.value).is_none() {
+        return Err(entry_fault(alloc, key, setting)?);
     }
     Ok(())
 }
@@ -131,16 +142,27 @@ fn check_path(
     ensures { key.items ≡ key_of (seen_setting setting.now) → Tells (path_fault around.now (seen_setting setting.now) (option_map vec_items setting.now.entry.value)) result }
 {
     let Some(value) = &setting.entry.value else {
-        return Err(CoreFault::NoPath {
-            key,
-            file: file_of(alloc, setting)?,
-            line: setting.entry.line,
-        });
+        return Err(entry_fault(alloc, key, setting)?);
     };
     if told_path(alloc, around, value)?.is_none() {
         return Err(CoreFault::NoFolder(value.clone()?));
     }
     Ok(())
+}
+
+/// The fault of an entry with this key.
+fn entry_fault(
+    alloc: Global,
+    key: Vec<u8>,
+    setting: &ReadSetting,
+) -> Result<CoreFault<Vec<u8>>, AllocError>
+    ensures { key.items ≡ key_of (seen_setting setting.now) → IfOk result (λ fault. fault_with vec_items fault ≡ entry_fault (seen_setting setting.now)) }
+{
+    Ok(CoreFault::Entry {
+        key,
+        file: file_of(alloc, setting)?,
+        line: setting.entry.line,
+    })
 }
 
 /// The file that a setting tells.
@@ -219,6 +241,13 @@ fn is_path(key: &[u8]) -> bool
     ensures { result ≡ is_path key.now }
 {
     is_among(key, &PATHS)
+}
+
+/// Whether Git, for `status`, looks for a mode at a key.
+fn is_mode(for_status: bool, key: &[u8]) -> bool
+    ensures { result ≡ is_mode for_status key.now }
+{
+    for_status && key == b"status.showuntrackedfiles".as_slice()
 }
 
 /// Whether a key is among some.

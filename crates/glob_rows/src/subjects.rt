@@ -49,7 +49,7 @@ impl Subject {
 }
 
 /// All files of rows, in the order in which they are asked: the name of each, how many fields are the answer, and what is asked.
-pub(crate) const FILES: [(&str, usize, Subject); 61] = [
+pub(crate) const FILES: [(&str, usize, Subject); 62] = [
     ("matching", 1, Subject::Pattern(PatternSubject::Matching)),
     ("starts", 1, Subject::Pattern(PatternSubject::Starts)),
     ("attempts", 1, Subject::Pattern(PatternSubject::Attempts)),
@@ -205,6 +205,11 @@ pub(crate) const FILES: [(&str, usize, Subject); 61] = [
         "core_settings",
         4,
         Subject::Repository(RepositorySubject::CoreSettings),
+    ),
+    (
+        "status_settings",
+        1,
+        Subject::Repository(RepositorySubject::StatusSettings),
     ),
     (
         "config_booleans",

@@ -3,6 +3,7 @@ use Rattle.std.specs.Prelude.{◌≡◌, ◌||◌, ℕ, Bool, true, false, if◌
 use Rattle.std.specs.Io.KnownBytes.{Appends}
 use Rattle.std.specs.List.{flat_map}
 use Rattle.config_answers.specs.Answers.{Asked, All, Last, Values, answer_of, has_answer}
+use Rattle.core_settings.specs.declared.untracked.ShowUntracked.{ShowUntracked}
 use Rattle.git_config.specs.Configuration.{Seen}
 use Rattle.git_config.specs.Words.{canonical_of}
 use Rattle.git_index.specs.Entries.{Tracked}
@@ -41,7 +42,7 @@ use Rattle.tree_words.specs.Help.{IsHelp}
 use Rattle.tree_words.specs.Operands.{dashes_at, operands_among}
 use Rattle.tree_words.specs.Status.{tells_ignored, tells_untracked}
 use Rattle.tree_words.specs.Words.{Ask}
-use Rattle.globtree.specs.Running.{asked_by_flags, form_by, manner_by}
+use Rattle.globtree.specs.Running.{asked_by_flags, flags_by, form_by, manner_by}
 use Rattle.globtree.specs.Tracked.{IsOfIndex}
 
 abbrev pub any_file : Folder → Option (List ℕ) → Type 0
@@ -157,12 +158,14 @@ IsAtTop standpoint = (standpoint.is_inside ≡ true) × (standpoint.here.items �
 abbrev pub ListsFromTop : Mark → Form → Option (List ℕ) → Option (List ℕ) → Type 0
 ListsFromTop mark form old new = (standpoint : Standpoint) × IsAtTop standpoint × ListsFound mark standpoint form old new
 
--- What `status` tells: files that aren't tracked, and then ignored ones, each kind behind its mark, where it is asked for.
+-- What `status` tells: files that aren't tracked, and then ignored ones, each kind behind its mark, where it is asked for. Where no option
+-- says which files are told that aren't tracked, it is what the configuration shows.
 pub record AnswersStatus (flags : StatusFlags) (old new : Option (List ℕ)) : Type 0 where
   pub quoting : Quoting
+  pub shown : ShowUntracked
   pub middle : Option (List ℕ)
-  pub untracked : MatchBool (tells_untracked flags) (ListsFromTop marks.Untracked (form_by flags.nul quoting) old middle) (middle ≡ old)
-  pub ignored : MatchBool (tells_ignored flags) (ListsFromTop marks.Ignored (form_by flags.nul quoting) middle new) (new ≡ middle)
+  pub untracked : MatchBool (tells_untracked (flags_by flags shown)) (ListsFromTop marks.Untracked (form_by flags.nul quoting) old middle) (middle ≡ old)
+  pub ignored : MatchBool (tells_ignored (flags_by flags shown)) (ListsFromTop marks.Ignored (form_by flags.nul quoting) middle new) (new ≡ middle)
 
 -- what entries answer was written, and the status says whether there is an answer
 pub record IsShown (flags : ConfigFlags) (asked : Asked) (settings : List Seen) (status : ℕ) (old new : Option (List ℕ)) : Type 0 where

@@ -6,6 +6,7 @@ use Rattle.std.specs.Vec.{vec_items}
 use Rattle.gix_glob.specs.Bytes.{slash}
 use Rattle.core_settings.specs.UserFiles.{settings_file}
 use Rattle.core_settings.specs.Values.{last_value}
+use Rattle.core_settings.specs.declared.untracked.ShowUntracked.TheVariants.{Normal}
 use Rattle.git_config.specs.Configuration.{Seen}
 use Rattle.git_config.specs.Numbers.{boolean_of}
 use Rattle.git_repository.specs.GitFolders.{told_from}
@@ -65,6 +66,7 @@ pub record IsTreeOf (standpoint : Standpoint) (current : List ℕ) (opened : Ope
   pub quoting : tree.quoting ≡ quoting_by opened.core.quote_path
   pub excludes : option_map vec_items tree.excludes ≡ opened.core.excludes
   pub attributes : option_map vec_items tree.attributes ≡ opened.core.attributes
+  pub untracked : tree.untracked ≡ opened.core.untracked
   pub own_excludes : opened.exclude_name ≡ Some (string_bytes tree.own_excludes)
   pub own_attributes : string_bytes tree.own_attributes ≡ told_from current opened.attributes_file
   pub git_folder : option_map vec_items tree.git_folder ≡ Some (told_from current opened.git_folder)
@@ -88,6 +90,7 @@ pub record IsNamedTree (tree : WorkTree) : Type 0 where
   pub quoting : tree.quoting ≡ Full
   pub excludes : IsUsersFile (codes "ignore") (option_map vec_items tree.excludes)
   pub attributes : IsUsersFile (codes "attributes") (option_map vec_items tree.attributes)
+  pub untracked : tree.untracked ≡ Normal
   pub own_excludes : string_bytes tree.own_excludes ≡ codes ".git/info/exclude"
   pub own_attributes : string_bytes tree.own_attributes ≡ codes ".git/info/attributes"
   pub without : (tree.git_folder ≡ None) × (tree.index ≡ None)

@@ -1,6 +1,8 @@
 -- What the program ends with, and what is asked of it.
 use Rattle.std.specs.Prelude.{◌≡◌, ◌⊎◌, ◌&&◌, ◌||◌, ℕ, Bool, true, not, List, Some, if◌then◌else◌}
 use Rattle.std.specs.Borrow.{Bor}
+use Rattle.core_settings.specs.declared.untracked.ShowUntracked.{ShowUntracked}
+use Rattle.core_settings.specs.declared.untracked.ShowUntracked.TheVariants as shown
 use Rattle.near_words.specs.Near.{IsNearest, bytes_of}
 use Rattle.told_paths.specs.declared.quoting.Quoting.{Quoting}
 use Rattle.told_paths.specs.declared.quoting.Quoting.TheVariants.{AsciiOnly, Full}
@@ -67,6 +69,18 @@ manner_by flags = record { nul = flags.nul; origin = flags.show_origin }
 -- folders are to be told by their names and gone into: those in which all is ignored, of the ignored paths
 abbrev pub tells_folders_twice : FilesFlags → Bool
 tells_folders_twice flags = ((flags.others && flags.directory) && flags.ignored) && not flags.no_empty_directory
+
+-- which files `status` tells that aren't tracked: those of an option, or else of the configuration
+abbrev pub untracked_by : UntrackedFiles → ShowUntracked → UntrackedFiles
+untracked_by untracked.Unsaid shown.No = untracked.No
+untracked_by untracked.Unsaid shown.Normal = untracked.Normal
+untracked_by untracked.Unsaid shown.All = untracked.All
+untracked_by untracked.No told = untracked.No
+untracked_by untracked.Normal told = untracked.Normal
+untracked_by untracked.All told = untracked.All
+
+abbrev pub flags_by : StatusFlags → ShowUntracked → StatusFlags
+flags_by flags told = record flags { untracked = untracked_by flags.untracked told }
 
 -- folders are told so where `status` tells them by their names, and else gone into
 abbrev pub named_if_normal : UntrackedFiles → Folders → Folders

@@ -48,6 +48,15 @@ pub(crate) struct Fronts {
     pub(crate) git_folder: Option<Vec<u8>>,
 }
 
+/// Where a command stands before any file of excludes is read but one that is named.
+#[derive(Drop)]
+pub(crate) struct Ground {
+    /// The work tree, whose top is the current folder.
+    pub(crate) tree: WorkTree,
+    /// The list of the file of excludes that an option names.
+    pub(crate) named: Option<List<IgnoreLines>>,
+}
+
 /// Goes to the top of the work tree, and reads the files that count before those of all folders.
 pub(crate) fn fronts_of<R: Files + Env + Eprint + AllocGlobal>(
     rt: &R,
@@ -59,9 +68,38 @@ pub(crate) fn fronts_of<R: Files + Env + Eprint + AllocGlobal>(
     ensures before { IfOk result (λ fronts. AreFronts (length fronts.lists.items) (map (entry_list_of (λ _. tt)) fronts.lists.items)) }
     ensures unread { IfOk result (λ fronts. index ≢ IndexUse.Paths → fronts.tracked ≡ []) }
 {
+    let ground = ground_of(rt, alloc, options, false)?;
+    fronts_on(rt, alloc, ground, index)
+}
+
+/// Goes to the top of the work tree. `for_status` a wrong `status.showUntrackedFiles` is a fault.
+pub(crate) fn ground_of<R: Files + Env + AllocGlobal>(
+    rt: &R,
+    alloc: Global,
+    options: Options<'_>,
+    for_status: bool,
+) -> Result<Ground>
+    ensures { IfOk result (λ ground. IfSome ground.named (λ list. IsOfSomeFile (entry_list_of (λ _. tt) list))) }
+{
     go_to_folders(rt, alloc, options)?;
     let named = excludes_by_option(rt, alloc, options)?;
-    let tree = work_tree(rt, alloc, options)?;
+    let tree = work_tree(rt, alloc, options, for_status)?;
+    Ok(Ground { tree, named })
+}
+
+/// Reads the files that count before those of all folders.
+pub(crate) fn fronts_on<R: Files + Eprint>(
+    rt: &R,
+    alloc: Global,
+    ground: Ground,
+    index: IndexUse,
+) -> Result<Fronts>
+    requires { IfSome ground.named (λ list. IsOfSomeFile (entry_list_of (λ _. tt) list)) }
+    ensures tracked { IfOk result (λ fronts. IsOfIndex fronts.tracked) }
+    ensures before { IfOk result (λ fronts. AreFronts (length fronts.lists.items) (map (entry_list_of (λ _. tt)) fronts.lists.items)) }
+    ensures unread { IfOk result (λ fronts. index ≢ IndexUse.Paths → fronts.tracked ≡ []) }
+{
+    let Ground { tree, named } = ground;
     let Taken { tracked, indexed } = take_from_index(rt, alloc, &tree.index, index)?;
     let WorkTree {
         standpoint,

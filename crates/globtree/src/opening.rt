@@ -56,12 +56,14 @@ impl Asked {
     }
 }
 
-/// Opens the repository of the current folder, whose path this is, by the variables of the environment and the words.
+/// Opens the repository of the current folder, whose path this is, by the variables of the environment and the words. `for_status` a wrong
+/// `status.showUntrackedFiles` is a fault.
 pub(crate) fn open_here<R: Files + Env>(
     rt: &R,
     alloc: Global,
     options: Options<'_>,
     current: &[u8],
+    for_status: bool,
 ) -> Result<Opened<Vec<u8>, Config>> {
     let files = DiskFiles::new(rt, alloc, User::of_process(rt, alloc)?);
     let asked = Asked::read(rt, alloc, &files)?;
@@ -77,6 +79,7 @@ pub(crate) fn open_here<R: Files + Env>(
         words: &words,
         around: &asked.around,
         needs_work_tree: true,
+        for_status,
     };
     with_fault_told(open(alloc, &files, &told))
 }
@@ -103,6 +106,7 @@ pub(crate) fn config_here<R: Files + Env + AllocGlobal>(
         words: &words,
         around: &asked.around,
         needs_work_tree: false,
+        for_status: false,
     };
     let place = with_fault_told(config_place(alloc, &files, &told))?;
     if let Some(top) = &place.top {

@@ -53,7 +53,7 @@ pub(crate) fn outer_attributes<R: Files + Env + Eprint + AllocGlobal>(
     let reader = AttributeFiles::new(rt, alloc, &none);
     let system = bytes_of_file(alloc, &reader, options.system.map(str::as_bytes))?;
     let named = bytes_of_file(alloc, &reader, options.attributes.map(str::as_bytes))?;
-    let tree = work_tree(rt, alloc, options)?;
+    let tree = work_tree(rt, alloc, options, false)?;
     let Taken { indexed, .. } = take_from_index(rt, alloc, &tree.index, IndexUse::Attributes)?;
     let WorkTree {
         standpoint,

@@ -3,13 +3,14 @@ ghost use Rattle.std.specs.Prelude.{◌≡◌, [], IfOk, map, string_bytes};
 ghost use Rattle.gix_glob.specs.Watched.{inner};
 ghost use Rattle.tree_words.specs.Operands.{operands_among};
 ghost use Rattle.globtree.specs.Answers.{AnswersStatus, IsAtTop};
-ghost use Rattle.globtree.specs.Running.{IsAnswered, form_by, ignored_folders, named_if_normal, status_folders};
+ghost use Rattle.globtree.specs.Running.{IsAnswered, flags_by, form_by, ignored_folders, named_if_normal, status_folders, untracked_by};
 
-use crate::fronts::{Fronts, case_of, fronts_of};
-use crate::index_use::IndexUse;
+use crate::fronts::{Fronts, case_of, fronts_on, ground_of};
+use crate::index_use::{IndexUse, take_from_index};
 use crate::listing::{copies_of, run_listing};
 use crate::outcomes::ANSWERED;
 use anyhow::{Context, Result, bail};
+use core_settings::ShowUntracked;
 use gix_glob::search::Watched;
 use std::alloc::Global;
 use std::io::Write;
@@ -37,16 +38,17 @@ pub(crate) fn show_status<R: Files + Env + Clock + Eprint + AllocGlobal + Clone 
     ensures answered { IfOk result (λ _. AnswersStatus flags (O.contents (inner output.old)) (O.contents (inner output.new))) }
 {
     let operands = operands_of(alloc, words).context("the words")?.words;
+    let ground = ground_of(rt, alloc, options, true)?;
+    let flags = flags_by(flags, ground.tree.untracked);
     if let Some(message) = flags.disagreement(operands.len()) {
         bail!("{message}");
     }
-    if matches!(flags.untracked, UntrackedFiles::Unsaid) {
-        bail!("status.showUntrackedFiles isn't read: give -unormal, -uall or -uno");
-    }
-    let fronts = fronts_of(rt, alloc, options, IndexUse::Paths)?;
     if !flags.tells_untracked() {
+        // Git reads the index, too, and ends at its faults
+        take_from_index(rt, alloc, &ground.tree.index, IndexUse::Paths)?;
         return Ok(ANSWERED);
     }
+    let fronts = fronts_on(rt, alloc, ground, IndexUse::Paths)?;
     let listing = listing_of(alloc, options, flags, &fronts, Mark::Untracked)?;
     let status = run_listing(rt, alloc, listing, &fronts, ".", shows_progress, output)?;
     if !flags.tells_ignored() {
@@ -55,6 +57,28 @@ pub(crate) fn show_status<R: Files + Env + Clock + Eprint + AllocGlobal + Clone 
     // what can't be read for those that aren't ignored can't be for these, which lie in more folders
     let listing = listing_of(alloc, options, flags, &fronts, Mark::Ignored)?;
     run_listing(rt, alloc, listing, &fronts, ".", shows_progress, output)
+}
+
+/// The flags, with what the configuration says where no option says which files are told that aren't tracked.
+fn flags_by(flags: StatusFlags, shown: ShowUntracked) -> StatusFlags
+    ensures { result ≡ flags_by flags shown }
+{
+    StatusFlags {
+        untracked: untracked_by(flags.untracked, shown),
+        ..flags
+    }
+}
+
+/// Which files are told that aren't tracked: those of an option, where one says so.
+fn untracked_by(said: UntrackedFiles, shown: ShowUntracked) -> UntrackedFiles
+    ensures { result ≡ untracked_by said shown }
+{
+    match (said, shown) {
+        (UntrackedFiles::Unsaid, ShowUntracked::No) => UntrackedFiles::No,
+        (UntrackedFiles::Unsaid, ShowUntracked::Normal) => UntrackedFiles::Normal,
+        (UntrackedFiles::Unsaid, ShowUntracked::All) => UntrackedFiles::All,
+        _ => said,
+    }
 }
 
 /// What is asked of a listing from the top of the files that this mark stands before.

@@ -13,7 +13,7 @@ use crate::opening::open_here;
 use crate::places::{from_root, standpoint_at, standpoint_in};
 use crate::tracked::IndexFile;
 use anyhow::{Context, Result};
-use core_settings::settings_file;
+use core_settings::{ShowUntracked, settings_file};
 use git_config::Config;
 use git_index::ObjectFormat;
 use opened_repository::{Opened, told_from};
@@ -39,6 +39,8 @@ pub(crate) struct WorkTree {
     pub(crate) excludes: Option<Vec<u8>>,
     /// The file of attributes for all repositories.
     pub(crate) attributes: Option<Vec<u8>>,
+    /// Which files `status` tells that aren't tracked, where no option says so.
+    pub(crate) untracked: ShowUntracked,
     /// The repository's own file of excludes.
     pub(crate) own_excludes: String,
     /// The repository's own file of attributes.
@@ -49,17 +51,19 @@ pub(crate) struct WorkTree {
     pub(crate) index: Option<IndexFile>,
 }
 
-/// Goes to the top of the work tree: the folder that is named, or that of the repository of the current folder.
+/// Goes to the top of the work tree: the folder that is named, or that of the repository of the current folder. `for_status` a wrong
+/// `status.showUntrackedFiles` is a fault.
 pub(crate) fn work_tree<R: Files + Env + AllocGlobal>(
     rt: &R,
     alloc: Global,
     options: Options<'_>,
+    for_status: bool,
 ) -> Result<WorkTree>
     ensures { IfOk result (λ tree. MatchOption options.entry.top (IsFoundTree tree) (λ _. IsNamedTree tree)) }
 {
     match options.top {
         Some(top) => named_tree(rt, alloc, top),
-        None => tree_of_repository(rt, alloc, options),
+        None => tree_of_repository(rt, alloc, options, for_status),
     }
 }
 
@@ -76,6 +80,7 @@ fn named_tree<R: Files + Env + AllocGlobal>(rt: &R, alloc: Global, top: &str) ->
         quoting: Quoting::Full,
         excludes: users_file(rt, alloc, b"ignore")?,
         attributes: users_file(rt, alloc, b"attributes")?,
+        untracked: ShowUntracked::Normal,
         own_excludes: String::from_str(alloc, ".git/info/exclude")?,
         own_attributes: String::from_str(alloc, ".git/info/attributes")?,
         git_folder: None,
@@ -97,12 +102,13 @@ fn tree_of_repository<R: Files + Env + AllocGlobal>(
     rt: &R,
     alloc: Global,
     options: Options<'_>,
+    for_status: bool,
 ) -> Result<WorkTree>
     ensures { IfOk result IsFoundTree }
 {
     let here = current_folder(rt, alloc)?;
     let current = from_root(alloc, &here)?;
-    let opened = open_here(rt, alloc, options, &current)?;
+    let opened = open_here(rt, alloc, options, &current, for_status)?;
     let top = opened.top.as_deref().context("there is no work tree")?;
     let top = path_text(alloc, &told_from(alloc, &current, top)?)?;
     let top = go_to_top(rt, alloc, top.as_str())?;
@@ -137,6 +143,7 @@ fn tree_at(
         quoting: quoting_of(opened.core.quote_path),
         excludes: opened.core.excludes,
         attributes: opened.core.attributes,
+        untracked: opened.core.untracked,
         own_excludes: path_text(alloc, &own_excludes)?,
         own_attributes: path_text(alloc, &own_attributes)?,
         git_folder: Some(git_folder),

@@ -24,6 +24,7 @@ pub record Said : Type 0 where
   pub words : List (List ℕ)
   pub around : Surroundings
   pub needs_work_tree : Bool
+  pub for_status : Bool
 
 abbrev pub said_of : Told → Said
 said_of told = record {
@@ -35,6 +36,7 @@ said_of told = record {
   words = map (λ b. b.now) told.words.now;
   around = told.around.now;
   needs_work_tree = told.needs_work_tree;
+  for_status = told.for_status;
 }
 
 -- a repository that was opened

@@ -17,7 +17,7 @@ pub struct Opened<B, C> {
     pub top: Option<B>,
     /// The entries of all files and words.
     pub config: C,
-    /// What the section `core` sets. Its files are as they are told there.
+    /// What the configuration sets. Its files are as they are told there.
     pub core: CoreSettings<B>,
     /// The file of excludes that `core` sets, from the top of the work tree.
     pub excludes: Option<B>,

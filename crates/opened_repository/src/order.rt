@@ -90,15 +90,21 @@ pub(crate) fn folders<S: FileSystem + ConfigFiles>(
     Ok(folders_of(alloc, source, &told.environment, found)?)
 }
 
-/// What the section `core` sets.
+/// What the configuration sets.
 fn core<F>(
     alloc: Global,
     told: &Told<'_>,
     config: &Config,
 ) -> Result<CoreSettings<Vec<u8>>, OpenFault<F>>
-    ensures { Tells (Unit {0}) (core_views.settings_with vec_items) result (is (core_told (core_of (said_of told.now).around (said_of told.now).places.config_home (seen_settings config.now)))) }
+    ensures { Tells (Unit {0}) (core_views.settings_with vec_items) result (is (core_told (core_of (said_of told.now).for_status (said_of told.now).around (said_of told.now).places.config_home (seen_settings config.now)))) }
 {
-    Ok(core_settings(alloc, config, told.around, told.places.config_home)?)
+    Ok(core_settings(
+        alloc,
+        config,
+        told.around,
+        told.places.config_home,
+        told.for_status,
+    )?)
 }
 
 /// The top of the work tree.

@@ -24,4 +24,6 @@ pub struct Told<'a> {
     pub around: &'a Surroundings,
     /// Whether the command needs a work tree: one that isn't there is then a fault, before any value is looked at.
     pub needs_work_tree: bool,
+    /// Whether the command is `status`, to which a wrong `status.showUntrackedFiles` is a fault.
+    pub for_status: bool,
 }

@@ -1,7 +1,7 @@
-//! Rows of the section `core`: what files and words set of matching and printing.
+//! Rows of what files and words set of matching, printing and listing.
 
 use crate::config_includes::{Files, around_home, sources_of};
-use core_settings::{CoreFault, core_settings as settings_of};
+use core_settings::{CoreFault, ShowUntracked, core_settings as settings_of};
 use git_config::{Config, ReadFault, Source, Surroundings};
 use row_texts::{Answer, Question, RowFault};
 use std::alloc::Global;
@@ -19,7 +19,7 @@ pub(crate) fn core_settings(
     let around = around_home(alloc, question.option(0)?)?;
     let sources = sources_of(alloc, question.bytes(2)?, question.bytes(3)?)?;
     let config = config_of(alloc, &files, &around, &sources)?;
-    match settings_of(alloc, &config, &around, question.option(1)?) {
+    match settings_of(alloc, &config, &around, question.option(1)?, false) {
         Ok(core) => {
             answer.push_bool(core.ignore_case)?;
             answer.push_bool(core.quote_path)?;
@@ -30,7 +30,36 @@ pub(crate) fn core_settings(
     }
 }
 
-/// What files and words say. Rows of core settings have none that is wrong.
+/// Which files `status` tells that aren't tracked, by files and then words, or the first fault.
+pub(crate) fn status_settings(
+    alloc: Global,
+    question: &Question,
+    answer: &mut Answer,
+) -> Result<(), RowFault> {
+    let files = Files {
+        alloc,
+        fields: question.rest(3),
+    };
+    let around = around_home(alloc, question.option(0)?)?;
+    let sources = sources_of(alloc, question.bytes(1)?, question.bytes(2)?)?;
+    let config = config_of(alloc, &files, &around, &sources)?;
+    match settings_of(alloc, &config, &around, None, true) {
+        Ok(core) => answer.push(name_of(core.untracked)),
+        Err(CoreFault::Memory) => Err(RowFault::Memory),
+        Err(fault) => answer.push_shown(alloc, &fault),
+    }
+}
+
+/// The name of a mode.
+fn name_of(mode: ShowUntracked) -> &'static [u8] {
+    match mode {
+        ShowUntracked::No => b"no",
+        ShowUntracked::Normal => b"normal",
+        ShowUntracked::All => b"all",
+    }
+}
+
+/// What files and words say. Rows of settings have none that is wrong.
 fn config_of(
     alloc: Global,
     files: &Files<'_>,

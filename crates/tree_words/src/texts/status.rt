@@ -6,7 +6,8 @@ usage: globtree [OPTION..] status [-unormal | -uall | -uno] [--ignored[=MODE]] [
 Prints the lines ?? and !! of git status --porcelain: the files that aren't tracked, and with
 --ignored those that are ignored. Each is told from the top of the work tree.
 
-options, of which one that begins with -u or --untracked-files has to be there:
+options; without one that begins with -u or --untracked-files status.showUntrackedFiles says which of
+the three it is, or else it is -unormal:
   -uall, -u                each file
   -unormal                 a folder without tracked files by its name, if a file lies in it
   -uno                     none that isn't tracked

@@ -45,7 +45,7 @@ returns-in_err-core g c =
     let left1 = step known Whole (option_map vec_items c.in_ok-top.top) left0 c.in_ok-top.ensures in
     let left2 = step known Whole (seen_settings c.in_ok-config.config) left1 c.in_ok-config.ensures in
     let left3 = step known Whole (c.in_ok-check_top.field-0) left2 c.in_ok-check_top.ensures in
-    stop known Whole opened_of (core.settings_with bytes) c.in_err-core.field-0.0 c.from_residual-in_err-core.result left3 c.from_residual-in_err-core.ensures.1 (of_known known (is (core_told (core_of (said_of c.args.told.now).around (said_of c.args.told.now).places.config_home (seen_settings c.in_ok-config.config)))) (core.settings_with bytes) (Err c.in_err-core.field-0.0) c.in_err-core.ensures)
+    stop known Whole opened_of (core.settings_with bytes) c.in_err-core.field-0.0 c.from_residual-in_err-core.result left3 c.from_residual-in_err-core.ensures.1 (of_known known (is (core_told (core_of (said_of c.args.told.now).for_status (said_of c.args.told.now).around (said_of c.args.told.now).places.config_home (seen_settings c.in_ok-config.config)))) (core.settings_with bytes) (Err c.in_err-core.field-0.0) c.in_err-core.ensures)
 
 pub returns-in_err-exclude_name : goal.returns-in_err-exclude_name
 returns-in_err-exclude_name g c =
