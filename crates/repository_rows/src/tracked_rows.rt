@@ -26,16 +26,19 @@ pub(crate) fn tracked_paths(
     }
 }
 
-/// Whether an index file has a path, something below it, and a submodule as the last that has it, where case doesn't count.
+/// Whether an index file has a path, something below it, and a submodule as the last that has it, where case doesn't count. Of its entries
+/// count those whose paths begin with a front.
 pub(crate) fn folded_paths(
     alloc: Global,
     question: &Question,
     answer: &mut Answer,
 ) -> Result<(), RowFault> {
     let format = format_of(question)?;
-    let path = question.bytes(2)?;
+    let front = question.bytes(2)?;
+    let path = question.bytes(3)?;
     match Index::from_bytes(alloc, question.bytes(1)?, format) {
         Ok(index) => {
+            let index = index.starting_with(alloc, front)?;
             let paths = FoldedPaths::new(alloc, &index)?;
             answer.push_bool(paths.is_tracked(path))?;
             answer.push_bool(paths.has_below(path))?;

@@ -22,6 +22,7 @@ pub mod LevelLemmas
 pub mod ListingLemmas
 pub mod ListingRuns
 pub mod ListsLemmas
+pub mod LookupLemmas
 pub mod MetLemmas
 pub mod NameLemmas
 pub mod OrderLemmas
