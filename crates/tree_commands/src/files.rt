@@ -19,6 +19,7 @@ ghost use Rattle.tree_commands.specs.Private.Listing.{WritesOut, seen_lists, ter
 ghost use Rattle.tree_commands.specs.Private.UnderWay.{IsUnderWay, OfKnown, WritesAll, WritesFront, beginning_of};
 
 mod asking;
+mod beside;
 pub mod choosing;
 mod entries;
 pub mod fault;
@@ -83,9 +84,10 @@ pub struct Listing {
 /// listed; nor is anything where it, or a folder above it, is ignored, and the paths that aren't ignored are chosen.
 ///
 /// Listed are files and links, and, with a slash at the end, the folders that aren't gone into: those of repositories of their own in which no
-/// tracked path lies, and those that are told by their names, as `folders` of the listing says. A submodule's folder is neither. Where the paths
-/// that aren't ignored are chosen, an ignored folder isn't gone into either. What isn't gone into is asked for its names only to know whether it
-/// is a repository, or is filled where that counts, and an ignored folder isn't. The paths come in the order of their bytes, each once.
+/// tracked path lies, and those that are told by their names, as `folders` of the listing says; and the folders that are told so beside what
+/// lies in them. A submodule's folder is none. Where the paths that aren't ignored are chosen, an ignored folder isn't gone into either. What
+/// isn't gone into is asked for its names only to know whether it is a repository, or what lies in it where that counts, and an ignored folder
+/// isn't. The paths come in the order of their bytes, each once.
 ///
 /// `tracked` is the index; an empty one tracks nothing. Of its entries count those alone whose paths begin with the bytes of the folder in
 /// which the path is told: of the path itself, where it is told as a folder's, and else of what stands before its last slash.
@@ -112,7 +114,7 @@ pub fn run_files<S: FileSource, W: Write>(
         × AppendsFront (W.contents (inner writer.old)) (W.contents (inner writer.new)) (flat_map (path_line listing.mark listing.standpoint listing.form) paths)
         × ((tree : FileTree) → S.shows source.old tree → (path : List ℕ) →
         Contains paths path → (IsReached listing.standpoint (asked_basis listing told.now tracked.now) tree told.now path × IsTold (asked_basis listing told.now tracked.now) tree path))) }
-    // Each folder that the source is asked for its names is reached, or lies in one that is told only if it is filled.
+    // Each folder that the source is asked for its names is reached, or lies in one about which a search decides.
     ensures asks { GivesOnly (λ folder. (tree : FileTree) → S.shows source.old tree →
         MayAsk (IsReached listing.standpoint (asked_basis listing told.now tracked.now) tree told.now) (asked_basis listing told.now tracked.now) tree folder) (S.asked source.old) (S.asked source.new) }
     ensures stays { StaysKnown S.shows source.old source.new }
