@@ -1,7 +1,7 @@
 //! Rows of the section `core`: what files and words set of matching and printing.
 
 use crate::config_includes::{Files, around_home, sources_of};
-use core_settings::{CoreFault, core_settings as settings_of};
+use core_settings::{CoreFault, CoreSettings, core_settings as settings_of};
 use git_config::{Config, ReadFault, Source, Surroundings};
 use row_texts::{Answer, Question, RowFault};
 use std::alloc::Global;
@@ -12,22 +12,35 @@ pub(crate) fn core_settings(
     question: &Question,
     answer: &mut Answer,
 ) -> Result<(), RowFault> {
+    let around = around_home(alloc, question.option(0)?)?;
+    let config = config_told(alloc, question, &around)?;
+    let named = question.option(1)?;
+    match settings_of(alloc, &config, &around, named) {
+        Ok(core) => push_settings(&core, answer),
+        Err(fault) => push_fault(alloc, &fault, answer),
+    }
+}
+
+/// What the files and the words of a row say.
+fn config_told(
+    alloc: Global,
+    question: &Question,
+    around: &Surroundings,
+) -> Result<Config, RowFault> {
     let files = Files {
         alloc,
         fields: question.rest(4),
     };
-    let around = around_home(alloc, question.option(0)?)?;
     let sources = sources_of(alloc, question.bytes(2)?, question.bytes(3)?)?;
-    let config = config_of(alloc, &files, &around, &sources)?;
-    match settings_of(alloc, &config, &around, question.option(1)?) {
-        Ok(core) => {
-            answer.push_bool(core.ignore_case)?;
-            answer.push_bool(core.quote_path)?;
-            answer.push_option(core.excludes.as_deref())?;
-            answer.push_option(core.attributes.as_deref())
-        }
-        Err(fault) => push_fault(alloc, &fault, answer),
-    }
+    config_of(alloc, &files, around, &sources)
+}
+
+/// Adds what is set.
+fn push_settings(core: &CoreSettings<Vec<u8>>, answer: &mut Answer) -> Result<(), RowFault> {
+    answer.push_bool(core.ignore_case)?;
+    answer.push_bool(core.quote_path)?;
+    answer.push_option(core.excludes.as_deref())?;
+    answer.push_option(core.attributes.as_deref())
 }
 
 /// What files and words say. Rows of core settings have none that is wrong.
@@ -55,7 +68,5 @@ fn push_fault(
         return Err(RowFault::Memory);
     }
     answer.push_shown(alloc, fault)?;
-    answer.push_option(None)?;
-    answer.push_option(None)?;
-    answer.push_option(None)
+    answer.push_nothings(3)
 }
