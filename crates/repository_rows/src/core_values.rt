@@ -1,7 +1,7 @@
 //! Rows of what files and words set of matching, printing and listing.
 
 use crate::config_includes::{Files, around_home, sources_of};
-use core_settings::{CoreFault, ShowUntracked, core_settings as settings_of};
+use core_settings::{CoreFault, CoreSettings, ShowUntracked, core_settings as settings_of};
 use git_config::{Config, ReadFault, Source, Surroundings};
 use row_texts::{Answer, Question, RowFault};
 use std::alloc::Global;
@@ -12,22 +12,36 @@ pub(crate) fn core_settings(
     question: &Question,
     answer: &mut Answer,
 ) -> Result<(), RowFault> {
-    let files = Files {
-        alloc,
-        fields: question.rest(4),
-    };
     let around = around_home(alloc, question.option(0)?)?;
-    let sources = sources_of(alloc, question.bytes(2)?, question.bytes(3)?)?;
-    let config = config_of(alloc, &files, &around, &sources)?;
-    match settings_of(alloc, &config, &around, question.option(1)?, false) {
-        Ok(core) => {
-            answer.push_bool(core.ignore_case)?;
-            answer.push_bool(core.quote_path)?;
-            answer.push_option(core.excludes.as_deref())?;
-            answer.push_option(core.attributes.as_deref())
-        }
+    let config = config_told(alloc, question, 2, &around)?;
+    let named = question.option(1)?;
+    match settings_of(alloc, &config, &around, named, false) {
+        Ok(core) => push_settings(&core, answer),
         Err(fault) => push_fault(alloc, &fault, answer),
     }
+}
+
+/// What the files and the words of a row say, of which these sources are the first field.
+fn config_told(
+    alloc: Global,
+    question: &Question,
+    first: usize,
+    around: &Surroundings,
+) -> Result<Config, RowFault> {
+    let files = Files {
+        alloc,
+        fields: question.rest(first + 2),
+    };
+    let sources = sources_of(alloc, question.bytes(first)?, question.bytes(first + 1)?)?;
+    config_of(alloc, &files, around, &sources)
+}
+
+/// Adds what is set.
+fn push_settings(core: &CoreSettings<Vec<u8>>, answer: &mut Answer) -> Result<(), RowFault> {
+    answer.push_bool(core.ignore_case)?;
+    answer.push_bool(core.quote_path)?;
+    answer.push_option(core.excludes.as_deref())?;
+    answer.push_option(core.attributes.as_deref())
 }
 
 /// Which files `status` tells that aren't tracked, by files and then words, or the first fault.
@@ -36,13 +50,8 @@ pub(crate) fn status_settings(
     question: &Question,
     answer: &mut Answer,
 ) -> Result<(), RowFault> {
-    let files = Files {
-        alloc,
-        fields: question.rest(3),
-    };
     let around = around_home(alloc, question.option(0)?)?;
-    let sources = sources_of(alloc, question.bytes(1)?, question.bytes(2)?)?;
-    let config = config_of(alloc, &files, &around, &sources)?;
+    let config = config_told(alloc, question, 1, &around)?;
     match settings_of(alloc, &config, &around, None, true) {
         Ok(core) => answer.push(name_of(core.untracked)),
         Err(CoreFault::Memory) => Err(RowFault::Memory),
@@ -84,7 +93,5 @@ fn push_fault(
         return Err(RowFault::Memory);
     }
     answer.push_shown(alloc, fault)?;
-    answer.push_option(None)?;
-    answer.push_option(None)?;
-    answer.push_option(None)
+    answer.push_nothings(3)
 }
