@@ -3,7 +3,7 @@
 use crate::config_includes::{Files, around_home, sources_of};
 use core_settings::{CoreFault, CoreSettings, ShowUntracked, core_settings as settings_of};
 use git_config::{Config, ReadFault, Source, Surroundings};
-use row_texts::{Answer, Question, RowFault};
+use row_texts::{Answer, Field, Question, RowFault};
 use std::alloc::Global;
 
 /// What files and then words set, or the first fault.
@@ -13,7 +13,13 @@ pub(crate) fn core_settings(
     answer: &mut Answer,
 ) -> Result<(), RowFault> {
     let around = around_home(alloc, question.option(0)?)?;
-    let config = config_told(alloc, question, 2, &around)?;
+    let config = config_told(
+        alloc,
+        question.bytes(2)?,
+        question.bytes(3)?,
+        question.rest(4),
+        &around,
+    )?;
     let named = question.option(1)?;
     match settings_of(alloc, &config, &around, named, false) {
         Ok(core) => push_settings(&core, answer),
@@ -21,18 +27,16 @@ pub(crate) fn core_settings(
     }
 }
 
-/// What the files and the words of a row say, of which these sources are the first field.
+/// What the files of these names and then words say. The fields have the files.
 fn config_told(
     alloc: Global,
-    question: &Question,
-    first: usize,
+    names: &[u8],
+    words: &[u8],
+    fields: &[Field],
     around: &Surroundings,
 ) -> Result<Config, RowFault> {
-    let files = Files {
-        alloc,
-        fields: question.rest(first + 2),
-    };
-    let sources = sources_of(alloc, question.bytes(first)?, question.bytes(first + 1)?)?;
+    let files = Files { alloc, fields };
+    let sources = sources_of(alloc, names, words)?;
     config_of(alloc, &files, around, &sources)
 }
 
@@ -51,7 +55,13 @@ pub(crate) fn status_settings(
     answer: &mut Answer,
 ) -> Result<(), RowFault> {
     let around = around_home(alloc, question.option(0)?)?;
-    let config = config_told(alloc, question, 1, &around)?;
+    let config = config_told(
+        alloc,
+        question.bytes(1)?,
+        question.bytes(2)?,
+        question.rest(3),
+        &around,
+    )?;
     match settings_of(alloc, &config, &around, None, true) {
         Ok(core) => answer.push(name_of(core.untracked)),
         Err(CoreFault::Memory) => Err(RowFault::Memory),
