@@ -314,15 +314,16 @@ def tracked_paths(format_, index, asked, literal):
     return [*rows.told(ran.stdout.startswith(b"\0")), None]
 
 
-def folded_paths(format_, index, path):
-    """What is listed of a file of this path, and of a file in a folder of this path."""
+def folded_paths(format_, index, front, path):
+    """What is listed of a file of this path, and of a file in a folder of this path, by a listing of the folder of the front."""
     if not IS_GIT and not rows.is_text(path):
         return ()
     config = b"[core]\nrepositoryFormatVersion=1\nignoreCase=true\n[extensions]\nobjectFormat=%s\n" % format_
+    folder = [front + b"/"] if front else []
 
     def lists(name, *words):
         with rows.repository_of([(b".git/config", config), (b".git/index", index), (name, b"")]) as top:
-            ran = subprocess.run([PROGRAM, "ls-files" if IS_GIT else "files", "-o", "-z", *words], cwd=top, env=ALONE, capture_output=True, check=False)
+            ran = subprocess.run([PROGRAM, "ls-files" if IS_GIT else "files", "-o", "-z", *words, *folder], cwd=top, env=ALONE, capture_output=True, check=False)
         return name in ran.stdout.split(b"\0")
 
     below = path + b"/~"

@@ -1,4 +1,5 @@
 pub mod Blanks
+pub mod NormalPaths
 pub mod Parameters
 pub mod Private
 pub mod Sources

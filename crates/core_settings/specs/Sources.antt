@@ -14,6 +14,7 @@ use Rattle.core_settings.specs.declared.sources.ConfigPlaces.{ConfigPlaces}
 use Rattle.core_settings.specs.declared.sources.ConfigSource.{ConfigSource}
 use Rattle.core_settings.specs.declared.sources.ConfigSource.TheVariants.{File, Word}
 use Rattle.core_settings.specs.declared.sources.Pair.{Pair}
+use Rattle.core_settings.specs.NormalPaths.{normal_path}
 use Rattle.core_settings.specs.Parameters.{Handed, words_handed}
 use Rattle.core_settings.specs.UserFiles.{below_home, settings_file}
 
@@ -30,8 +31,9 @@ abbrev pub lacks_system : Option (List ℕ) → Option Bool
 lacks_system None = Some false
 lacks_system (Some value) = boolean_of (Some value)
 
+-- its path without `.`, `..` and slashes in a row
 abbrev pub system_file : Bool → Places → Option (List ℕ)
-system_file lacks places = if lacks then None else option_or places.system places.installed
+system_file lacks places = if lacks then None else option_map normal_path (option_or places.system places.installed)
 
 -- the user's two, or the one that stands for both
 abbrev pub user_files : Places → Option (List ℕ) → List (List ℕ)

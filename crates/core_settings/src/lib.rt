@@ -5,6 +5,7 @@ mod blanks;
 mod bytes;
 mod count;
 mod fault;
+mod normal_path;
 mod parameters;
 mod paths;
 mod sources;

@@ -11,6 +11,7 @@ ghost use Rattle.core_settings.specs.declared.sources.ConfigSource.TheVariants.{
 use crate::bytes::{owned, slice_of};
 use crate::count::pair_count;
 use crate::fault::{SourcesFault, WrongPairs};
+use crate::normal_path::normal_path;
 use crate::parameters::add_handed;
 use crate::user_files::{below_home, settings_file};
 use git_config::{Source, boolean, split_word};
@@ -167,22 +168,26 @@ fn add_files(
 ) -> Result<(), AllocError>
     ensures { OnOk result (seen_sources out.new ≡ seen_sources out.old ++ map (λ path. File path) (files_of lacks (places_with (λ b. b.now) places.now))) }
 {
-    add_file(alloc, system_file(lacks, places), out)?;
+    add_path(system_file(alloc, lacks, places)?, out)?;
     add_user_files(alloc, places, out)?;
     add_file(alloc, places.repository, out)?;
     add_file(alloc, places.work_tree, out)
 }
 
 /// The system's file.
-fn system_file<'a>(lacks: bool, places: &ConfigPlaces<&'a [u8]>) -> Option<&'a [u8]>
-    ensures { option_copied result ≡ system_file lacks (places_with (λ b. b.now) places.now) }
+fn system_file(
+    alloc: Global,
+    lacks: bool,
+    places: &ConfigPlaces<&[u8]>,
+) -> Result<Option<Vec<u8>>, AllocError>
+    ensures { IfOk result (λ file. option_map vec_items file ≡ system_file lacks (places_with (λ b. b.now) places.now)) }
 {
     if lacks {
-        return None;
+        return Ok(None);
     }
-    match places.system {
-        Some(path) => Some(path),
-        None => places.installed,
+    match places.system.or(places.installed) {
+        Some(path) => Ok(Some(normal_path(alloc, path)?)),
+        None => Ok(None),
     }
 }
 

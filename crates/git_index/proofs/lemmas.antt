@@ -1,3 +1,4 @@
+pub mod Copies
 pub mod Entries
 pub mod EntryLaws
 pub mod Extensions
@@ -13,5 +14,6 @@ pub mod Numbers
 pub mod Order
 pub mod Paths
 pub mod Search
+pub mod Starting
 pub mod Submodules
 pub mod Zeros

@@ -1,5 +1,6 @@
 -- What an index says: its entries, and what is asked of them.
-use Rattle.std.specs.Prelude.{◌≡◌, ◌⊎◌, ℕ, ◌<◌, ◌≤◌, Bool, List, [], ◌∷◌, ◌++◌, slice_get, Some}
+use Rattle.std.specs.Prelude.{◌≡◌, ◌⊎◌, ℕ, ◌<◌, ◌≤◌, Bool, List, [], ◌∷◌, ◌++◌, nat_eq, slice_get, Some}
+use Rattle.std.specs.List.{filter, starts_with}
 use Rattle.std.specs.Ordering.{nat_cmp}
 use Rattle.std.specs.declared.cmp.Ordering.TheVariants.{Less}
 use Rattle.std.specs.Cmp.Lexicographic.{slice_cmp}
@@ -40,3 +41,7 @@ HasBelow entries folder = (i : ℕ) × (e : Tracked) × (rest : List ℕ) × (sl
 -- an entry, at whichever stage, has this path and is a submodule
 abbrev pub IsSubmodule : List Tracked → List ℕ → Type 0
 IsSubmodule entries path = (i : ℕ) × (e : Tracked) × (slice_get entries i ≡ Some e) × (e.path ≡ path) × (e.kind ≡ Submodule)
+
+-- the entries whose paths begin so
+abbrev pub starting_with : List ℕ → List Tracked → List Tracked
+starting_with front entries = filter (λ e. starts_with nat_eq e.path front) entries

@@ -14,7 +14,7 @@ pub enum Kind {
 }
 
 /// An entry: a tracked path, at one stage.
-#[derive(Debug, Drop)]
+#[derive(Debug, Clone, Drop)]
 pub struct Entry {
     /// The path from the top of the work tree, with slashes between its parts.
     pub path: Vec<u8>,

@@ -1,7 +1,7 @@
 //! An index: the entries of an index file, and which paths are among them.
 ghost use Rattle.std.specs.Prelude.{◌≡◌, ◌↔◌, ◌+◌, ◌++◌, ◌<◌, [], Err, IfOk, IsTrue, List, MatchOption, MatchResult, ℕ, length, map};
 ghost use Rattle.git_index.specs.declared.fault.IndexFault.TheVariants.{Memory};
-ghost use Rattle.git_index.specs.Entries.{HasBelow, IsSubmodule, IsTracked, Tracked, tracked};
+ghost use Rattle.git_index.specs.Entries.{HasBelow, IsSubmodule, IsTracked, Tracked, starting_with, tracked};
 ghost use Rattle.git_index.specs.Format.{HasRoom, IsIndexFile, hash_len};
 ghost use Rattle.git_index.specs.Split.{IsSplitIndex};
 
@@ -13,7 +13,7 @@ use crate::link::link_among;
 use crate::order::is_ordered;
 use crate::search;
 use crate::split::joined;
-use std::alloc::Global;
+use std::alloc::{AllocError, Global};
 use std::marker::Model;
 
 /// The entries of an index file, by path and stage.
@@ -114,6 +114,17 @@ impl Index {
         ensures { map tracked result.now ≡ self.now }
     {
         &self.entries
+    }
+
+    /// The index of those entries alone whose paths begin with these bytes.
+    ///
+    /// # Errors
+    /// Only where memory was refused.
+    pub fn starting_with(&self, alloc: Global, front: &[u8]) -> Result<Index, AllocError>
+        ensures { IfOk result (λ index. index ≡ starting_with front.now self.now) }
+    {
+        let entries = search::starting_with(alloc, &self.entries, front)?;
+        Ok(Index { entries })
     }
 
     /// Whether an entry, at whichever stage, has this path.

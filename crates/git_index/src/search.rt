@@ -1,11 +1,12 @@
 //! The search for a path among entries in order.
-ghost use Rattle.std.specs.Prelude.{◌≡◌, ◌↔◌, ◌++◌, ◌∷◌, ℕ, IsTrue, map};
+ghost use Rattle.std.specs.Prelude.{◌≡◌, ◌↔◌, ◌++◌, ◌∷◌, ℕ, IfOk, IsTrue, map};
 ghost use Rattle.std.specs.Cmp.Lexicographic.{slice_cmp};
 ghost use Rattle.std.specs.Ordering.{nat_cmp};
-ghost use Rattle.git_index.specs.Entries.{HasBelow, InOrder, IsSubmodule, IsTracked, tracked};
+ghost use Rattle.git_index.specs.Entries.{HasBelow, InOrder, IsSubmodule, IsTracked, starting_with, tracked};
 ghost use Rattle.git_index.specs.Private.Search.{Continues, IsFirstFrom};
 
 use crate::entry::{Entry, Kind};
+use std::alloc::{AllocError, Global};
 use std::cmp::Ordering;
 
 /// How a path compares, by its bytes, with one that is told in two parts.
@@ -84,4 +85,21 @@ pub fn is_submodule(entries: &[Entry], path: &[u8]) -> bool
         place += 1;
     }
     false
+}
+
+/// Copies of the entries whose paths begin with these bytes, in their order.
+pub fn starting_with(
+    alloc: Global,
+    entries: &[Entry],
+    front: &[u8],
+) -> Result<Vec<Entry>, AllocError>
+    ensures { IfOk result (λ found. map tracked found.items ≡ starting_with front.now (map tracked entries.now)) }
+{
+    let mut found = Vec::new(alloc);
+    'entries: for entry in entries {
+        if entry.path.starts_with(front) {
+            found.push(entry.clone()?)?;
+        }
+    }
+    Ok(found)
 }

@@ -30,3 +30,4 @@ pub mod TreeLemmas
 pub mod ViewLemmas
 pub mod WalkLemmas
 pub mod WordsLemmas
+pub mod ZeroLemmas

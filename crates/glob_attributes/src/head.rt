@@ -74,13 +74,13 @@ pub(crate) fn unit_at(bytes: &[u8]) -> Option<(u8, usize)>
 fn escape_at(behind: &[u8]) -> Option<(u8, usize)>
     ensures { result ≡ escape_at behind.now }
 {
-    match behind {
-        [x @ b'0'..=b'3', y @ b'0'..=b'7', z @ b'0'..=b'7', ..] => {
-            Some(((*x - b'0') * 64 + (*y - b'0') * 8 + (*z - b'0'), 3))
-        }
-        [letter, ..] => Some((letter_byte(*letter)?, 1)),
-        [] => None,
+    if let [x @ b'0'..=b'3', y @ b'0'..=b'7', z @ b'0'..=b'7', ..] = behind {
+        return Some(((*x - b'0') * 64 + (*y - b'0') * 8 + (*z - b'0'), 3));
     }
+    let [letter, ..] = behind else {
+        return None;
+    };
+    Some((letter_byte(*letter)?, 1))
 }
 
 /// The byte that a backslash and a letter, a quote or a backslash spell; `None` where they are no escape.

@@ -1,5 +1,5 @@
 //! What one line of an attribute file gives.
-ghost use Rattle.std.specs.Prelude.{◌≡◌, ◌≤◌, IfOk, length, option_map, position};
+ghost use Rattle.std.specs.Prelude.{◌≡◌, ◌≤◌, IfOk, length, option_map};
 ghost use Rattle.std.specs.List.{before_first};
 ghost use Rattle.glob_attributes.specs.Places.{IsPartOf};
 ghost use Rattle.glob_attributes.specs.Private.Readings.{assignments_of, is_macro, is_zero, macro_name, macro_reading, pattern_reading, says_nothing};
@@ -10,6 +10,7 @@ use crate::assignment::{Assignment, own_assignment, read_assignment};
 use crate::head::read_head;
 use crate::name::is_name;
 use crate::words::{Words, after_blanks, split_at_blank};
+use memchr::memchr;
 use std::alloc::{AllocError, Global};
 
 /// The length in bytes from which on a line says nothing.
@@ -89,17 +90,10 @@ pub(crate) fn before_zero(bytes: &[u8]) -> &[u8]
     ensures bytes { result.now ≡ before_first is_zero bytes.now }
     ensures place { IsPartOf result bytes.entry }
 {
-    match first_zero(bytes) {
+    match memchr(0, bytes) {
         Some(place) => &bytes[..place],
         None => bytes,
     }
-}
-
-/// The place of the first byte 0.
-fn first_zero(bytes: &[u8]) -> Option<usize>
-    ensures { result ≡ position is_zero bytes.now }
-{
-    bytes.iter().position(|b| *b == 0)
 }
 
 /// Whether a head defines a macro.

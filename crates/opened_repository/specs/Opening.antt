@@ -69,7 +69,12 @@ abbrev pub shown : FileTree → Option (List ℕ) → List ℕ → List ℕ
 shown tree None place = place
 shown tree (Some pwd) place = if stands_for tree place pwd then pwd else place
 
--- From there Git would tell these: files of configuration by a relative path, and the common folder.
+-- Where the top is another folder than the current one, Git goes there for most commands, from outside too. It would tell these from
+-- there: files of configuration by a relative path, and the common folder.
+abbrev pub is_elsewhere : List ℕ → Option (List ℕ) → Bool
+is_elsewhere current None = false
+is_elsewhere current (Some top) = not (bytes_eq (folder_of top) current)
+
 abbrev pub is_relative : List ℕ → Bool
 is_relative path = not (length path == 0) && not (is_absolute path)
 
@@ -82,9 +87,9 @@ abbrev pub folder_checked : Option (List ℕ) → Result (Unit {0}) Fault
 folder_checked None = Ok tt
 folder_checked (Some path) = if is_relative path then Err (RelativeFolder path) else Ok tt
 
-abbrev pub relatives_checked : List (ConfigSource (List ℕ)) → Option (List ℕ) → Option (List ℕ) → Result (Unit {0}) Fault
-relatives_checked sources common None = Ok tt
-relatives_checked sources common (Some top) = elim (first_relative sources) [ None ↦ folder_checked common | Some path ↦ Err (RelativeFile path) ]
+abbrev pub relatives_checked : List (ConfigSource (List ℕ)) → Option (List ℕ) → Bool → Result (Unit {0}) Fault
+relatives_checked sources common false = Ok tt
+relatives_checked sources common true = elim (first_relative sources) [ None ↦ folder_checked common | Some path ↦ Err (RelativeFile path) ]
 
 -- a path, where it counts
 abbrev pub path_if : Bool → List ℕ → Option (List ℕ)
@@ -175,7 +180,7 @@ module _ (tree : FileTree) (Shows : Files) (said : Said) where
 
   abbrev pub ReadThere : Found (List ℕ) → Settings (List ℕ) → Option (List ℕ) → Folders (List ℕ) → Answer (List Seen)
   ReadThere found own top folders = do
-    _ ← is (relatives_checked (outer_listed said).sources said.environment.common_dir (top_above said.current top))
+    _ ← is (relatives_checked (outer_listed said).sources said.environment.common_dir (is_elsewhere said.current top))
     AllRead found own top folders
 
   -- ---- what comes of them

@@ -14,7 +14,7 @@ use Rattle.git_repository.specs.declared.found.Found.{Found}
 use Rattle.git_repository.specs.declared.settings.Settings.{Settings}
 use Rattle.opened_repository.specs.declared.fault.OpenFault.{OpenFault}
 use Rattle.opened_repository.specs.declared.fault.OpenFault.TheVariants.{File, Memory, Told}
-use Rattle.opened_repository.specs.declared.fault.RepositoryFault.TheVariants.{Find}
+use Rattle.opened_repository.specs.declared.fault.RepositoryFault.TheVariants.{Find, Format}
 use Rattle.opened_repository.specs.declared.place.ConfigPlace.{ConfigPlace}
 use Rattle.opened_repository.specs.Alone.{OwnSettings}
 use Rattle.opened_repository.specs.Answers.{Answer, Asked, Fault, In, fault_of, is, is', ◌>>=◌}
@@ -32,7 +32,7 @@ pub record Place : Type 0 where
 abbrev pub place_of : ConfigPlace → Place
 place_of place = record { known = known_of place.known; top = option_map vec_items place.top; config = option_map vec_items place.config; work_tree = option_map vec_items place.work_tree }
 
--- ---- outside of a repository: none is found, or it may not be taken
+-- ---- outside of a repository: none is found, or it may not be taken, or its format is unknown
 
 abbrev pub outside : Place
 outside = record { known = nothing_known; top = None; config = None; work_tree = None }
@@ -47,6 +47,7 @@ is_passed _ = false
 abbrev pub is_outside : Fault → Bool
 is_outside (Find NotFound) = true
 is_outside (Find (At wrong path)) = is_passed wrong
+is_outside (Format fault) = true
 is_outside _ = false
 
 abbrev pub tells_outside : {F : Type 0} → OpenFault F → Bool
@@ -95,14 +96,19 @@ module _ (tree : FileTree) (Shows : Files) (said : Said) where
       work_tree = path_if own.has_worktree_config (worktree_name said.current (top_above said.current top) folders exclude);
     }))
 
-  abbrev pub PlaceIf : Result (Found (List ℕ)) Fault → Answer Place
-  PlaceIf (Ok found) = PlaceIn found
+  abbrev pub PlaceFound : Answer Place
+  PlaceFound = do
+    found ← FindsTrusted tree Shows said
+    PlaceIn found
+
+  abbrev pub PlaceIf : Result Place Fault → Answer Place
+  PlaceIf (Ok place) = is (Ok place)
   PlaceIf (Err fault) = is (if is_outside fault then Ok outside else Err fault)
 
   abbrev pub Locates : Answer Place
   Locates = do
     _ ← Outer Shows said
-    Asked (FindsTrusted tree Shows said) PlaceIf
+    Asked PlaceFound PlaceIf
 
 -- what is read at a place
 abbrev pub ReadsPlace : Files → Said → Place → Answer (List Seen)

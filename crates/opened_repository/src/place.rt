@@ -6,7 +6,7 @@ ghost use Rattle.git_repository.specs.Folders.{folders_with, settings_with};
 ghost use Rattle.core_settings.specs.Views.{seen_settings};
 ghost use Rattle.opened_repository.specs.Answers.{Tells, fault_of};
 ghost use Rattle.opened_repository.specs.Opening.{path_if};
-ghost use Rattle.opened_repository.specs.Places.{ExcludeHere, ExcludeThere, Locates, PlaceIn, ReadsPlace, beside, folder_there, is_outside, is_passed, outside, place_of, tells_outside, worktree_name};
+ghost use Rattle.opened_repository.specs.Places.{ExcludeHere, ExcludeThere, Locates, PlaceFound, PlaceIn, ReadsPlace, beside, folder_there, is_outside, is_passed, outside, place_of, tells_outside, worktree_name};
 ghost use Rattle.opened_repository.specs.Results.{said_of};
 
 use crate::around::{KnownRepository, nothing_known};
@@ -40,7 +40,8 @@ pub struct ConfigPlace {
 }
 
 /// Tells where the configuration lies that counts in the current folder. `needs_work_tree` and `for_status` of what was told are passed
-/// over. Where there is no repository, or Git takes one for none since it may not be taken, there is no file of one.
+/// over. Where there is no repository, or Git takes one for none since it may not be taken or its format is unknown, there is no file of
+/// one.
 ///
 /// # Errors
 /// The first fault in Git's order, as [`open`](crate::open) tells it. Of the files only those are read that say where a repository is.
@@ -52,10 +53,22 @@ pub fn config_place<S: FileSystem + ConfigFiles>(
     ensures { Tells (S.is_known source.now) place_of result (Locates (S.tree source.now) (S.shows source.now) (said_of told.now)) }
 {
     read_outer(alloc, source, told)?;
-    match find_trusted(alloc, source, told) {
-        Ok(found) => place_in(alloc, source, told, &found),
+    match place_found(alloc, source, told) {
+        Ok(place) => Ok(place),
         Err(fault) => place_without(alloc, fault),
     }
+}
+
+/// The place in the repository that is found.
+fn place_found<S: FileSystem + ConfigFiles>(
+    alloc: Global,
+    source: &S,
+    told: &Told<'_>,
+) -> Result<ConfigPlace, OpenFault<S::Fault>>
+    ensures { Tells (S.is_known source.now) place_of result (PlaceFound (S.tree source.now) (S.shows source.now) (said_of told.now)) }
+{
+    let found = find_trusted(alloc, source, told)?;
+    place_in(alloc, source, told, &found)
 }
 
 /// The entries of the files and words of a place.
@@ -87,7 +100,7 @@ pub fn read_config<F: ConfigFiles>(
     )
 }
 
-/// The place without a repository, where the search for one ended with a fault by which Git takes it for none.
+/// The place without a repository, where this fault is one by which Git takes it for none.
 fn place_without<F: Drop>(alloc: Global, fault: OpenFault<F>) -> Result<ConfigPlace, OpenFault<F>>
     ensures { MatchResult result (λ place. (place_of place ≡ outside) × (tells_outside fault ≡ true)) (λ other. (other ≡ fault) × (tells_outside fault ≡ false)) }
 {
@@ -102,7 +115,7 @@ fn place_without<F: Drop>(alloc: Global, fault: OpenFault<F>) -> Result<ConfigPl
     Err(fault)
 }
 
-/// Whether Git, where a command needs no repository, takes this fault of a search for a sign that there is none.
+/// Whether Git, where a command needs no repository, takes this fault for a sign that there is none.
 fn tells_outside<F>(fault: &OpenFault<F>) -> bool
     ensures { result ≡ tells_outside fault.now }
 {
@@ -119,6 +132,7 @@ fn is_outside(fault: &RepositoryFault<Rc<Vec<u8>>, Vec<u8>>) -> bool
     match fault {
         RepositoryFault::Find(FindFault::NotFound) => true,
         RepositoryFault::Find(FindFault::At(wrong, _)) => is_passed(*wrong),
+        RepositoryFault::Format(_) => true,
         RepositoryFault::Find(FindFault::Memory)
         | RepositoryFault::Setting(_)
         | RepositoryFault::Sources(_)
@@ -126,7 +140,6 @@ fn is_outside(fault: &RepositoryFault<Rc<Vec<u8>>, Vec<u8>>) -> bool
         | RepositoryFault::Line { .. }
         | RepositoryFault::Number { .. }
         | RepositoryFault::Value(_)
-        | RepositoryFault::Format(_)
         | RepositoryFault::NoWorkTree
         | RepositoryFault::RemoteUrl
         | RepositoryFault::Branch(_)

@@ -6,7 +6,7 @@ ghost use Rattle.core_settings.specs.Views.{source_with};
 ghost use Rattle.git_repository.specs.Naming.{lies_below};
 ghost use Rattle.git_repository.specs.Search.{folder_of};
 ghost use Rattle.opened_repository.specs.Answers.{Tells, is};
-ghost use Rattle.opened_repository.specs.Opening.{first_relative, folder_checked, is_relative, outer_listed, relatives_checked, shown, stands_for, top_above, work_place};
+ghost use Rattle.opened_repository.specs.Opening.{first_relative, folder_checked, is_elsewhere, is_relative, outer_listed, relatives_checked, shown, stands_for, top_above, work_place};
 ghost use Rattle.opened_repository.specs.Results.{said_of};
 
 use crate::fault::{OpenFault, RepositoryFault};
@@ -98,15 +98,15 @@ fn stands_for<S: FileSystem>(
     }
 }
 
-/// Refuses relative paths of files and of the common folder, which Git tells from the top above the current folder.
+/// Refuses relative paths of files and of the common folder, where Git tells them from the top and not from the current folder.
 pub(crate) fn check_relatives<F>(
     alloc: Global,
     told: &Told<'_>,
     top: &Option<Vec<u8>>,
 ) -> Result<(), OpenFault<F>>
-    ensures { Tells (Unit {0}) (λ done. done) result (is (relatives_checked (outer_listed (said_of told.now)).sources (said_of told.now).environment.common_dir (top_above told.now.current.now (option_map vec_items top.now)))) }
+    ensures { Tells (Unit {0}) (λ done. done) result (is (relatives_checked (outer_listed (said_of told.now)).sources (said_of told.now).environment.common_dir (is_elsewhere told.now.current.now (option_map vec_items top.now)))) }
 {
-    if top_above(alloc, told.current, top)?.is_none() {
+    if !is_elsewhere(told.current, top) {
         return Ok(());
     }
     let sources = outer_sources(alloc, told)?;
@@ -116,6 +116,16 @@ pub(crate) fn check_relatives<F>(
             Err(OpenFault::Told(RepositoryFault::RelativeFile(path)))
         }
         None => check_folder(alloc, told.environment.common_dir),
+    }
+}
+
+/// Whether the top of the work tree is another folder than the current one.
+fn is_elsewhere(current: &[u8], top: &Option<Vec<u8>>) -> bool
+    ensures { result ≡ is_elsewhere current.now (option_map vec_items top.now) }
+{
+    match top {
+        Some(top) => folder_of(top) != current,
+        None => false,
     }
 }
 

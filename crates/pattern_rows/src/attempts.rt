@@ -1,7 +1,7 @@
 //! Rows of the recursive engine: where an attempt may begin, and what it answers.
 
 use crate::words::mode_of;
-use gix_glob::wildmatch::{Mode, attempt, is_start};
+use gix_glob::wildmatch::{Answer as Told, Mode, attempt, is_start};
 use row_texts::{Answer, Question, RowFault, push_debug_text, push_text};
 use std::alloc::{AllocError, Global};
 
@@ -40,16 +40,17 @@ pub(crate) fn attempts(
     question: &Question,
     answer: &mut Answer,
 ) -> Result<(), RowFault> {
-    let (mode, pattern, value) = (
-        mode_of(question, 0)?,
-        question.bytes(1)?,
-        question.bytes(3)?,
-    );
-    let (place, at, depth) = (
-        count(question, 2)?,
-        count(question, 4)?,
-        count(question, 5)?,
-    );
+    let (place, at) = (count(question, 2)?, count(question, 4)?);
+    let told = told_at(question, place, at, count(question, 5)?)?;
+    let mut text = Vec::new(alloc);
+    push_debug_text(alloc, &mut text, &told)?;
+    answer.push(&text)
+}
+
+/// What the attempt of a row answers from these places, at this depth.
+fn told_at(question: &Question, place: usize, at: usize, depth: usize) -> Result<Told, RowFault> {
+    let (pattern, value) = (question.bytes(1)?, question.bytes(3)?);
+    let mode = mode_of(question, 0)?;
     if !is_start(pattern, place, mode) {
         return Err(RowFault::Field("a place where an attempt may begin"));
     }
@@ -59,8 +60,5 @@ pub(crate) fn attempts(
     if depth > 64 {
         return Err(RowFault::Field("a depth"));
     }
-    let told = attempt(pattern, place, value, at, mode, depth);
-    let mut text = Vec::new(alloc);
-    push_debug_text(alloc, &mut text, &told)?;
-    answer.push(&text)
+    Ok(attempt(pattern, place, value, at, mode, depth))
 }

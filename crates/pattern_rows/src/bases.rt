@@ -20,21 +20,17 @@ pub(crate) fn bases(
     question: &Question,
     answer: &mut Answer,
 ) -> Result<(), RowFault> {
-    let source = question.text(0)?;
+    let base = base_of(alloc, question.text(0)?, question.text_option(1)?)?;
+    answer.push_option(base.as_deref())
+}
+
+/// The base of the list of a source under a root.
+fn base_of(alloc: Global, source: &str, root: Option<&str>) -> Result<Option<Vec<u8>>, RowFault> {
     if !has_file_part(source) {
         return Err(RowFault::Field("a source with a file part"));
     }
-    let root = match question.option(1)? {
-        Some(_bytes) => Some(question.text(1)?),
-        None => None,
-    };
     let named = String::from_str(alloc, source)?;
-    let list = List::from_bytes(alloc, b"*.rs", named, root, PlainLines)?;
-    match &list.base {
-        Some(base) => answer.push(base)?,
-        None => answer.push_option(None)?,
-    }
-    Ok(())
+    Ok(List::from_bytes(alloc, b"*.rs", named, root, PlainLines)?.base)
 }
 
 /// What a base leaves of a path.
@@ -43,22 +39,14 @@ pub(crate) fn stripping(
     question: &Question,
     answer: &mut Answer,
 ) -> Result<(), RowFault> {
-    let (case, base, path) = (
-        case_of(question, 0)?,
-        question.bytes(1)?,
-        question.bytes(2)?,
-    );
-    match left(base, path, question.number(3)?, case) {
+    let (base, path) = (question.bytes(1)?, question.bytes(2)?);
+    match left(base, path, question.number(3)?, case_of(question, 0)?) {
         Some((rest, place)) => {
             answer.push(rest)?;
-            answer.push_number(alloc, place)?;
+            answer.push_number(alloc, place)
         }
-        None => {
-            answer.push_option(None)?;
-            answer.push_option(None)?;
-        }
+        None => answer.push_nothings(2),
     }
-    Ok(())
 }
 
 /// Only what meets the condition can be called: where the path begins with the base, the place is not before its end.

@@ -79,15 +79,18 @@ pub(crate) fn labels(
 ) -> Result<(), RowFault> {
     let mappings = LabelLines.bytes_to_patterns(alloc, question.bytes(0)?, "")?;
     match mappings.as_slice() {
-        [] => {
-            answer.push_option(None)?;
-            answer.push_option(None)?;
-        }
-        [mapping] => {
-            answer.push_shown(alloc, &mapping.pattern)?;
-            answer.push(&mapping.value)?;
-        }
-        _ => return Err(RowFault::Field("one line")),
+        [] => answer.push_nothings(2),
+        [mapping] => push_label(alloc, mapping, answer),
+        _ => Err(RowFault::Field("one line")),
     }
-    Ok(())
+}
+
+/// Adds the pattern and the label of a line.
+fn push_label(
+    alloc: Global,
+    mapping: &Mapping<Vec<u8>>,
+    answer: &mut Answer,
+) -> Result<(), RowFault> {
+    answer.push_shown(alloc, &mapping.pattern)?;
+    answer.push(&mapping.value)
 }

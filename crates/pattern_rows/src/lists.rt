@@ -1,6 +1,7 @@
 //! Rows of lists: what the engines write for the lines of paths.
 
 use crate::words::case_of;
+use gix_glob::pattern::Case;
 use gix_glob::search::pattern::List;
 use gix_glob::search::{Pattern as _, Watched, has_file_part};
 use glob_lines::{EngineFault, IgnoreLines, bases_are_folders, run_ignore, run_list};
@@ -77,16 +78,26 @@ pub(crate) fn listed(
     question: &Question,
     answer: &mut Answer,
 ) -> Result<(), RowFault> {
-    let (case, source) = (case_of(question, 0)?, question.text(1)?);
-    let root = match question.option(2)? {
-        Some(_bytes) => Some(question.text(2)?),
-        None => None,
-    };
+    let (patterns, paths) = (question.bytes(3)?, question.bytes(4)?);
+    let (source, root) = (question.text(1)?, question.text_option(2)?);
+    let text = list_text(alloc, patterns, source, root, case_of(question, 0)?, paths)?;
+    answer.push(&text)
+}
+
+/// What is written of the patterns of a source under a root, for the lines of paths.
+fn list_text(
+    alloc: Global,
+    patterns: &[u8],
+    source: &str,
+    root: Option<&str>,
+    case: Case,
+    paths: &[u8],
+) -> Result<Vec<u8>, RowFault> {
     if !has_file_part(source) {
         return Err(RowFault::Field("a source with a file part"));
     }
-    let mut patterns = Watched::new(question.bytes(3)?);
-    let (mut paths, mut writer) = (Watched::new(question.bytes(4)?), Watched::new(room(alloc)?));
+    let mut patterns = Watched::new(patterns);
+    let (mut paths, mut writer) = (Watched::new(paths), Watched::new(room(alloc)?));
     match run_list(
         alloc,
         &mut patterns,
@@ -96,7 +107,7 @@ pub(crate) fn listed(
         &mut paths,
         &mut writer,
     ) {
-        Ok(()) => answer.push(&writer.into_inner()),
+        Ok(()) => Ok(writer.into_inner()),
         Err(EngineFault::Memory) => Err(RowFault::Memory),
         Err(_fault) => Err(RowFault::Call("run_list")),
     }

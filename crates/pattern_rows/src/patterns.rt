@@ -1,13 +1,18 @@
 //! Rows of patterns: what is read of lines, how it is shown, and what it matches.
-ghost use Rattle.std.specs.Prelude.{◌↔◌, IsTrue};
+ghost use Rattle.std.specs.Prelude.{◌↔◌, IfOk, IsTrue};
+ghost use Rattle.std.specs.Option.{ForSome};
 ghost use Rattle.gix_glob.specs.Bytes.{HasByte, slash};
+ghost use Rattle.gix_glob.specs.RepositoryPaths.{IsAfterLastSlash};
 
 use crate::words::{case_of, mode_of};
 use bitflags::Flags;
-use gix_glob::parse;
-use gix_glob::pattern::{Mode, Pattern, PatternView, basename_start};
+use gix_glob::pattern::{Case, Mode, Pattern, PatternView, basename_start};
+use gix_glob::{parse, wildmatch};
 use row_texts::{Answer, Question, RowFault};
-use std::alloc::Global;
+use std::alloc::{AllocError, Global};
+
+/// The words for what a pattern is read of: a line, or a text in which a sign at the front has no meaning.
+const WAYS: &[(&[u8], bool)] = &[(b"line", true), (b"text", false)];
 
 /// What is read of a line, or of a text in which a sign at the front has no meaning.
 pub(crate) fn reading(
@@ -16,22 +21,32 @@ pub(crate) fn reading(
     answer: &mut Answer,
 ) -> Result<(), RowFault> {
     let line = question.bytes(1)?;
-    let (is_line, pattern) = match question.bytes(0)? {
-        b"line" => (true, parse::parse(alloc, line)?),
-        b"text" => (false, Pattern::from_bytes_without_negation(alloc, line)?),
-        _ => return Err(RowFault::Field("a way to read")),
-    };
+    let is_line = question.word(0, WAYS, "a way to read")?;
     let read = parse::pattern(line, is_line);
-    match (read, &pattern) {
-        (None, None) => {
-            answer.push_option(None)?;
-            answer.push_option(None)?;
-            answer.push_option(None)
-        }
-        (Some(read), Some(pattern)) if is_reading(pattern.view(), read) => {
-            push_reading(alloc, read, answer)
-        }
-        _ => Err(RowFault::Call("both readings differ")),
+    if !agrees(read, &pattern_read(alloc, line, is_line)?) {
+        return Err(RowFault::Call("both readings differ"));
+    }
+    match read {
+        Some(read) => push_reading(alloc, read, answer),
+        None => answer.push_nothings(3),
+    }
+}
+
+/// The pattern of a line or of a text.
+fn pattern_read(alloc: Global, line: &[u8], is_line: bool) -> Result<Option<Pattern>, AllocError> {
+    if is_line {
+        parse::parse(alloc, line)
+    } else {
+        Pattern::from_bytes_without_negation(alloc, line)
+    }
+}
+
+/// Whether a pattern is of a reading, or there is neither.
+fn agrees(read: Option<Reading<'_>>, pattern: &Option<Pattern>) -> bool {
+    match (read, pattern) {
+        (None, None) => true,
+        (Some(read), Some(pattern)) => is_reading(pattern.view(), read),
+        _ => false,
     }
 }
 
@@ -91,12 +106,18 @@ pub(crate) fn parts(
     question: &Question,
     answer: &mut Answer,
 ) -> Result<(), RowFault> {
+    let mode = Mode::from_bits_retain(bits_of(question, 1)?);
+    let place = question.number(2)?;
     let text = Vec::from_slice(alloc, question.bytes(0)?)?;
-    let Ok(bits) = question.text(1)?.parse::<u32>() else {
-        return Err(RowFault::Field("bits"));
-    };
-    let made = Pattern::from_parts(text, Mode::from_bits_retain(bits), question.number(2)?);
-    answer.push_bool(made.is_ok())
+    answer.push_bool(Pattern::from_parts(text, mode, place).is_ok())
+}
+
+/// The bits of a field.
+fn bits_of(question: &Question, place: usize) -> Result<u32, RowFault> {
+    match question.text(place)?.parse::<u32>() {
+        Ok(bits) => Ok(bits),
+        Err(_bad) => Err(RowFault::Field("bits")),
+    }
 }
 
 /// How the pattern of a line is shown.
@@ -115,18 +136,24 @@ pub(crate) fn values(
     question: &Question,
     answer: &mut Answer,
 ) -> Result<(), RowFault> {
-    let (mode, line, value) = (
-        mode_of(question, 0)?,
-        question.bytes(1)?,
-        question.bytes(2)?,
-    );
-    let pattern = pattern_of(alloc, line)?;
-    let is_matched = pattern.matches(value, mode);
+    let (mode, line) = (mode_of(question, 0)?, question.bytes(1)?);
+    let value = question.bytes(2)?;
+    answer.push_bool(is_matched(alloc, line, value, mode)?)
+}
+
+/// Whether the pattern of a line matches a value. Its view has to agree.
+fn is_matched(
+    alloc: Global,
+    line: &[u8],
+    value: &[u8],
+    mode: wildmatch::Mode,
+) -> Result<bool, RowFault> {
+    let is_matched = pattern_of(alloc, line)?.matches(value, mode);
     let view = PatternView::from_bytes(line).ok_or(RowFault::Field("a line with a pattern"))?;
     if view.matches(value, mode) != is_matched {
         return Err(RowFault::Call("the pattern and its view differ"));
     }
-    answer.push_bool(is_matched)
+    Ok(is_matched)
 }
 
 /// Where the last part of a path begins.
@@ -146,14 +173,25 @@ fn is_relative(path: &[u8]) -> bool
     !path.starts_with(b"/")
 }
 
-/// Whether a path is a directory's, where that is known.
-fn kind_of(question: &Question, place: usize) -> Result<Option<bool>, RowFault> {
-    match question.bytes(place)? {
-        b"unknown" => Ok(None),
-        b"file" => Ok(Some(false)),
-        b"folder" => Ok(Some(true)),
-        _ => Err(RowFault::Field("a kind")),
+/// The words for what a path is known to be: whether it is a folder's.
+const KINDS: &[(&[u8], Option<bool>)] = &[
+    (b"unknown", None),
+    (b"file", Some(false)),
+    (b"folder", Some(true)),
+];
+
+/// Where the last part of a path begins, by a field that tells it where it is told.
+fn told_start(path: &[u8], told: Option<usize>) -> Result<Option<usize>, RowFault>
+    ensures { IfOk result (λ start. ForSome start (IsAfterLastSlash path.now)) }
+{
+    if told.is_none() {
+        return Ok(None);
     }
+    let found = basename_start(path);
+    if found != told {
+        return Err(RowFault::Field("where the last part begins"));
+    }
+    Ok(found)
 }
 
 /// Whether the pattern of a line matches the path of a repository.
@@ -162,24 +200,9 @@ pub(crate) fn repository_paths(
     question: &Question,
     answer: &mut Answer,
 ) -> Result<(), RowFault> {
-    let (case, mode) = (case_of(question, 0)?, mode_of(question, 1)?);
-    let (line, path) = (question.bytes(2)?, question.bytes(3)?);
-    let kind = kind_of(question, 5)?;
-    let pattern = pattern_of(alloc, line)?;
-    if !is_relative(path) {
-        return Err(RowFault::Field("a relative path"));
-    }
-    let start = question.number(4)?;
-    let is_matched = if start.is_none() {
-        pattern.matches_repo_relative_path(path, None, kind, case, mode)
-    } else {
-        let found = basename_start(path);
-        if found != start {
-            return Err(RowFault::Field("where the last part begins"));
-        }
-        pattern.matches_repo_relative_path(path, found, kind, case, mode)
-    };
-    answer.push_bool(is_matched)
+    let pattern = pattern_of(alloc, question.bytes(2)?)?;
+    let asked = AskedPath::new(question, 3)?;
+    answer.push_bool(asked.is_matched_by(&pattern, mode_of(question, 1)?)?)
 }
 
 /// Whether the pattern of a line matches a path, as Git reads it.
@@ -188,19 +211,46 @@ pub(crate) fn git_paths(
     question: &Question,
     answer: &mut Answer,
 ) -> Result<(), RowFault> {
-    let case = case_of(question, 0)?;
-    let (line, path) = (question.bytes(1)?, question.bytes(2)?);
-    let kind = kind_of(question, 4)?;
-    let pattern = Pattern::from_git_line(alloc, line)?;
-    let start = question.number(3)?;
-    let is_matched = if start.is_none() {
-        pattern.matches_path_as_git(path, None, kind, case)
-    } else {
-        let found = basename_start(path);
-        if found != start {
-            return Err(RowFault::Field("where the last part begins"));
+    let pattern = Pattern::from_git_line(alloc, question.bytes(1)?)?;
+    let asked = AskedPath::new(question, 2)?;
+    answer.push_bool(asked.is_matched_as_git(&pattern)?)
+}
+
+/// A path that a pattern is asked about.
+#[derive(Clone, Copy)]
+struct AskedPath<'a> {
+    path: &'a [u8],
+    /// Where its last part begins, where that is told.
+    start: Option<usize>,
+    /// Whether it is a folder's, where that is known.
+    is_folder: Option<bool>,
+    case: Case,
+}
+
+impl<'a> AskedPath<'a> {
+    /// The path of a field and the two behind it, in the case of the first field.
+    fn new(question: &'a Question, place: usize) -> Result<AskedPath<'a>, RowFault> {
+        Ok(AskedPath {
+            path: question.bytes(place)?,
+            start: question.number(place.saturating_add(1))?,
+            is_folder: question.word(place.saturating_add(2), KINDS, "a kind")?,
+            case: case_of(question, 0)?,
+        })
+    }
+
+    /// Whether a pattern matches it as the path of a repository.
+    fn is_matched_by(self, pattern: &Pattern, mode: wildmatch::Mode) -> Result<bool, RowFault> {
+        let (path, kind, case) = (self.path, self.is_folder, self.case);
+        if !is_relative(path) {
+            return Err(RowFault::Field("a relative path"));
         }
-        pattern.matches_path_as_git(path, found, kind, case)
-    };
-    answer.push_bool(is_matched)
+        let start = told_start(path, self.start)?;
+        Ok(pattern.matches_repo_relative_path(path, start, kind, case, mode))
+    }
+
+    /// Whether a pattern matches it as Git reads both.
+    fn is_matched_as_git(self, pattern: &Pattern) -> Result<bool, RowFault> {
+        let start = told_start(self.path, self.start)?;
+        Ok(pattern.matches_path_as_git(self.path, start, self.is_folder, self.case))
+    }
 }

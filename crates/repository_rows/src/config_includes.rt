@@ -1,6 +1,7 @@
 //! Rows of a configuration of several files: what they say, with what they include.
 
 use crate::config_files::push_line;
+use crate::text_lines::lines_of;
 use git_config::{
     Config, ConfigFiles, FoundFile, ReadFault, ReadSetting, SettingFault, Source, Surroundings,
     WrongSetting, split_word,
@@ -42,14 +43,24 @@ pub(crate) fn config_includes(
     question: &Question,
     answer: &mut Answer,
 ) -> Result<(), RowFault> {
+    let around = surroundings(alloc, question)?;
+    let sources = sources_of(alloc, question.bytes(2)?, question.bytes(3)?)?;
     let files = Files {
         alloc,
         fields: question.rest(4),
     };
-    let mut around = surroundings(alloc, question)?;
-    let sources = sources_of(alloc, question.bytes(2)?, question.bytes(3)?)?;
-    around.urls = urls_read(alloc, &files, &around, &sources)?;
-    answer.push(&text_read(alloc, &files, &around, &sources)?)
+    answer.push(&text_with_urls(alloc, &files, around, &sources)?)
+}
+
+/// What is read where the URLs of remotes are those that are read without them.
+fn text_with_urls(
+    alloc: Global,
+    files: &Files<'_>,
+    mut around: Surroundings,
+    sources: &[Source<'_>],
+) -> Result<Vec<u8>, RowFault> {
+    around.urls = urls_read(alloc, files, &around, sources)?;
+    text_read(alloc, files, &around, sources)
 }
 
 /// What is read, a line for each entry; or the line of the fault.
@@ -144,12 +155,12 @@ pub(crate) fn sources_of<'a>(
     words: &'a [u8],
 ) -> Result<Vec<Source<'a>>, AllocError> {
     let mut sources = Vec::new(alloc);
-    for path in files.split(|byte| *byte == b'\n') {
+    for path in lines_of(alloc, files)? {
         if !path.is_empty() {
             sources.push(Source::File(path))?;
         }
     }
-    for word in words.split(|byte| *byte == b'\n') {
+    for word in lines_of(alloc, words)? {
         if !word.is_empty() {
             let (key, value) = split_word(word);
             sources.push(Source::Word { key, value })?;

@@ -1,5 +1,6 @@
 //! Rows of the sources of a configuration: which files and words are read, or what is wrong behind them.
 
+use crate::text_lines::lines_of;
 use core_settings::{
     ConfigPlaces, ConfigSource, ConfigSources, Pair, SourcesFault, config_sources as sources_of,
 };
@@ -14,15 +15,34 @@ pub(crate) fn config_sources(
     answer: &mut Answer,
 ) -> Result<(), RowFault> {
     let variables = variables_of(alloc, question.bytes(0)?)?;
-    let places = places_of(&variables, question.option(1)?, question.option(2)?);
-    let sources = read_by(alloc, &places, &variables, question.bytes(3)?)?;
+    let sources = sources_told(alloc, question, &variables)?;
+    push_sources(alloc, &sources, answer)
+}
+
+/// What is read by variables of the environment, the folders of a repository and words.
+fn sources_told(
+    alloc: Global,
+    question: &Question,
+    variables: &[(&[u8], &[u8])],
+) -> Result<ConfigSources, RowFault> {
+    let (repository, work_tree) = (question.option(1)?, question.option(2)?);
+    let words = question.bytes(3)?;
+    Ok(read_by(alloc, variables, repository, work_tree, words)?)
+}
+
+/// Adds the sources or the fault, and nothing for the other.
+fn push_sources(
+    alloc: Global,
+    sources: &ConfigSources,
+    answer: &mut Answer,
+) -> Result<(), RowFault> {
     match &sources.fault {
         Some(fault) => {
             answer.push_option(None)?;
             answer.push(&fault_text(alloc, fault)?)
         }
         None => {
-            answer.push(&list_text(alloc, &sources)?)?;
+            answer.push(&list_text(alloc, sources)?)?;
             answer.push_option(None)
         }
     }
@@ -48,25 +68,23 @@ fn places_of<'a>(
     }
 }
 
-/// What is read by places, variables and words, a line each.
+/// What is read by variables, folders and words, a line each.
 fn read_by(
     alloc: Global,
-    places: &ConfigPlaces<&[u8]>,
     variables: &[(&[u8], &[u8])],
+    repository: Option<&[u8]>,
+    work_tree: Option<&[u8]>,
     words: &[u8],
 ) -> Result<ConfigSources, AllocError> {
+    let places = places_of(variables, repository, work_tree);
     let pairs = pairs_of(alloc, variables)?;
-    sources_of(alloc, places, &pairs, &lines_of(alloc, words)?)
+    sources_of(alloc, &places, &pairs, &words_of(alloc, words)?)
 }
 
 /// The lines that aren't empty.
-fn lines_of<'a>(alloc: Global, text: &'a [u8]) -> Result<Vec<&'a [u8]>, AllocError> {
-    let mut lines = Vec::new(alloc);
-    for line in text.split(|byte| *byte == b'\n') {
-        if !line.is_empty() {
-            lines.push(line)?;
-        }
-    }
+fn words_of(alloc: Global, text: &[u8]) -> Result<Vec<&[u8]>, AllocError> {
+    let mut lines = lines_of(alloc, text)?;
+    lines.retain(|line| !line.is_empty());
     Ok(lines)
 }
 
@@ -76,7 +94,7 @@ fn variables_of<'a>(
     text: &'a [u8],
 ) -> Result<Vec<(&'a [u8], &'a [u8])>, AllocError> {
     let mut variables = Vec::new(alloc);
-    for line in text.split(|byte| *byte == b'\n') {
+    for line in lines_of(alloc, text)? {
         if let (name, Some(value)) = split_word(line) {
             variables.push((name, value))?;
         }

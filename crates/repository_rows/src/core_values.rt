@@ -1,9 +1,9 @@
 //! Rows of what files and words set of matching, printing and listing.
 
 use crate::config_includes::{Files, around_home, sources_of};
-use core_settings::{CoreFault, ShowUntracked, core_settings as settings_of};
+use core_settings::{CoreFault, CoreSettings, ShowUntracked, core_settings as settings_of};
 use git_config::{Config, ReadFault, Source, Surroundings};
-use row_texts::{Answer, Question, RowFault};
+use row_texts::{Answer, Field, Question, RowFault};
 use std::alloc::Global;
 
 /// What files and then words set, or the first fault.
@@ -12,22 +12,40 @@ pub(crate) fn core_settings(
     question: &Question,
     answer: &mut Answer,
 ) -> Result<(), RowFault> {
-    let files = Files {
-        alloc,
-        fields: question.rest(4),
-    };
     let around = around_home(alloc, question.option(0)?)?;
-    let sources = sources_of(alloc, question.bytes(2)?, question.bytes(3)?)?;
-    let config = config_of(alloc, &files, &around, &sources)?;
-    match settings_of(alloc, &config, &around, question.option(1)?, false) {
-        Ok(core) => {
-            answer.push_bool(core.ignore_case)?;
-            answer.push_bool(core.quote_path)?;
-            answer.push_option(core.excludes.as_deref())?;
-            answer.push_option(core.attributes.as_deref())
-        }
+    let config = config_told(
+        alloc,
+        question.bytes(2)?,
+        question.bytes(3)?,
+        question.rest(4),
+        &around,
+    )?;
+    let named = question.option(1)?;
+    match settings_of(alloc, &config, &around, named, false) {
+        Ok(core) => push_settings(&core, answer),
         Err(fault) => push_fault(alloc, &fault, answer),
     }
+}
+
+/// What the files of these names and then words say. The fields have the files.
+fn config_told(
+    alloc: Global,
+    names: &[u8],
+    words: &[u8],
+    fields: &[Field],
+    around: &Surroundings,
+) -> Result<Config, RowFault> {
+    let files = Files { alloc, fields };
+    let sources = sources_of(alloc, names, words)?;
+    config_of(alloc, &files, around, &sources)
+}
+
+/// Adds what is set.
+fn push_settings(core: &CoreSettings<Vec<u8>>, answer: &mut Answer) -> Result<(), RowFault> {
+    answer.push_bool(core.ignore_case)?;
+    answer.push_bool(core.quote_path)?;
+    answer.push_option(core.excludes.as_deref())?;
+    answer.push_option(core.attributes.as_deref())
 }
 
 /// Which files `status` tells that aren't tracked, by files and then words, or the first fault.
@@ -36,13 +54,14 @@ pub(crate) fn status_settings(
     question: &Question,
     answer: &mut Answer,
 ) -> Result<(), RowFault> {
-    let files = Files {
-        alloc,
-        fields: question.rest(3),
-    };
     let around = around_home(alloc, question.option(0)?)?;
-    let sources = sources_of(alloc, question.bytes(1)?, question.bytes(2)?)?;
-    let config = config_of(alloc, &files, &around, &sources)?;
+    let config = config_told(
+        alloc,
+        question.bytes(1)?,
+        question.bytes(2)?,
+        question.rest(3),
+        &around,
+    )?;
     match settings_of(alloc, &config, &around, None, true) {
         Ok(core) => answer.push(name_of(core.untracked)),
         Err(CoreFault::Memory) => Err(RowFault::Memory),
@@ -84,7 +103,5 @@ fn push_fault(
         return Err(RowFault::Memory);
     }
     answer.push_shown(alloc, fault)?;
-    answer.push_option(None)?;
-    answer.push_option(None)?;
-    answer.push_option(None)
+    answer.push_nothings(3)
 }

@@ -30,20 +30,24 @@ pub(crate) fn index_paths(
     question: &Question,
     answer: &mut Answer,
 ) -> Result<(), RowFault> {
-    let format = format_of(question)?;
     let path = question.bytes(2)?;
+    let index = index_of(alloc, question)?;
+    answer.push_bool(index.is_tracked(path))?;
+    answer.push_bool(index.has_below(path))
+}
+
+/// The index of the first two fields. Rows that ask about paths have none that is wrong.
+pub(crate) fn index_of(alloc: Global, question: &Question) -> Result<Index, RowFault> {
+    let format = format_of(question)?;
     match Index::from_bytes(alloc, question.bytes(1)?, format) {
-        Ok(index) => {
-            answer.push_bool(index.is_tracked(path))?;
-            answer.push_bool(index.has_below(path))
-        }
+        Ok(index) => Ok(index),
         Err(IndexFault::Memory) => Err(RowFault::Memory),
         Err(_fault) => Err(RowFault::Call("Index::from_bytes")),
     }
 }
 
 /// How objects are named, by the first field.
-pub(crate) fn format_of(question: &Question) -> Result<ObjectFormat, RowFault> {
+fn format_of(question: &Question) -> Result<ObjectFormat, RowFault> {
     match question.bytes(0)? {
         b"sha1" => Ok(ObjectFormat::Sha1),
         b"sha256" => Ok(ObjectFormat::Sha256),

@@ -9,6 +9,7 @@ mod core_values;
 mod file_table;
 mod index_files;
 mod repositories;
+mod text_lines;
 mod tracked_rows;
 
 pub use asking::{RepositorySubject, ask_repositories};

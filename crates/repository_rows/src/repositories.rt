@@ -1,6 +1,7 @@
 //! Rows of repositories: where the one of a current folder is, and which are its folders.
 
 use crate::file_table::FileTable;
+use crate::text_lines::lines_of;
 use git_config::{
     ConfigFault, ConfigFile, Entry, Item, boolean, integer, last_boolean, split_word,
 };
@@ -31,7 +32,7 @@ pub(crate) fn safe_directories(
     answer: &mut Answer,
 ) -> Result<(), RowFault> {
     let mut values = Vec::new(alloc);
-    for line in question.bytes(1)?.split(|byte| *byte == b'\n') {
+    for line in lines_of(alloc, question.bytes(1)?)? {
         values.push(Vec::from_slice(alloc, line)?)?;
     }
     answer.push_bool(trusts(&values, question.bytes(0)?))
@@ -45,19 +46,22 @@ pub(crate) fn work_trees(
 ) -> Result<(), RowFault> {
     let row = Row::new(alloc, question)?;
     match row.folders(alloc) {
-        Ok(folders) => {
-            answer.push_option(row.table.real_path(&folders.common)?.as_deref())?;
-            answer.push_option(folders.top.as_deref())
-        }
-        Err(Told::Found(fault)) => {
-            push_fault(alloc, fault, answer)?;
-            answer.push_option(None)
-        }
-        Err(Told::Text(text)) => {
-            answer.push(text.as_bytes())?;
+        Ok(folders) => push_folders(&row.table, &folders, answer),
+        Err(told) => {
+            push_told(alloc, told, answer)?;
             answer.push_option(None)
         }
     }
+}
+
+/// Adds a common folder and a work tree.
+fn push_folders(
+    table: &FileTable<'_>,
+    folders: &Tops,
+    answer: &mut Answer,
+) -> Result<(), RowFault> {
+    answer.push_option(table.real_path(&folders.common)?.as_deref())?;
+    answer.push_option(folders.top.as_deref())
 }
 
 /// How Git names the file `info/exclude` of a repository; or the fault.
@@ -68,8 +72,15 @@ pub(crate) fn exclude_names(
 ) -> Result<(), RowFault> {
     match Row::new(alloc, question)?.folders(alloc) {
         Ok(folders) => answer.push_option(folders.exclude.as_deref()),
-        Err(Told::Found(fault)) => push_fault(alloc, fault, answer),
-        Err(Told::Text(text)) => answer.push(text.as_bytes()),
+        Err(told) => push_told(alloc, told, answer),
+    }
+}
+
+/// Adds why folders aren't told, but want of memory.
+fn push_told(alloc: Global, told: Told, answer: &mut Answer) -> Result<(), RowFault> {
+    match told {
+        Told::Found(fault) => push_fault(alloc, fault, answer),
+        Told::Text(text) => answer.push(text.as_bytes()),
     }
 }
 
@@ -134,6 +145,98 @@ impl Said {
     }
 }
 
+/// A line of the second field: a name, and what stands behind its equals sign.
+type Line<'a> = (&'a [u8], Option<&'a [u8]>);
+
+const OTHER_OWNER: &[u8] = b"GIT_TEST_ASSUME_DIFFERENT_OWNER";
+
+const ACROSS: &[u8] = b"GIT_DISCOVERY_ACROSS_FILESYSTEM";
+
+/// What lines name: variables of the environment, settings, a device; and a line of no bytes nothing.
+const NAMES: &[&[u8]] = &[
+    b"GIT_DIR",
+    b"GIT_WORK_TREE",
+    b"GIT_COMMON_DIR",
+    b"GIT_INDEX_FILE",
+    b"GIT_OBJECT_DIRECTORY",
+    b"GIT_CEILING_DIRECTORIES",
+    ACROSS,
+    OTHER_OWNER,
+    b"device",
+    b"safe.bareRepository",
+    b"safe.directory",
+    b"",
+];
+
+/// Whether lines may name this.
+fn is_known(name: &[u8]) -> bool {
+    for known in NAMES {
+        if *known == name {
+            return true;
+        }
+    }
+    false
+}
+
+/// What the lines of a text say.
+fn said_in(alloc: Global, text: &[u8]) -> Result<Vec<Line<'_>>, RowFault> {
+    let mut lines = Vec::new(alloc);
+    for line in lines_of(alloc, text)? {
+        let (name, value) = split_word(line);
+        if !is_known(name) {
+            return Err(RowFault::Field("a variable"));
+        }
+        lines.push((name, value))?;
+    }
+    Ok(lines)
+}
+
+/// What the last line of a name says.
+fn value_of<'a>(lines: &[Line<'a>], asked: &[u8]) -> Option<&'a [u8]> {
+    let mut last = None;
+    for (name, value) in lines {
+        if *name == asked {
+            last = *value;
+        }
+    }
+    last
+}
+
+/// Whether a line has this name.
+fn is_set(lines: &[Line<'_>], asked: &[u8]) -> bool {
+    for (name, _value) in lines {
+        if *name == asked {
+            return true;
+        }
+    }
+    false
+}
+
+/// The variables of the environment that Git asks for.
+fn environment_of<'a>(lines: &[Line<'a>]) -> Environment<&'a [u8]> {
+    let is_across = is_set(lines, ACROSS) && boolean(value_of(lines, ACROSS)).unwrap_or(false);
+    Environment {
+        git_dir: value_of(lines, b"GIT_DIR"),
+        work_tree: value_of(lines, b"GIT_WORK_TREE"),
+        common_dir: value_of(lines, b"GIT_COMMON_DIR"),
+        index_file: value_of(lines, b"GIT_INDEX_FILE"),
+        object_directory: value_of(lines, b"GIT_OBJECT_DIRECTORY"),
+        ceiling_directories: value_of(lines, b"GIT_CEILING_DIRECTORIES"),
+        across_file_systems: is_across,
+    }
+}
+
+/// The values of `safe.directory`.
+fn directories_of(alloc: Global, lines: &[Line<'_>]) -> Result<Vec<Vec<u8>>, AllocError> {
+    let mut directories = Vec::new(alloc);
+    for (name, value) in lines {
+        if *name == b"safe.directory".as_slice() {
+            directories.push(Vec::from_slice(alloc, value.unwrap_or(b""))?)?;
+        }
+    }
+    Ok(directories)
+}
+
 /// What a row says: the current folder, the variables and settings, and the files.
 #[derive(Drop)]
 struct Row<'a> {
@@ -148,43 +251,27 @@ impl<'a> Row<'a> {
     /// The row of a question.
     fn new(alloc: Global, question: &'a Question) -> Result<Row<'a>, RowFault> {
         let current = question.bytes(0)?;
-        let mut row = Row {
-            current,
-            words: Environment {
-                git_dir: None,
-                work_tree: None,
-                common_dir: None,
-                index_file: None,
-                object_directory: None,
-                ceiling_directories: None,
-                across_file_systems: false,
-            },
-            directories: Vec::new(alloc),
-            bare_is_refused: false,
-            table: FileTable::new(alloc, current, question.rest(2))?,
-        };
-        for line in question.bytes(1)?.split(|byte| *byte == b'\n') {
-            row.take(alloc, line)?;
-        }
-        Ok(row)
+        let lines = said_in(alloc, question.bytes(1)?)?;
+        let table = FileTable::new(alloc, current, question.rest(2))?;
+        Ok(Row::by_lines(alloc, current, &lines, table)?)
     }
 
-    /// Takes a line of the second field.
-    fn take(&mut self, alloc: Global, line: &'a [u8]) -> Result<(), RowFault> {
-        let (key, value) = split_word(line);
-        match key {
-            _ if set_variable(&mut self.words, key, value) => {}
-            b"GIT_TEST_ASSUME_DIFFERENT_OWNER" => self.table.is_ours = false,
-            b"device" => self.table.device = value,
-            b"safe.bareRepository" => self.bare_is_refused = value == Some(b"explicit"),
-            b"safe.directory" => {
-                let path = Vec::from_slice(alloc, value.unwrap_or(b""))?;
-                self.directories.push(path)?;
-            }
-            b"" => {}
-            _ => return Err(RowFault::Field("a variable")),
-        }
-        Ok(())
+    /// The row of a current folder, lines, and the files, which the lines may tell more of.
+    fn by_lines(
+        alloc: Global,
+        current: &'a [u8],
+        lines: &[Line<'a>],
+        mut table: FileTable<'a>,
+    ) -> Result<Row<'a>, AllocError> {
+        table.is_ours = !is_set(lines, OTHER_OWNER);
+        table.device = value_of(lines, b"device");
+        Ok(Row {
+            current,
+            words: environment_of(lines),
+            directories: directories_of(alloc, lines)?,
+            bare_is_refused: value_of(lines, b"safe.bareRepository") == Some(b"explicit"),
+            table,
+        })
     }
 
     /// The repository that is found.
@@ -201,11 +288,21 @@ impl<'a> Row<'a> {
         let found = self.find(alloc)?;
         let folders = folders_of(alloc, &self.table, &self.words, &found)?;
         let said = self.said(alloc, &folders)?;
-        let settings = said.settings(alloc)?;
-        let top = work_tree_of(alloc, &self.table, &self.words, &settings, &found)?;
-        let exclude = self.exclude(alloc, &settings, &found, top.as_deref())?;
+        Ok(self.tops(alloc, folders.common_folder, &said.settings(alloc)?, &found)?)
+    }
+
+    /// What settings tell, with its common folder.
+    fn tops(
+        &self,
+        alloc: Global,
+        common: Vec<u8>,
+        settings: &Settings<&[u8]>,
+        found: &Found<Vec<u8>>,
+    ) -> Result<Tops, FindFault<Vec<u8>>> {
+        let top = work_tree_of(alloc, &self.table, &self.words, settings, found)?;
+        let exclude = self.exclude(alloc, settings, found, top.as_deref())?;
         Ok(Tops {
-            common: folders.common_folder,
+            common,
             top,
             exclude,
         })
@@ -235,12 +332,8 @@ impl<'a> Row<'a> {
         let has_version = checked_version(alloc, &file)?;
         let has_worktree_config = is_true(alloc, &file, b"extensions.worktreeconfig")?;
         if has_worktree_config {
-            let mut own = self.config(alloc, folders, RepositoryFile::WorktreeConfig)?;
-            // (what stands there before the first section has none)
-            file.items
-                .push(Item::Section(Vec::new(alloc)))
-                .map_err(AllocError::from)?;
-            file.items.append(&mut own.items)?;
+            let own = self.config(alloc, folders, RepositoryFile::WorktreeConfig)?;
+            append(alloc, &mut file, own)?;
         }
         Ok(Said {
             file,
@@ -266,25 +359,12 @@ impl<'a> Row<'a> {
     }
 }
 
-/// Sets a variable of the environment that Git asks for. It answers whether the key is one of these.
-fn set_variable<'a>(
-    words: &mut Environment<&'a [u8]>,
-    key: &[u8],
-    value: Option<&'a [u8]>,
-) -> bool {
-    match key {
-        b"GIT_DIR" => words.git_dir = value,
-        b"GIT_WORK_TREE" => words.work_tree = value,
-        b"GIT_COMMON_DIR" => words.common_dir = value,
-        b"GIT_INDEX_FILE" => words.index_file = value,
-        b"GIT_OBJECT_DIRECTORY" => words.object_directory = value,
-        b"GIT_CEILING_DIRECTORIES" => words.ceiling_directories = value,
-        b"GIT_DISCOVERY_ACROSS_FILESYSTEM" => {
-            words.across_file_systems = boolean(value).unwrap_or(false);
-        }
-        _ => return false,
-    }
-    true
+/// Appends the entries of another file. What stands there before the first section has none.
+fn append(alloc: Global, file: &mut ConfigFile, mut other: ConfigFile) -> Result<(), AllocError> {
+    file.items
+        .push(Item::Section(Vec::new(alloc)))
+        .map_err(AllocError::from)?;
+    file.items.append(&mut other.items)
 }
 
 /// Whether the last entry of a key is true.

@@ -41,6 +41,14 @@ impl Answer {
         }
     }
 
+    /// Adds so many fields that stand for nothing.
+    pub fn push_nothings(&mut self, count: usize) -> Result<(), RowFault> {
+        for _ in 0..count {
+            self.push_nothing()?;
+        }
+        Ok(())
+    }
+
     /// Adds `yes` or `no`.
     pub fn push_bool(&mut self, is_so: bool) -> Result<(), RowFault> {
         self.push(if is_so { b"yes" } else { b"no" })

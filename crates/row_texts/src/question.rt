@@ -46,6 +46,30 @@ impl Question {
         }
     }
 
+    /// The text of a field, where there are bytes.
+    pub fn text_option(&self, place: usize) -> Result<Option<&str>, RowFault> {
+        match self.option(place)? {
+            Some(_bytes) => Ok(Some(self.text(place)?)),
+            None => Ok(None),
+        }
+    }
+
+    /// What the word of a field stands for, by a table of words. `what` says what a field is that has none of them.
+    pub fn word<T: Copy>(
+        &self,
+        place: usize,
+        words: &[(&[u8], T)],
+        what: &'static str,
+    ) -> Result<T, RowFault> {
+        let bytes = self.bytes(place)?;
+        for (word, meaning) in words {
+            if *word == bytes {
+                return Ok(*meaning);
+            }
+        }
+        Err(RowFault::Field(what))
+    }
+
     /// Whether a file lies at the top.
     pub fn is_top(&self, place: usize) -> Result<bool, RowFault> {
         match self.bytes(place)? {

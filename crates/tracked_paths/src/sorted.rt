@@ -10,20 +10,6 @@ use crate::folding::{compare, compare_parts};
 use git_index::{Entry, Kind};
 use std::alloc::{AllocError, Global};
 
-/// The same entry in memory of its own.
-fn copied(entry: &Entry) -> Result<Entry, AllocError>
-    ensures { IfOk result (λ copy. tracked copy ≡ tracked entry.now) }
-{
-    Ok(Entry {
-        path: entry.path.clone()?,
-        stage: entry.stage,
-        kind: entry.kind,
-        assume_valid: entry.assume_valid,
-        skip_worktree: entry.skip_worktree,
-        intent_to_add: entry.intent_to_add,
-    })
-}
-
 /// Copies of entries, in the order of their paths without case. Those of one path stay in the order that they have.
 pub fn sorted(alloc: Global, entries: &[Entry]) -> Result<Vec<Entry>, AllocError>
     ensures ordered { IfOk result (λ sorted. InOrder (map bare (map tracked sorted.items))) }
@@ -31,7 +17,7 @@ pub fn sorted(alloc: Global, entries: &[Entry]) -> Result<Vec<Entry>, AllocError
 {
     let mut sorted = Vec::with_capacity(alloc, entries.len())?;
     for entry in entries {
-        sorted.push(copied(entry)?)?;
+        sorted.push(entry.clone()?)?;
     }
     sorted.sort_by(|left, right| compare(&left.path, &right.path))?;
     Ok(sorted)

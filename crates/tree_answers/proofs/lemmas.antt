@@ -2,4 +2,3 @@ pub mod GitPatternLines
 pub mod NameLemmas
 pub mod PatternLines
 pub mod RecordLemmas
-pub mod ZeroLemmas

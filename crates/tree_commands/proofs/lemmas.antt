@@ -13,6 +13,9 @@ pub mod AttributeTexts
 pub mod AttributeTold
 pub mod AttributeWalks
 pub mod BeginLemmas
+pub mod BesideLemmas
+pub mod BesideSearches
+pub mod EmptyLemmas
 pub mod EntryLemmas
 pub mod FillingLemmas
 pub mod FindingLemmas
@@ -22,6 +25,7 @@ pub mod LevelLemmas
 pub mod ListingLemmas
 pub mod ListingRuns
 pub mod ListsLemmas
+pub mod LookupLemmas
 pub mod MetLemmas
 pub mod NameLemmas
 pub mod OrderLemmas

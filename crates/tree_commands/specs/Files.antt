@@ -1,5 +1,5 @@
 -- Which files of a tree are listed, and in which order. A folder's path ends in a slash here, but for the top, which has no bytes.
-use Rattle.std.specs.Prelude.{◌≡◌, ◌≢◌, ◌⊎◌, ◌==◌, ◌&&◌, ℕ, Bool, true, false, not, IsTrue, if◌then◌else◌, List, [], ◌∷◌, ◌++◌, map, Some, codes}
+use Rattle.std.specs.Prelude.{◌≡◌, ◌≢◌, ◌⊎◌, ◌==◌, ◌&&◌, ℕ, Bool, true, false, not, IsTrue, if◌then◌else◌, List, [], ◌∷◌, ◌++◌, map, None, Some, codes}
 use Rattle.std.specs.Char.{to_ascii_lowercase}
 use Rattle.std.specs.Cmp.Lexicographic.{slice_cmp}
 use Rattle.std.specs.List.{Contains, list_any}
@@ -26,7 +26,7 @@ use Rattle.tree_answers.specs.Lines.{behind, name_text}
 use Rattle.tree_commands.specs.declared.files.choosing.Chosen.{Chosen}
 use Rattle.tree_commands.specs.declared.files.choosing.Chosen.TheVariants.{All, Ignored, Unignored}
 use Rattle.tree_commands.specs.declared.files.choosing.Folders.{Folders}
-use Rattle.tree_commands.specs.declared.files.choosing.Folders.TheVariants.{Entered, EnteredUnlessFilled, Named, NamedIfFilled, NamedIfIgnored}
+use Rattle.tree_commands.specs.declared.files.choosing.Folders.TheVariants.{Entered, EnteredUnlessFilled, Named, NamedIfAllIgnored, NamedIfEmpty, NamedIfFilled, NamedIfIgnored}
 use Rattle.tree_commands.specs.declared.files.mark.Mark.{Mark}
 use Rattle.tree_commands.specs.declared.files.mark.Mark.TheVariants as marks
 use Rattle.tree_commands.specs.declared.files.source.EntryKind.{EntryKind}
@@ -109,12 +109,22 @@ IsNamed EnteredUnlessFilled chosen Ignores = ⊥
 IsNamed Named chosen Ignores = Unit {0}
 IsNamed NamedIfFilled chosen Ignores = Unit {0}
 IsNamed NamedIfIgnored chosen Ignores = (chosen ≡ Ignored) × Ignores
+IsNamed NamedIfAllIgnored chosen Ignores = (chosen ≡ Ignored) × Ignores
+IsNamed NamedIfEmpty chosen Ignores = ⊥
 
--- a folder below the top isn't gone into: no tracked path lies in it, and it is a repository of its own, or told by its name
+-- nothing lies in a folder: nothing stands behind any name in it that may be listed
+abbrev pub IsEmpty : Case → FileTree → Folder → Type 0
+IsEmpty case tree folder = (name : List ℕ) → Contains (tree.names folder) name → IsEntryName case name → tree.kind (start_of folder ++ name) ≡ None
+
+-- a folder isn't gone into by what is found in it: it is a repository of its own, or empty, where such folders are told
+abbrev pub ShutsItself : Terms → FileTree → Folder → Type 0
+ShutsItself terms tree folder = (tree.has_git folder ≡ true) ⊎ ((terms.folders ≡ NamedIfEmpty) × IsEmpty terms.case tree folder)
+
+-- a folder below the top isn't gone into: no tracked path lies in it, and it is told by its name, or what is found in it is why
 pub record IsShut (terms : Terms) (tree : FileTree) (folder : Folder) (Ignores : Type 0) : Type 0 where
   pub below : folder ≢ []
   pub free : ¬ HasEntryBelow terms.tracked folder
-  pub why : (tree.has_git folder ≡ true) ⊎ IsNamed terms.folders terms.chosen Ignores
+  pub why : ShutsItself terms tree folder ⊎ IsNamed terms.folders terms.chosen Ignores
 
 -- the paths that are met from one on: this one, and what is found in each folder that is met and gone into, unless that is replaced
 pub data IsMetUnless (basis : Basis) (tree : FileTree) (Replaced : Folder → Type 0) (start : List ℕ) : List ℕ → Type 0 where
@@ -162,18 +172,25 @@ IsListedBy terms tree Ignores path = IsListedFile terms Ignores path ⊎ IsListe
 abbrev pub IsListed : Basis → FileTree → List ℕ → Type 0
 IsListed basis tree path = IsListedBy basis.terms tree (IsIgnoredAt basis tree) path
 
--- the basis of a listing that goes into all folders, of the paths that are chosen so
+-- the basis of a search: a listing of the paths that are chosen so, which tells folders so
+abbrev pub search_of : Folders → Chosen → Basis → Basis
+search_of folders chosen basis = record { fronts = basis.fronts; terms = record { case = basis.terms.case; chosen = chosen; folders = folders; tracked = basis.terms.tracked } }
+
+-- one that goes into all folders
 abbrev pub entering : Chosen → Basis → Basis
-entering chosen basis = record { fronts = basis.fronts; terms = record { case = basis.terms.case; chosen = chosen; folders = Entered; tracked = basis.terms.tracked } }
+entering chosen basis = search_of Entered chosen basis
 
 abbrev pub never : Folder → Type 0
 never folder = ⊥
 
--- such a listing that begins at a folder lists something
-pub record HasListed (chosen : Chosen) (basis : Basis) (tree : FileTree) (folder : Folder) : Type 0 where
+-- a search that begins at a folder lists something
+pub record HasListedBy (folders : Folders) (chosen : Chosen) (basis : Basis) (tree : FileTree) (folder : Folder) : Type 0 where
   pub path : List ℕ
-  pub met : IsMetUnless (entering chosen basis) tree never (start_of folder) path
-  pub listed : IsListed (entering chosen basis) tree path
+  pub met : IsMetUnless (search_of folders chosen basis) tree never (start_of folder) path
+  pub listed : IsListed (search_of folders chosen basis) tree path
+
+abbrev pub HasListed : Chosen → Basis → FileTree → Folder → Type 0
+HasListed chosen basis tree folder = HasListedBy Entered chosen basis tree folder
 
 -- A folder is filled: one of the paths that are chosen does. Where those are the ignored ones, all that lies in the folder is ignored besides.
 abbrev pub IsFilledBy : Chosen → Basis → FileTree → Folder → Type 0
@@ -190,6 +207,16 @@ pub record IsReplaced (basis : Basis) (tree : FileTree) (folder : Folder) : Type
   pub below : folder ≢ []
   pub free : ¬ HasEntryBelow basis.terms.tracked folder
   pub filled : IsFilled basis tree folder
+
+-- All that lies in a folder is ignored, and something does: a search of what isn't lists nothing there, and no empty folder. The folder is
+-- told, and gone into, where such are; it isn't ignored itself, and no tracked file has its name.
+pub record IsAllIgnored (basis : Basis) (tree : FileTree) (folder : Folder) : Type 0 where
+  pub asks : (basis.terms.folders ≡ NamedIfAllIgnored) × (basis.terms.chosen ≡ Ignored)
+  pub below : folder ≢ []
+  pub free : ¬ HasEntryBelow basis.terms.tracked folder
+  pub name : ¬ IsTracked basis.terms.tracked.entries folder
+  pub unignored : ¬ IsIgnoredAt basis tree folder true
+  pub none : ¬ HasListedBy NamedIfEmpty Unignored basis tree folder
 
 abbrev pub IsMet : Basis → FileTree → List ℕ → List ℕ → Type 0
 IsMet basis tree start path = IsMetUnless basis tree (IsReplaced basis tree) start path
@@ -214,16 +241,22 @@ pub record IsToldInPlace (basis : Basis) (tree : FileTree) (path : List ℕ) : T
   pub replaced : IsReplaced basis tree folder
   pub free : ¬ IsTracked basis.terms.tracked.entries folder
 
+-- and that of a folder in which all is ignored is told beside what lies in it
+pub record IsToldBeside (basis : Basis) (tree : FileTree) (path : List ℕ) : Type 0 where
+  pub folder : Folder
+  pub start : path ≡ start_of folder
+  pub ignored : IsAllIgnored basis tree folder
+
 abbrev pub IsTold : Basis → FileTree → List ℕ → Type 0
-IsTold basis tree path = IsToldAsListed basis tree path ⊎ IsToldInPlace basis tree path
+IsTold basis tree path = IsToldAsListed basis tree path ⊎ (IsToldInPlace basis tree path ⊎ IsToldBeside basis tree path)
 
--- it counts whether folders are filled
-abbrev pub AsksFilled : Folders → Type 0
-AsksFilled folders = (folders ≡ NamedIfFilled) ⊎ (folders ≡ EnteredUnlessFilled)
+-- it counts what a search of a folder lists: whether it is filled, or all in it is ignored
+abbrev pub AsksSearches : Folders → Type 0
+AsksSearches folders = (folders ≡ NamedIfFilled) ⊎ ((folders ≡ EnteredUnlessFilled) ⊎ (folders ≡ NamedIfAllIgnored))
 
--- A folder is searched, to know whether the one is filled whose path is met: a listing from there that goes into all folders meets it.
+-- A folder is searched, to know what a search lists from a path that is met: one from there that goes into all folders meets it.
 pub record IsSearched (basis : Basis) (tree : FileTree) (path : List ℕ) (folder : Folder) : Type 0 where
-  pub asks : AsksFilled basis.terms.folders
+  pub asks : AsksSearches basis.terms.folders
   pub chosen : Chosen
   pub met : IsMet (entering chosen basis) tree path (start_of folder)
 

@@ -19,6 +19,7 @@ ghost use Rattle.tree_commands.specs.Private.Listing.{WritesOut, seen_lists, ter
 ghost use Rattle.tree_commands.specs.Private.UnderWay.{IsUnderWay, OfKnown, WritesAll, WritesFront, beginning_of};
 
 mod asking;
+mod beside;
 pub mod choosing;
 mod entries;
 pub mod fault;
@@ -40,7 +41,7 @@ use crate::files::entries::ListsOnWay;
 use crate::files::fault::FilesFault;
 use crate::files::ignoring::are_of_folders;
 use crate::files::lister::Lister;
-use crate::files::looking_up::folded_by;
+use crate::files::looking_up::{counted_at, folded_by, part_or};
 use crate::files::lookup::Lookup;
 use crate::files::mark::Mark;
 use crate::files::source::FileSource;
@@ -83,11 +84,13 @@ pub struct Listing {
 /// listed; nor is anything where it, or a folder above it, is ignored, and the paths that aren't ignored are chosen.
 ///
 /// Listed are files and links, and, with a slash at the end, the folders that aren't gone into: those of repositories of their own in which no
-/// tracked path lies, and those that are told by their names, as `folders` of the listing says. A submodule's folder is neither. Where the paths
-/// that aren't ignored are chosen, an ignored folder isn't gone into either. What isn't gone into is asked for its names only to know whether it
-/// is a repository, or is filled where that counts, and an ignored folder isn't. The paths come in the order of their bytes, each once.
+/// tracked path lies, and those that are told by their names, as `folders` of the listing says; and the folders that are told so beside what
+/// lies in them. A submodule's folder is none. Where the paths that aren't ignored are chosen, an ignored folder isn't gone into either. What
+/// isn't gone into is asked for its names only to know whether it is a repository, or what lies in it where that counts, and an ignored folder
+/// isn't. The paths come in the order of their bytes, each once.
 ///
-/// `tracked` is the index; an empty one tracks nothing.
+/// `tracked` is the index; an empty one tracks nothing. Of its entries count those alone whose paths begin with the bytes of the folder in
+/// which the path is told: of the path itself, where it is told as a folder's, and else of what stands before its last slash.
 ///
 /// # Errors
 /// [`FilesFault::Empty`] and [`FilesFault::Outside`] where `told` leads nowhere, [`FilesFault::Base`] where the base of a list of `fronts` is no
@@ -105,15 +108,15 @@ pub fn run_files<S: FileSource, W: Write>(
     ensures lists { OnOk result ((paths : List (List ℕ)) × AllPairs ComesBefore paths
         × Appends (W.contents (inner writer.old)) (W.contents (inner writer.new)) (flat_map (path_line listing.mark listing.standpoint listing.form) paths)
         × ((tree : FileTree) → S.shows source.old tree → (path : List ℕ) →
-        Contains paths path ↔ (IsReached listing.standpoint (asked_basis listing tracked.now) tree told.now path × IsTold (asked_basis listing tracked.now) tree path))) }
+        Contains paths path ↔ (IsReached listing.standpoint (asked_basis listing told.now tracked.now) tree told.now path × IsTold (asked_basis listing told.now tracked.now) tree path))) }
     // After a fault that is none of the writer's, a front of some of these lines was.
     ensures front { OnErr result (has_failed writer.new ≡ false → (paths : List (List ℕ)) × AllPairs ComesBefore paths
         × AppendsFront (W.contents (inner writer.old)) (W.contents (inner writer.new)) (flat_map (path_line listing.mark listing.standpoint listing.form) paths)
         × ((tree : FileTree) → S.shows source.old tree → (path : List ℕ) →
-        Contains paths path → (IsReached listing.standpoint (asked_basis listing tracked.now) tree told.now path × IsTold (asked_basis listing tracked.now) tree path))) }
-    // Each folder that the source is asked for its names is reached, or lies in one that is told only if it is filled.
+        Contains paths path → (IsReached listing.standpoint (asked_basis listing told.now tracked.now) tree told.now path × IsTold (asked_basis listing told.now tracked.now) tree path))) }
+    // Each folder that the source is asked for its names is reached, or lies in one about which a search decides.
     ensures asks { GivesOnly (λ folder. (tree : FileTree) → S.shows source.old tree →
-        MayAsk (IsReached listing.standpoint (asked_basis listing tracked.now) tree told.now) (asked_basis listing tracked.now) tree folder) (S.asked source.old) (S.asked source.new) }
+        MayAsk (IsReached listing.standpoint (asked_basis listing told.now tracked.now) tree told.now) (asked_basis listing told.now tracked.now) tree folder) (S.asked source.old) (S.asked source.new) }
     ensures stays { StaysKnown S.shows source.old source.new }
     ensures base { IsErrOf result faults.Base → ¬ BasesAreFolders (map (entry_list_of {V = Unit {0}} (λ _. tt)) listing.fronts.items) }
     ensures empty { IsErrOf result faults.Empty → told.now ≡ [] }
@@ -124,8 +127,10 @@ pub fn run_files<S: FileSource, W: Write>(
     }
     let mut path = Vec::new(alloc);
     let is_told_folder = lead(alloc, &listing.standpoint, &mut path, told)?;
-    let folded = folded_by(alloc, listing.case, tracked)?;
-    let tracked = Lookup::new(tracked, &folded);
+    let part = counted_at(alloc, tracked, &path, is_told_folder)?;
+    let counted = part_or(&part, tracked);
+    let folded = folded_by(alloc, listing.case, counted)?;
+    let tracked = Lookup::new(counted, &folded);
     let terms = Terms {
         case: listing.case,
         chosen: listing.chosen,

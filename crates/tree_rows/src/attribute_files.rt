@@ -18,18 +18,16 @@ pub(crate) fn attribute_lines(
     answer: &mut Answer,
 ) -> Result<(), RowFault> {
     let reading = read_line(alloc, question.bytes(1)?, question.is_top(0)?)?;
+    answer.push(&reading_text(alloc, &reading)?)
+}
+
+/// What a reading of a line says.
+fn reading_text(alloc: Global, reading: &LineReading) -> Result<Vec<u8>, AllocError> {
     let mut text = Vec::new(alloc);
-    match &reading {
+    match reading {
         LineReading::Nothing => {}
-        LineReading::Silent(silence) => {
-            push_debug_text(alloc, &mut text, silence)?;
-        }
-        LineReading::Macro { name, assignments } => {
-            text.push(b'[')?;
-            text.extend_from_slice(name)?;
-            text.push(b']')?;
-            push_assignments(&mut text, assignments)?;
-        }
+        LineReading::Silent(silence) => push_debug_text(alloc, &mut text, silence)?,
+        LineReading::Macro { name, assignments } => push_macro(&mut text, name, assignments)?,
         LineReading::Pattern {
             pattern,
             assignments,
@@ -38,7 +36,19 @@ pub(crate) fn attribute_lines(
             push_assignments(&mut text, assignments)?;
         }
     }
-    answer.push(&text)
+    Ok(text)
+}
+
+/// Adds a macro's name between brackets, and what it assigns.
+fn push_macro(
+    text: &mut Vec<u8>,
+    name: &[u8],
+    assignments: &[Assignment<Vec<u8>>],
+) -> Result<(), AllocError> {
+    text.push(b'[')?;
+    text.extend_from_slice(name)?;
+    text.push(b']')?;
+    push_assignments(text, assignments)
 }
 
 /// Adds a space and a word for each assignment.

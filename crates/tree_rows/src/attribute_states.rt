@@ -190,7 +190,15 @@ pub(crate) fn states_as_git(
     question: &Question,
     answer: &mut Answer,
 ) -> Result<(), RowFault> {
-    let (case, told) = (case_of(question, 0)?, question.bytes(1)?);
+    let names = names_in(alloc, question.bytes(2)?)?;
+    let path = path_from_top(alloc, question.bytes(1)?)?;
+    let mut sources = Sources::new(alloc, Reading::Git, question.rest(3))?;
+    let states = sources.states_either_way(alloc, &path, &names, case_of(question, 0)?)?;
+    answer.push(&states)
+}
+
+/// The path to which a path goes that is told from the top, with a slash at its end where it is a folder's.
+fn path_from_top(alloc: Global, told: &[u8]) -> Result<Vec<u8>, RowFault> {
     let standpoint = Standpoint {
         top: Vec::new(alloc),
         here: Vec::new(alloc),
@@ -203,10 +211,7 @@ pub(crate) fn states_as_git(
         Err(LeadFault::Memory) => return Err(RowFault::Memory),
         Err(_nowhere) => return Err(RowFault::Field("a path of the work tree")),
     }
-    let names = names_in(alloc, question.bytes(2)?)?;
-    let mut sources = Sources::new(alloc, Reading::Git, question.rest(3))?;
-    let states = sources.states_either_way(alloc, &path, &names, case)?;
-    answer.push(&states)
+    Ok(path)
 }
 
 /// The lines of a file that are left where only some attributes are asked for.
@@ -215,11 +220,26 @@ pub(crate) fn attributes_kept(
     question: &Question,
     answer: &mut Answer,
 ) -> Result<(), RowFault> {
-    let (file, names) = (question.bytes(0)?, names_in(alloc, question.bytes(1)?)?);
+    let names = names_in(alloc, question.bytes(1)?)?;
+    let list = list_kept(alloc, question.bytes(0)?, &names)?;
+    answer.push(&numbers_text(alloc, &list)?)
+}
+
+/// What is left of the list of a file where the attributes of these names are asked for.
+fn list_kept(
+    alloc: Global,
+    file: &[u8],
+    names: &[&[u8]],
+) -> Result<List<AttributeLines>, RowFault> {
     let mut macros = MacroTable::new(alloc)?;
     macros.add_file(alloc, file)?;
     let mut list = list_of(alloc, AttributeLines::default(), file)?;
-    keep_named(&mut list, &names, &macros);
+    keep_named(&mut list, names, &macros);
+    Ok(list)
+}
+
+/// The numbers of the lines of a list, with a space between each two.
+fn numbers_text(alloc: Global, list: &List<AttributeLines>) -> Result<Vec<u8>, AllocError> {
     let mut text = Vec::new(alloc);
     for mapping in &list.patterns {
         if !text.is_empty() {
@@ -227,7 +247,7 @@ pub(crate) fn attributes_kept(
         }
         push_text(alloc, &mut text, &mapping.sequence_number)?;
     }
-    answer.push(&text)
+    Ok(text)
 }
 
 /// The macros and the names of files.

@@ -35,24 +35,46 @@ fn decision(
     place: usize,
     answer: &mut Answer,
 ) -> Result<(), RowFault> {
-    let case = case_of(question, 0)?;
     let path = RepositoryPath::of_line(question.bytes(place)?).ok_or(RowFault::Field("a path"))?;
     let lists = lists_of(alloc, question, place.saturating_add(1))?;
-    if !bases_are_folders(&lists) {
+    match decided(&lists, &path, case_of(question, 0)?)? {
+        Some((list, line)) => push_place(alloc, list, line, answer),
+        None => answer.push_option(None),
+    }
+}
+
+/// The numbers of the list and of the line that decide about a path, both from 1.
+fn decided(
+    lists: &[List<IgnoreLines>],
+    path: &RepositoryPath<'_>,
+    case: Case,
+) -> Result<Option<(usize, usize)>, RowFault> {
+    if !bases_are_folders(lists) {
         return Err(RowFault::Field("bases of folders"));
     }
-    let Some((list, pattern)) = decide_in_tree(&lists, &path, case) else {
-        return answer.push_option(None);
+    let Some((list, pattern)) = decide_in_tree(lists, path, case) else {
+        return Ok(None);
     };
-    let file = lists.get(list).ok_or(RowFault::Call("decide_in_tree"))?;
-    let mapping = file
-        .patterns
-        .get(pattern)
-        .ok_or(RowFault::Call("decide_in_tree"))?;
+    let line = line_at(lists, list, pattern).ok_or(RowFault::Call("decide_in_tree"))?;
+    Ok(Some((list.saturating_add(1), line)))
+}
+
+/// The number of the line that a pattern of a list was read from.
+fn line_at(lists: &[List<IgnoreLines>], list: usize, pattern: usize) -> Option<usize> {
+    Some(lists.get(list)?.patterns.get(pattern)?.sequence_number)
+}
+
+/// Adds the numbers of a list and of a line.
+fn push_place(
+    alloc: Global,
+    list: usize,
+    line: usize,
+    answer: &mut Answer,
+) -> Result<(), RowFault> {
     let mut text = Vec::new(alloc);
-    push_text(alloc, &mut text, &list.saturating_add(1))?;
+    push_text(alloc, &mut text, &list)?;
     text.push(b':')?;
-    push_text(alloc, &mut text, &mapping.sequence_number)?;
+    push_text(alloc, &mut text, &line)?;
     answer.push(&text)
 }
 

@@ -51,6 +51,8 @@ fn measure(text: &[u8]) -> Option<(usize, &[u8])>
 }
 
 /// Writes the bytes that are spelled before the closing quote, where they are as many as there is memory for.
+// (apart from what reads the line, the loop takes fewer instructions)
+#[inline(never)]
 fn decode(quoted: &[u8], head: &mut [u8])
     ensures { (found : List ℕ × List ℕ) → quoted_from 0 quoted.now ≡ Some found → length found.0 ≡ length head.old → head.new ≡ found.0 }
 {

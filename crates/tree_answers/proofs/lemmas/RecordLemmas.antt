@@ -12,7 +12,7 @@ use Rattle.told_paths.specs.Quoting.{is_unusual}
 use Rattle.tree_answers.specs.declared.form.Form.{Form}
 use Rattle.tree_answers.specs.declared.form.Form.TheVariants.{Lines, Records}
 use Rattle.tree_answers.specs.Records.{AccountsFor, IsTextOf, NamesPath, begins_with_quote, is_zero}
-use Rattle.tree_answers.proofs.lemmas.ZeroLemmas.{before_none}
+use Rattle.glob_attributes.proofs.lemmas.ZeroLemmas.{before_none}
 
 module _ {T E : Type 0} (result : Result T E) (form : Form) (bytes told : List ℕ) (names : NamesPath form bytes told) where
   pub adds_named : (Answers : List ℕ → List ℕ → Type 0) (old new : List ℕ) → OnOk result (Adds (Answers told) old new) → OnOk result (Adds (IsTextOf Answers form bytes) old new)

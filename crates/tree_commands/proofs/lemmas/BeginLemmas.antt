@@ -54,7 +54,8 @@ module _ (basis : Basis) (tree : FileTree) where
 
   told_is_more : (path : List ℕ) → IsTold basis tree path → path ≢ slash ∷ []
   told_is_more path (inl told) = listed_is_more path told.listed
-  told_is_more path (inr told) = λ is. slash_is_no_start told.folder (sym is ∙ told.start)
+  told_is_more path (inr (inl told)) = λ is. slash_is_no_start told.folder (sym is ∙ told.start)
+  told_is_more path (inr (inr told)) = λ is. slash_is_no_start told.folder (sym is ∙ told.start)
 
   nothing_to_list : (lists : List (EntryList (Unit {0}))) → IsHalfway basis tree (slash ∷ []) [] [] lists
   nothing_to_list lists = record {

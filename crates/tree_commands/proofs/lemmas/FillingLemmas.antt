@@ -1,6 +1,6 @@
--- Folders that are told only if they are filled: searches from them.
-use Rattle.std.proofs.Common.{◌≡◌, ◌≢◌, ◌⊎◌, inl, inr, ⊎_elim, ℕ, ◌≤◌, Bool, true, false, List, [], ◌∷◌, ◌++◌, length, take, refl, sym, ap, subst, ◌∙◌, append-nil, length-append, arith}
-use Rattle.std.specs.Prelude.{◌↔◌, IsTrue, MatchBool, Option, None, Some, is_some, not, option_map}
+-- Searches of folders, and folders that are told only if they are filled.
+use Rattle.std.proofs.Common.{◌≡◌, ◌≢◌, ◌⊎◌, inl, inr, ⊎_elim, ℕ, ◌≤◌, Bool, true, false, List, [], ◌∷◌, ◌++◌, length, take, refl, sym, ap, subst, ◌∙◌, length-append, arith}
+use Rattle.std.specs.Prelude.{◌↔◌, IsTrue, Option, None, Some, is_some, not, option_map}
 use Rattle.std.specs.List.{flat_map}
 use Rattle.std.proofs.lemmas.Bool.{false≢true}
 use Rattle.std.proofs.lemmas.List.{length-take-le, take-append-le, take-take, take_all}
@@ -10,12 +10,13 @@ use Rattle.gix_glob.specs.EntryLists.{EntryList}
 use Rattle.glob_trees.specs.Ways.{Folder, GivesOnly, start_of}
 use Rattle.tree_commands.specs.declared.files.choosing.Chosen.{Chosen}
 use Rattle.tree_commands.specs.declared.files.choosing.Chosen.TheVariants.{All, Ignored, Unignored}
-use Rattle.tree_commands.specs.declared.files.choosing.Folders.TheVariants.{Entered, EnteredUnlessFilled, NamedIfFilled}
+use Rattle.tree_commands.specs.declared.files.choosing.Folders.{Folders}
+use Rattle.tree_commands.specs.declared.files.choosing.Folders.TheVariants.{Entered, EnteredUnlessFilled, NamedIfEmpty, NamedIfFilled}
 use Rattle.tree_commands.specs.declared.files.pending.Pending.{Pending}
 use Rattle.tree_commands.specs.FileTrees.{FileTree}
-use Rattle.tree_commands.specs.Files.{AsksFilled, Basis, HasListed, IsFilled, IsFilledBy, IsIgnoredAt, IsListedBy, IsMet, IsMetUnless, IsReplaced, IsSearched, IsTold, IsToldAsListed, IsToldInPlace, Terms, begins, entering, lies, never}
-use Rattle.tree_commands.specs.Private.Filling.{IsToTell, IsUnfilled, KeepsLists, MaySearch, OfStanding, Tells}
-use Rattle.tree_commands.specs.Private.Listing.{Among, FlagsFolder, IsEntered, IsFree, IsIgnoredNext, IsLevel, IsMarked, IsPassedOver, IsToList, MayVisit, Stands, Visits, path_of}
+use Rattle.tree_commands.specs.Files.{AsksSearches, Basis, HasListed, HasListedBy, IsAllIgnored, IsFilled, IsFilledBy, IsIgnoredAt, IsListedBy, IsMet, IsMetUnless, IsReplaced, IsSearched, IsTold, IsToldAsListed, IsToldBeside, IsToldInPlace, Terms, begins, entering, lies, never, search_of}
+use Rattle.tree_commands.specs.Private.Filling.{IsToTell, IsUnfilled, MaySearch, OfStanding, StepsOnce, Tells}
+use Rattle.tree_commands.specs.Private.Listing.{Among, FlagsFolder, IsFree, IsIgnoredNext, IsLevel, IsMarked, IsToList, MayVisit, Stands, Visits, path_of}
 use Rattle.tree_commands.specs.Private.UnderWay.{Beginning, IsHalfway, IsUnderWay, IsWriting, OfKnown, WritesAll}
 use Rattle.tree_commands.proofs.lemmas.AmongLemmas.{among_cases, among_last, among_left, of_all}
 use Rattle.tree_commands.proofs.lemmas.LevelLemmas.{next_ignored}
@@ -26,11 +27,15 @@ use Rattle.tree_commands.proofs.lemmas.VisitLemmas.{enters_weaker}
 
 -- ---- where a search begins
 
-entered_is_other : Entered ≢ NamedIfFilled
-entered_is_other is = absurd (cc)
+pub entered_is_plain : ¬ AsksSearches Entered
+entered_is_plain (inl is) = absurd (cc)
+entered_is_plain (inr (inl is)) = absurd (cc)
+entered_is_plain (inr (inr is)) = absurd (cc)
 
-entered_is_entered : Entered ≢ EnteredUnlessFilled
-entered_is_entered is = absurd (cc)
+pub empty_is_plain : ¬ AsksSearches NamedIfEmpty
+empty_is_plain (inl is) = absurd (cc)
+empty_is_plain (inr (inl is)) = absurd (cc)
+empty_is_plain (inr (inr is)) = absurd (cc)
 
 -- what is met where more is replaced is met where less is
 met_where : (basis : Basis) (tree : FileTree) (More Less : Folder → Type 0) → ((folder : Folder) → Less folder → More folder) → {start path : List ℕ} → IsMetUnless basis tree More start path → IsMetUnless basis tree Less start path
@@ -38,29 +43,29 @@ met_where basis tree More Less fewer begins = begins
 met_where basis tree More Less fewer (lies {folder} {found} met may kept entry) = lies (met_where basis tree More Less fewer met) may (λ less. kept (fewer folder less)) entry
 
 -- the lists decide about the same for another listing
-level_entering : (chosen other : Chosen) (basis : Basis) (tree : FileTree) (lists : List (EntryList (Unit {0}))) (is_below : Bool) (path : List ℕ) → IsLevel chosen basis tree lists is_below path → IsLevel chosen (entering other basis) tree lists is_below path
-level_entering All other basis tree lists is_below path level = tt
-level_entering Unignored other basis tree lists is_below path level = level
-level_entering Ignored other basis tree lists is_below path level = level
+level_of_search : (chosen other : Chosen) (folders : Folders) (basis : Basis) (tree : FileTree) (lists : List (EntryList (Unit {0}))) (is_below : Bool) (path : List ℕ) → IsLevel chosen basis tree lists is_below path → IsLevel chosen (search_of folders other basis) tree lists is_below path
+level_of_search All other folders basis tree lists is_below path level = tt
+level_of_search Unignored other folders basis tree lists is_below path level = level
+level_of_search Ignored other folders basis tree lists is_below path level = level
 
-module _ (terms : Terms) (lists : List (EntryList (Unit {0}))) (next : Pending) where
+module _ (terms : Terms) (lists : List (EntryList (Unit {0}))) (next : Pending) (folders : Folders) where
   -- a search of the paths that are chosen stands where the listing does
-  pub may_search_chosen : MaySearch terms lists next terms.chosen
+  pub may_search_chosen : MaySearch terms lists next folders terms.chosen
   may_search_chosen tree basis same stands = record {
     top = stands.top;
-    level = λ path is_dir marked. level_entering terms.chosen terms.chosen basis tree (take next.list_count lists) next.is_below path
+    level = λ path is_dir marked. level_of_search terms.chosen terms.chosen folders basis tree (take next.list_count lists) next.is_below path
         (subst (λ (t : Terms). IsLevel t.chosen basis tree (take next.list_count lists) next.is_below path) same (stands.level path is_dir marked));
   }
 
   -- and where those are the ignored ones, so does a search of the others outside of ignored folders
-  pub may_search_others : terms.chosen ≡ Ignored → next.is_below ≡ false → MaySearch terms lists next Unignored
+  pub may_search_others : terms.chosen ≡ Ignored → next.is_below ≡ false → MaySearch terms lists next folders Unignored
   may_search_others told outside tree basis same stands = record {
     top = stands.top;
     level = λ path is_dir marked. at_false basis tree path next.is_below outside
         (subst (λ (c : Chosen). IsLevel c basis tree (take next.list_count lists) next.is_below path) (ap (λ (t : Terms). t.chosen) same ∙ told) (stands.level path is_dir marked));
   }
     where
-      at_false : (basis : Basis) (tree : FileTree) (path : List ℕ) (b : Bool) → b ≡ false → IsLevel Ignored basis tree (take next.list_count lists) b path → IsLevel Unignored (entering Unignored basis) tree (take next.list_count lists) next.is_below path
+      at_false : (basis : Basis) (tree : FileTree) (path : List ℕ) (b : Bool) → b ≡ false → IsLevel Ignored basis tree (take next.list_count lists) b path → IsLevel Unignored (search_of folders Unignored basis) tree (take next.list_count lists) next.is_below path
       at_false basis tree path true is level = absurd (false≢true (sym is))
       at_false basis tree path false is level = level.0
 
@@ -143,10 +148,10 @@ none_by_none f (Some x) P is p = absurd (false≢true (sym is))
 
 -- ---- a step of a search
 
-module _ (Known : FileTree → Type 0) (terms : Terms) (beginning : Beginning) (entered : terms.folders ≡ Entered) (Now : FileTree → Type 0) (stays : (tree : FileTree) → Known tree → Now tree)
+module _ (Known : FileTree → Type 0) (terms : Terms) (beginning : Beginning) (plain : ¬ AsksSearches terms.folders) (Now : FileTree → Type 0) (stays : (tree : FileTree) → Known tree → Now tree)
     (next : Pending) (pending new : List Pending) (lists new_lists : List (EntryList (Unit {0}))) (it : IsSearching Known terms beginning (pending ++ next ∷ []) lists) where
   other_manner : terms.folders ≢ NamedIfFilled
-  other_manner asks = entered_is_other (sym entered ∙ asks)
+  other_manner asks = plain (inl asks)
 
   -- what is listed is met, and told
   pub search_finds : (path : List ℕ) → Visits Now terms next lists new_lists pending new (Some path) → OfKnown Known terms beginning (λ basis tree start. (found : List ℕ) × IsMet basis tree start found × IsTold basis tree found)
@@ -157,11 +162,15 @@ module _ (Known : FileTree → Type 0) (terms : Terms) (beginning : Beginning) (
   -- or the search goes on
   -- no folder is replaced
   pub none_replaced : OfStanding Now terms lists next (λ basis tree. (folder : Folder) → path_of next ≡ start_of folder → ¬ IsReplaced basis tree folder)
-  none_replaced tree known basis same stands folder is replaced = entered_is_entered (sym entered ∙ sym (ap (λ (t : Terms). t.folders) same) ∙ replaced.asks)
+  none_replaced tree known basis same stands folder is replaced = plain (inr (inl (sym (ap (λ (t : Terms). t.folders) same) ∙ replaced.asks)))
+
+  none_ignored : OfStanding Now terms lists next (λ basis tree. (folder : Folder) → path_of next ≡ start_of folder → ¬ IsAllIgnored basis tree folder)
+  none_ignored tree known basis same stands folder is ignored = plain (inr (inr (sym (ap (λ (t : Terms). t.folders) same) ∙ ignored.asks.0)))
 
   pub search_goes_on : Visits Now terms next lists new_lists pending new None → IsSearching Known terms beginning new new_lists
   search_goes_on visited =
-      writes_on mark_line Known terms beginning (Some []) Now stays (Some []) (Some []) [] [] next pending new lists new_lists None it (inr (record { tells = tells_visited Now terms next lists new_lists pending new None other_manner visited; unreplaced = none_replaced })) ([], refl, refl)
+      writes_on mark_line Known terms beginning (Some []) Now stays (Some []) (Some []) [] [] next pending new lists new_lists None it
+      (inr (record { steps = inr (record { tells = tells_visited Now terms next lists new_lists pending new None other_manner visited; unreplaced = none_replaced }); other = none_ignored })) ([], refl, refl)
 
   -- a folder that is asked for its names is met
   pub search_asks : (first before after : Folder → Type 0) → GivesOnly (λ folder. OfKnown Known terms beginning (λ basis tree start. IsMet basis tree start (start_of folder))) first before
@@ -217,22 +226,25 @@ kept_by_visit Known terms next count first lists new_lists pending new fits kept
 
 -- ---- what a search says of a folder
 
-module _ (chosen : Chosen) (basis : Basis) (tree : FileTree) (folder : Folder) where
+module _ (folders : Folders) (plain : ¬ AsksSearches folders) (chosen : Chosen) (basis : Basis) (tree : FileTree) (folder : Folder) where
   -- what it finds is listed
-  pub has_found : (start : List ℕ) → start ≡ start_of folder → ((path : List ℕ) × IsMet (entering chosen basis) tree start path × IsTold (entering chosen basis) tree path) ↔ HasListed chosen basis tree folder
+  pub has_found : (start : List ℕ) → start ≡ start_of folder → ((path : List ℕ) × IsMet (search_of folders chosen basis) tree start path × IsTold (search_of folders chosen basis) tree path) ↔ HasListedBy folders chosen basis tree folder
   has_found start is = (
     λ found. record {
       path = found.0;
-      met = met_where (entering chosen basis) tree (IsReplaced (entering chosen basis) tree) never (λ folder none. absurd none) (subst (λ s. IsMet (entering chosen basis) tree s found.0) is found.1);
+      met = met_where (search_of folders chosen basis) tree (IsReplaced (search_of folders chosen basis) tree) never (λ folder none. absurd none) (subst (λ s. IsMet (search_of folders chosen basis) tree s found.0) is found.1);
       listed = ⊎_elim
-          (λ (told : IsToldAsListed (entering chosen basis) tree found.0). told.listed)
-          (λ (told : IsToldInPlace (entering chosen basis) tree found.0). absurd (entered_is_entered told.replaced.asks))
+          (λ (told : IsToldAsListed (search_of folders chosen basis) tree found.0). told.listed)
+          (λ (beside : IsToldInPlace (search_of folders chosen basis) tree found.0 ⊎ IsToldBeside (search_of folders chosen basis) tree found.0). ⊎_elim
+          (λ (told : IsToldInPlace (search_of folders chosen basis) tree found.0). absurd (plain (inr (inl told.replaced.asks))))
+          (λ (told : IsToldBeside (search_of folders chosen basis) tree found.0). absurd (plain (inr (inr told.ignored.asks.0))))
+          beside)
           found.2;
     },
     λ has. (
       has.path,
-      subst (λ s. IsMet (entering chosen basis) tree s has.path) (sym is) (met_where (entering chosen basis) tree never (IsReplaced (entering chosen basis) tree) (λ folder replaced. absurd (entered_is_entered replaced.asks)) has.met),
-      inl (record { listed = has.listed; filled = λ asks. absurd (entered_is_other asks) }),
+      subst (λ s. IsMet (search_of folders chosen basis) tree s has.path) (sym is) (met_where (search_of folders chosen basis) tree never (IsReplaced (search_of folders chosen basis) tree) (λ folder replaced. absurd (plain (inr (inl replaced.asks)))) has.met),
+      inl (record { listed = has.listed; filled = λ asks. absurd (plain (inl asks)) }),
     ),
   )
 
@@ -264,29 +276,29 @@ module _ (basis : Basis) (tree : FileTree) (folder : Folder) where
 -- ---- a search from a path at which a listing stands
 
 -- the terms of the search
-abbrev pub searching : Chosen → Terms → Terms
-searching chosen terms = record { case = terms.case; chosen = chosen; folders = Entered; tracked = terms.tracked }
+abbrev pub searching : Folders → Chosen → Terms → Terms
+searching folders chosen terms = record { case = terms.case; chosen = chosen; folders = folders; tracked = terms.tracked }
 
 module _ (Known : FileTree → Type 0) (terms : Terms) (lists : List (EntryList (Unit {0}))) (place next : Pending) (path : path_of next ≡ path_of place) (count : next.list_count ≡ place.list_count) (below : next.is_below ≡ place.is_below)
-    (chosen : Chosen) (may : MaySearch terms lists place chosen) where
+    (folders : Folders) (chosen : Chosen) (may : MaySearch terms lists place folders chosen) where
   abbrev begun : Beginning
   begun = record { pending = next ∷ []; lists = lists }
 
   -- what follows wherever it began follows here
-  search_here : (Holds : Basis → FileTree → List ℕ → Type 0) → OfKnown Known (searching chosen terms) begun Holds → OfStanding Known terms lists place (λ basis tree. Holds (entering chosen basis) tree (path_of place))
+  search_here : (Holds : Basis → FileTree → List ℕ → Type 0) → OfKnown Known (searching folders chosen terms) begun Holds → OfStanding Known terms lists place (λ basis tree. Holds (search_of folders chosen basis) tree (path_of place))
   search_here Holds holds tree known basis same stands =
-      subst (Holds (entering chosen basis) tree) path
-      (holds tree known (entering chosen basis) (ap (searching chosen) same) (path_of next) (search_halfway next lists (entering chosen basis) tree (stands_as (entering chosen basis) tree lists place next path count below (may tree basis same stands))))
+      subst (Holds (search_of folders chosen basis) tree) path
+      (holds tree known (search_of folders chosen basis) (ap (searching folders chosen) same) (path_of next) (search_halfway next lists (search_of folders chosen basis) tree (stands_as (search_of folders chosen basis) tree lists place next path count below (may tree basis same stands))))
 
-  pub search_says : (is_any : Bool) → OfKnown Known (searching chosen terms) begun (λ basis tree start. IsTrue is_any ↔ ((found : List ℕ) × IsMet basis tree start found × IsTold basis tree found))
-      → OfStanding Known terms lists place (λ basis tree. (folder : Folder) → path_of place ≡ start_of folder → IsTrue is_any ↔ HasListed chosen basis tree folder)
-  search_says is_any says tree known basis same stands folder is =
+  pub search_says : ¬ AsksSearches folders → (is_any : Bool) → OfKnown Known (searching folders chosen terms) begun (λ basis tree start. IsTrue is_any ↔ ((found : List ℕ) × IsMet basis tree start found × IsTold basis tree found))
+      → OfStanding Known terms lists place (λ basis tree. (folder : Folder) → path_of place ≡ start_of folder → IsTrue is_any ↔ HasListedBy folders chosen basis tree folder)
+  search_says plain is_any says tree known basis same stands folder is =
       let here = search_here (λ basis tree start. IsTrue is_any ↔ ((found : List ℕ) × IsMet basis tree start found × IsTold basis tree found)) says tree known basis same stands in
-      let has = has_found chosen basis tree folder (path_of place) is in
+      let has = has_found folders plain chosen basis tree folder (path_of place) is in
       ((λ yes. has.0 (here.0 yes)), (λ listed. here.1 (has.1 listed)))
 
-  pub search_led : (folder : Folder) → OfKnown Known (searching chosen terms) begun (λ basis tree start. IsMet basis tree start (start_of folder))
-      → OfStanding Known terms lists place (λ basis tree. IsMet (entering chosen basis) tree (path_of place) (start_of folder))
+  pub search_led : (folder : Folder) → OfKnown Known (searching folders chosen terms) begun (λ basis tree start. IsMet basis tree start (start_of folder))
+      → OfStanding Known terms lists place (λ basis tree. IsMet (search_of folders chosen basis) tree (path_of place) (start_of folder))
   search_led folder = search_here (λ basis tree start. IsMet basis tree start (start_of folder))
 
 -- lists that were kept are the same, cut to as many as they were
@@ -521,6 +533,18 @@ module _ (Known Now : FileTree → Type 0) (stays : (tree : FileTree) → Known 
   }))
   tells_weaker None (inr (inr it)) = inr (inr (record { lists = it.lists; pending = it.pending; ends = λ tree known. it.ends tree (stays tree known); unlisted = λ tree known. it.unlisted tree (stays tree known) }))
 
+module _ (Known Now : FileTree → Type 0) (stays : (tree : FileTree) → Known tree → Now tree) (terms : Terms) (next : Pending) (lists new_lists : List (EntryList (Unit {0}))) (old new : List Pending) (told : Option (List ℕ)) where
+  pub once_weaker : StepsOnce Now terms next lists new_lists old new told → StepsOnce Known terms next lists new_lists old new told
+  once_weaker (inl it) = inl (record {
+    lists = it.lists;
+    pending = it.pending;
+    folder = it.folder;
+    start = it.start;
+    replaced = λ tree known. it.replaced tree (stays tree known);
+    told_if = it.told_if;
+  })
+  once_weaker (inr it) = inr (record { tells = tells_weaker Known Now stays terms next lists new_lists old new told it.tells; unreplaced = λ tree known. it.unreplaced tree (stays tree known) })
+
 pub searched_as : (Known : FileTree → Type 0) (terms : Terms) (lists more : List (EntryList (Unit {0}))) (next : Pending) → more ≡ lists → (old new : Folder → Type 0) → GivesOnly (λ folder. OfStanding Known terms more next (λ basis tree. IsSearched basis tree (path_of next) folder)) old new
     → GivesOnly (λ folder. (path_of next ≡ start_of folder) ⊎ OfStanding Known terms lists next (λ basis tree. IsSearched basis tree (path_of next) folder)) old new
 searched_as Known terms lists more next as_lists old new asked folder given = ⊎_elim
@@ -544,10 +568,10 @@ searched_then Known Now terms other lists more next stays as_terms as_lists old 
     which)
     one two
 
-pub asked_searched : (Known : FileTree → Type 0) (terms : Terms) (lists : List (EntryList (Unit {0}))) (place : Pending) → AsksFilled terms.folders → (old new : Folder → Type 0) → GivesOnly (IsAsked Known terms lists place) old new
+pub asked_searched : (Known : FileTree → Type 0) (terms : Terms) (lists : List (EntryList (Unit {0}))) (place : Pending) → AsksSearches terms.folders → (old new : Folder → Type 0) → GivesOnly (IsAsked Known terms lists place) old new
     → GivesOnly (λ folder. OfStanding Known terms lists place (λ basis tree. IsSearched basis tree (path_of place) folder)) old new
 asked_searched Known terms lists place asks old new asked folder given = ⊎_elim
     (λ (before : old folder). inl before)
     (λ (here : IsAsked Known terms lists place folder). inr (λ tree known basis same stands.
-    let it = here tree known basis same stands in record { asks = subst (λ (t : Terms). AsksFilled t.folders) (sym same) asks; chosen = it.0; met = it.1 }))
+    let it = here tree known basis same stands in record { asks = subst (λ (t : Terms). AsksSearches t.folders) (sym same) asks; chosen = it.0; met = it.1 }))
     (asked folder given)

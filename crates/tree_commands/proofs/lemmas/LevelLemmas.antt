@@ -1,20 +1,20 @@
 -- Whether a path is ignored, by what is known of the folder that it lies in.
-use Rattle.std.proofs.Common.{◌≡◌, ◌≢◌, ◌⊎◌, inl, inr, ⊎_elim, ℕ, ◌<◌, Bool, true, false, List, [], ◌∷◌, ◌++◌, length, take, refl, sym, ap, subst, ◌∙◌, append_assoc, append-nil, arith}
+use Rattle.std.proofs.Common.{◌≡◌, ◌≢◌, ◌⊎◌, inl, inr, ⊎_elim, ℕ, Bool, true, false, List, [], ◌∷◌, ◌++◌, length, take, refl, sym, ap, subst, ◌∙◌, append_assoc, append-nil, arith}
 use Rattle.std.specs.Prelude.{◌↔◌, IsTrue, MatchBool}
 use Rattle.std.proofs.lemmas.Bool.{cases_lt, false≢true}
 use Rattle.gix_glob.specs.Bytes.{EndsInSlash, slash}
 use Rattle.gix_glob.specs.EntryLists.{EntryList}
 use Rattle.glob_lines.specs.Lines.{HasNo}
 use Rattle.glob_trees.specs.Trees.{IsAbove}
-use Rattle.glob_trees.specs.Ways.{Folder, start_of, unless_empty}
+use Rattle.glob_trees.specs.Ways.{Folder, start_of}
 use Rattle.glob_trees.proofs.lemmas.Folders.{above_above, as_long_is_same, shorter_is_above}
 use Rattle.tree_commands.specs.declared.files.choosing.Chosen.{Chosen}
 use Rattle.tree_commands.specs.declared.files.choosing.Chosen.TheVariants.{All, Ignored, Unignored}
 use Rattle.tree_commands.specs.declared.files.choosing.Folders.{Folders}
-use Rattle.tree_commands.specs.declared.files.choosing.Folders.TheVariants.{Entered, EnteredUnlessFilled, Named, NamedIfFilled, NamedIfIgnored}
+use Rattle.tree_commands.specs.declared.files.choosing.Folders.TheVariants.{Entered, EnteredUnlessFilled, Named, NamedIfAllIgnored, NamedIfEmpty, NamedIfFilled, NamedIfIgnored}
 use Rattle.tree_commands.specs.declared.files.pending.Pending.{Pending}
 use Rattle.tree_commands.specs.FileTrees.{FileTree}
-use Rattle.tree_commands.specs.Files.{Basis, IsBelowIgnored, IsIgnoredAt, IsListedBy, IsListedFile, IsListedFolder, IsNamed, IsShut, Terms, lists_to}
+use Rattle.tree_commands.specs.Files.{Basis, IsBelowIgnored, IsIgnoredAt, IsListedBy, IsNamed, IsShut, ShutsItself, Terms, lists_to}
 use Rattle.tree_commands.specs.Ignoring.{IsIgnored}
 use Rattle.tree_commands.specs.Private.Listing.{FlagsFolder, IsEnd, IsIgnoredNext, IsLevel, IsMarked, Stands, path_of, reads_list}
 use Rattle.tree_commands.proofs.lemmas.ListsLemmas.{lists_before, lists_before_some, lists_of_entry}
@@ -81,6 +81,8 @@ named_as terms A B turned EnteredUnlessFilled named = named
 named_as terms A B turned Named named = tt
 named_as terms A B turned NamedIfFilled named = tt
 named_as terms A B turned NamedIfIgnored named = (named.0, turned named.0 named.1)
+named_as terms A B turned NamedIfAllIgnored named = (named.0, turned named.0 named.1)
+named_as terms A B turned NamedIfEmpty named = named
 
 module _ (terms : Terms) (tree : FileTree) where
   -- what says that a folder is ignored counts only where ignored paths are chosen
@@ -88,7 +90,7 @@ module _ (terms : Terms) (tree : FileTree) where
   shut_as folder A B turned it = record {
     below = it.below;
     free = it.free;
-    why = ⊎_elim (λ (git : tree.has_git folder ≡ true). inl git) (λ (named : IsNamed terms.folders terms.chosen A). inr (named_as terms A B turned terms.folders named)) it.why;
+    why = ⊎_elim (λ (itself : ShutsItself terms tree folder). inl itself) (λ (named : IsNamed terms.folders terms.chosen A). inr (named_as terms A B turned terms.folders named)) it.why;
   }
 
   module _ (A B : List ℕ → Bool → Type 0) (path : List ℕ) (unended : (folder : Folder) → path ≡ start_of folder → folder ≢ [] → ¬ EndsInSlash folder)

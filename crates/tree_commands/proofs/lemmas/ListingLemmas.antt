@@ -18,8 +18,8 @@ use Rattle.tree_commands.specs.Private.UnderWay.{Above, IsHalfway, IsStack, IsUn
 use Rattle.tree_commands.proofs.lemmas.AmongLemmas.{all_of, among_cases, among_contained, among_last, among_left, among_map, among_mapped, among_right, contains_among, of_all}
 use Rattle.tree_commands.proofs.lemmas.LevelLemmas.{level_before, level_of_entry}
 use Rattle.tree_commands.proofs.lemmas.ListsLemmas.{lists_in}
-use Rattle.tree_commands.proofs.lemmas.MetLemmas.{IsEndOf, IsOpen, end_meets_itself, ends_told, meets_entry}
-use Rattle.tree_commands.proofs.lemmas.OrderLemmas.{IsMark, comes_before_below, comes_before_more}
+use Rattle.tree_commands.proofs.lemmas.MetLemmas.{IsEndOf, IsOpen, end_meets_itself, meets_entry}
+use Rattle.tree_commands.proofs.lemmas.OrderLemmas.{IsMark, comes_before_below, comes_before_itself_more, comes_before_more}
 use Rattle.tree_commands.proofs.lemmas.PathLemmas.{entry_unended, mark_of, may_visit_entry, name_is_some, one_mark, some_append, start_ends}
 use Rattle.tree_commands.proofs.lemmas.StackLemmas.{stack_append, stack_front, stack_top}
 
@@ -180,6 +180,41 @@ module _ (terms : Terms) (listed : List (List ℕ)) (pending : List Pending) (ne
     pub under_way_entered : IsUnderWay terms.case listed new new_lists
     under_way_entered = subst (λ all. IsUnderWay terms.case listed all new_lists) (sym enters.puts.joined) under_way_joined
 
+    -- the path of the folder comes before those of its entries
+    before_entry : (found : Pending) → Among enters.puts.batch found → ComesBefore (path_of next) (path_of found)
+    before_entry found among =
+        let it = ends found among in
+        let some = name_is_some terms.case it.name it.may in
+        subst (λ s. ComesBefore s (path_of found)) (sym is_start)
+        (⊎_elim
+        (λ (file : path_of found ≡ start_of folder ++ it.name). subst (ComesBefore (start_of folder)) (sym file) (comes_before_itself_more (start_of folder) it.name some))
+        (λ (marked : path_of found ≡ (start_of folder ++ it.name) ++ slash ∷ []).
+        subst (ComesBefore (start_of folder)) (sym (marked ∙ append_assoc (start_of folder) it.name (slash ∷ [])))
+        (comes_before_itself_more (start_of folder) (it.name ++ slash ∷ []) (some_append it.name (slash ∷ []) (λ none. absurd (cc)))))
+        it.joined)
+
+    under_way_beside_joined : IsUnderWay terms.case (listed ++ path_of next ∷ []) (pending ++ enters.puts.batch) new_lists
+    under_way_beside_joined = let joined = under_way_joined in record {
+      may = joined.may;
+      counts = joined.counts;
+      stacked = joined.stacked;
+      behind = λ path other before among. ⊎_elim
+          (λ (old : Among listed path). joined.behind path other old among)
+          (λ (one : Among (path_of next ∷ []) path). ⊎_elim
+          (λ (is : path_of next ≡ path). subst (λ p. ComesBefore p (path_of other)) is (⊎_elim
+          (λ (waiting : Among pending other). (let above = stack_top path_of count_of pending next under.stacked other waiting in above.order.here))
+          (λ (found : Among enters.puts.batch other). before_entry other found)
+          (among_cases pending enters.puts.batch other among)))
+          (λ (never : ⊥). absurd never)
+          one)
+          (among_cases listed (path_of next ∷ []) path before);
+      ordered = ascending_push listed (path_of next) under.ordered (λ path old. under.behind path next old is_next);
+    }
+
+    -- or it was, and its path was listed
+    pub under_way_beside : IsUnderWay terms.case (listed ++ path_of next ∷ []) new new_lists
+    under_way_beside = subst (λ all. IsUnderWay terms.case (listed ++ path_of next ∷ []) all new_lists) (sym enters.puts.joined) under_way_beside_joined
+
 -- ---- of a tree
 
 -- lists count only where what isn't ignored is chosen
@@ -204,15 +239,30 @@ module _ (basis : Basis) (tree : FileTree) (start : List ℕ) (listed : List (Li
   stays_in : (other : Pending) → Among pending other → Among (pending ++ next ∷ []) other
   stays_in other among = among_left pending (next ∷ []) other among
 
-  pub halfway_listed : IsTold basis tree (path_of next) → IsHalfway basis tree start (listed ++ path_of next ∷ []) pending lists
-  halfway_listed leaf = record {
-    sound = λ path among. ⊎_elim
-        (λ (old : Among listed path). halfway.sound path old)
-        (λ (one : Among (path_of next ∷ []) path). ⊎_elim
-        (λ (is : path_of next ≡ path). subst (λ p. IsMet basis tree start p × IsTold basis tree p) is (halfway.met next (among_last pending next), leaf))
-        (λ (never : ⊥). absurd never)
-        one)
-        (among_cases listed (path_of next ∷ []) path among);
+  sound_listed : IsTold basis tree (path_of next) → (path : List ℕ) → Among (listed ++ path_of next ∷ []) path → IsMet basis tree start path × IsTold basis tree path
+  sound_listed leaf path among = ⊎_elim
+      (λ (old : Among listed path). halfway.sound path old)
+      (λ (one : Among (path_of next ∷ []) path). ⊎_elim
+      (λ (is : path_of next ≡ path). subst (λ p. IsMet basis tree start p × IsTold basis tree p) is (halfway.met next (among_last pending next), leaf))
+      (λ (never : ⊥). absurd never)
+      one)
+      (among_cases listed (path_of next ∷ []) path among)
+
+  -- the next path was listed, and is pending yet
+  pub halfway_told : IsTold basis tree (path_of next) → IsHalfway basis tree start (listed ++ path_of next ∷ []) (pending ++ next ∷ []) lists
+  halfway_told leaf = record {
+    sound = sound_listed leaf;
+    met = halfway.met;
+    standing = halfway.standing;
+    complete = λ path met told. ⊎_elim
+        (λ (old : Among listed path). inl (among_left listed (path_of next ∷ []) path old))
+        (λ (from : (other : Pending) × Among (pending ++ next ∷ []) other × IsMet basis tree (path_of other) path). inr from)
+        (halfway.complete path met told);
+  }
+
+  pub halfway_listed : IsTold basis tree (path_of next) → IsEndOf basis tree (path_of next) → IsHalfway basis tree start (listed ++ path_of next ∷ []) pending lists
+  halfway_listed leaf ends = record {
+    sound = sound_listed leaf;
     met = λ other among. halfway.met other (stays_in other among);
     standing = λ other among. halfway.standing other (stays_in other among);
     complete = λ path met shut. ⊎_elim
@@ -221,7 +271,7 @@ module _ (basis : Basis) (tree : FileTree) (start : List ℕ) (listed : List (Li
         (λ (waiting : Among pending from.0). inr (from.0, waiting, from.2))
         (λ (one : Among (next ∷ []) from.0). ⊎_elim
         (λ (is : next ≡ from.0).
-        let same : path ≡ path_of next = end_meets_itself basis tree (subst (λ (p : Pending). IsMet basis tree (path_of p) path) (sym is) from.2) (ends_told basis tree (path_of next) leaf) in
+        let same : path ≡ path_of next = end_meets_itself basis tree (subst (λ (p : Pending). IsMet basis tree (path_of p) path) (sym is) from.2) ends in
         inl (subst (Among (listed ++ path_of next ∷ [])) (sym same) (among_last listed (path_of next))))
         (λ (never : ⊥). absurd never)
         one)
@@ -250,7 +300,8 @@ module _ (basis : Basis) (tree : FileTree) (start : List ℕ) (listed : List (Li
   }
 
   module _ (folder : Folder) (is_start : path_of next ≡ start_of folder) (unended : folder ≢ [] → ¬ EndsInSlash folder) (is_ignored : Bool) (flags : FlagsFolder basis.terms lists next folder is_ignored) (may : IsOpen basis tree folder) (few : (other : Pending) → Among pending other → other.list_count ≤ next.list_count) (fits : next.list_count ≤ length lists)
-      (Known : FileTree → Type 0) (known : Known tree) (new_lists : List (EntryList (Unit {0}))) (new : List Pending) (enters : Enters Known basis.terms folder next.list_count is_ignored lists new_lists pending new) where
+      (Known : FileTree → Type 0) (known : Known tree) (new_lists : List (EntryList (Unit {0}))) (new : List Pending) (enters : Enters Known basis.terms folder next.list_count is_ignored lists new_lists pending new)
+      (own : IsTold basis tree (path_of next) → Among listed (path_of next)) where
     standing : Stands basis tree lists next
     standing = halfway.standing next (among_last pending next)
 
@@ -345,9 +396,14 @@ module _ (basis : Basis) (tree : FileTree) (start : List ℕ) (listed : List (Li
           (λ (one : Among (next ∷ []) from.0). ⊎_elim
           (λ (is : next ≡ from.0).
           let met_here : IsMet basis tree (start_of folder) path = subst (λ s. IsMet basis tree s path) is_start (subst (λ (p : Pending). IsMet basis tree (path_of p) path) (sym is) from.2) in
-          let first = meets_entry basis tree folder path may met_here (ends_told basis tree path shut) in
+          ⊎_elim
+          (λ (itself : path ≡ start_of folder).
+          let same : path ≡ path_of next = itself ∙ sym is_start in
+          inl (subst (Among listed) (sym same) (own (subst (IsTold basis tree) same shut))))
+          (λ (first : (found : List ℕ) × IsEntryOf basis tree folder found × IsMet basis tree found path).
           let waits_for = entry_waits first.0 first.1 in
           inr (waits_for.0, among_right pending enters.puts.batch waits_for.0 waits_for.1, subst (λ s. IsMet basis tree s path) (sym waits_for.2) first.2))
+          (meets_entry basis tree folder path met_here))
           (λ (never : ⊥). absurd never)
           one)
           (among_cases pending (next ∷ []) from.0 from.1))

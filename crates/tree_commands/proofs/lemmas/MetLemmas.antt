@@ -3,7 +3,7 @@ use Rattle.std.proofs.Common.{◌≡◌, ◌⊎◌, inl, inr, ⊎_elim, ℕ, tru
 use Rattle.gix_glob.specs.Bytes.{EndsInSlash}
 use Rattle.glob_trees.specs.Ways.{Folder, start_of}
 use Rattle.tree_commands.specs.FileTrees.{FileTree}
-use Rattle.tree_commands.specs.Files.{Basis, IsEntryOf, IsIgnoredAt, IsListed, IsMet, IsReplaced, IsShut, IsTold, IsToldAsListed, IsToldInPlace, begins, lies}
+use Rattle.tree_commands.specs.Files.{Basis, IsEntryOf, IsIgnoredAt, IsListed, IsMet, IsReplaced, IsShut, begins, lies}
 use Rattle.tree_commands.specs.Private.Listing.{IsEnd}
 use Rattle.tree_commands.proofs.lemmas.PathLemmas.{one_folder, start_ends}
 
@@ -18,10 +18,6 @@ module _ (basis : Basis) (tree : FileTree) where
   pub ends_listed : (path : List ℕ) → IsListed basis tree path → IsEndOf path
   ends_listed path (inl file) = inl (inl (file.some, file.whole))
   ends_listed path (inr folder) = inl (inr (folder.folder, folder.start, folder.shut))
-
-  pub ends_told : (path : List ℕ) → IsTold basis tree path → IsEndOf path
-  ends_told path (inl told) = ends_listed path told.listed
-  ends_told path (inr told) = inr (told.folder, told.start, told.replaced)
 
   -- a path that is met from another one lies below an entry of that
   pub record MeetsFirst (start path : List ℕ) : Type 0 where
@@ -47,7 +43,7 @@ module _ (basis : Basis) (tree : FileTree) where
       (meets_first met)
 
   -- an end isn't entered
-  end_is_shut : (path : List ℕ) (folder : Folder) → IsEndOf path → path ≡ start_of folder → ¬ IsOpen folder
+  pub end_is_shut : (path : List ℕ) (folder : Folder) → IsEndOf path → path ≡ start_of folder → ¬ IsOpen folder
   end_is_shut path folder (inl (inl file)) is may = file.1 (subst EndsInSlash (sym is) (start_ends folder (λ none. file.0 (is ∙ none))))
   end_is_shut path folder (inl (inr at)) is may =
       may.0 (subst (λ f. IsShut basis.terms tree f (IsIgnoredAt basis tree f true)) (one_folder at.0 folder (sym at.1 ∙ is)) at.2)
@@ -60,11 +56,11 @@ module _ (basis : Basis) (tree : FileTree) where
       (λ (first : MeetsFirst start path). absurd (end_is_shut start first.folder ends first.is_start first.may))
       (meets_first met)
 
-  -- from a folder that is entered another path is met through one of its entries
-  pub meets_entry : (folder : Folder) (path : List ℕ) → IsOpen folder → IsMet basis tree (start_of folder) path → IsEndOf path → (found : List ℕ) × IsEntryOf basis tree folder found × IsMet basis tree found path
-  meets_entry folder path may met ends = ⊎_elim
-      (λ (is : path ≡ start_of folder). absurd (end_is_shut path folder ends is may))
+  -- from a folder its own path is met, and another one through one of its entries
+  pub meets_entry : (folder : Folder) (path : List ℕ) → IsMet basis tree (start_of folder) path → (path ≡ start_of folder) ⊎ ((found : List ℕ) × IsEntryOf basis tree folder found × IsMet basis tree found path)
+  meets_entry folder path met = ⊎_elim
+      (λ (is : path ≡ start_of folder). inl is)
       (λ (first : MeetsFirst (start_of folder) path).
       let same : first.folder ≡ folder = one_folder first.folder folder (sym first.is_start) in
-      (first.found, subst (λ at. IsEntryOf basis tree at first.found) same first.entry, first.rest))
+      inr (first.found, subst (λ at. IsEntryOf basis tree at first.found) same first.entry, first.rest))
       (meets_first met)

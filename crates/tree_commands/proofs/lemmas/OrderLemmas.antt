@@ -75,6 +75,15 @@ before_more (x ∷ xs) (y ∷ ys) more (inr same) = inr (same.0, before_more xs 
 pub comes_before_more : (xs ys more : List ℕ) → ComesBefore xs ys → ComesBefore xs (ys ++ more)
 comes_before_more xs ys more h = by_bytes_before xs (ys ++ more) (before_more xs ys more (before_by_bytes xs ys h))
 
+-- a path comes before what goes on behind it
+pub comes_before_itself_more : (xs more : List ℕ) → more ≢ [] → ComesBefore xs (xs ++ more)
+comes_before_itself_more xs more some = by_bytes_before xs (xs ++ more) (before_itself xs more some)
+  where
+    before_itself : (xs more : List ℕ) → more ≢ [] → Before xs (xs ++ more)
+    before_itself [] [] some = absurd (some refl)
+    before_itself [] (y ∷ more) some = tt
+    before_itself (x ∷ xs) more some = inr (refl, before_itself xs more some)
+
 before_behind : (front xs ys : List ℕ) → Before xs ys → Before (front ++ xs) (front ++ ys)
 before_behind [] xs ys h = h
 before_behind (b ∷ front) xs ys h = inr (refl, before_behind front xs ys h)

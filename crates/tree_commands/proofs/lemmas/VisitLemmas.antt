@@ -1,6 +1,6 @@
 -- What a visit leaves, and what is known before a listing begins.
 use Rattle.std.proofs.Common.{◌≡◌, ◌≢◌, inl, inr, ⊎_elim, ℕ, Bool, true, false, List, [], refl, sym, subst, ◌∙◌}
-use Rattle.std.specs.Prelude.{◌↔◌, IsTrue, Option, None, Some}
+use Rattle.std.specs.Prelude.{◌↔◌, IsTrue, None, Some}
 use Rattle.std.proofs.lemmas.Bool.{false≢true}
 use Rattle.std.proofs.lemmas.Option.{same_Some}
 use Rattle.git_index.specs.Entries.{IsTracked}
@@ -12,7 +12,7 @@ use Rattle.tree_commands.specs.declared.files.choosing.Chosen.TheVariants.{Ignor
 use Rattle.tree_commands.specs.declared.files.pending.Pending.{Pending}
 use Rattle.tree_commands.specs.declared.files.source.EntryKind.{EntryKind}
 use Rattle.tree_commands.specs.FileTrees.{FileTree}
-use Rattle.tree_commands.specs.Files.{IsHidden, IsListedBy, IsListedFile, IsListedFolder, IsNamed, IsShut, Terms}
+use Rattle.tree_commands.specs.Files.{IsHidden, IsListedBy, IsListedFile, IsListedFolder, IsNamed, IsShut, ShutsItself, Terms}
 use Rattle.tree_commands.specs.Private.Listing.{AddsOwn, Enters, FlagsFolder, IsClear, IsEnd, IsFoundAmong, IsFree, IsIgnoredNext, IsToldBy, ListsFile, ListsFolder, MayBegin, StandsAtStart, Visits, if_listed, path_of}
 use Rattle.tree_commands.proofs.lemmas.BeginLemmas.{begins_at_something}
 use Rattle.tree_commands.proofs.lemmas.LevelLemmas.{shut_as}
@@ -62,12 +62,12 @@ module _ (terms : Terms) (tree : FileTree) (folder : Folder) (is_ignored : Bool)
   pub shut_by_name : IsToldBy terms folder is_ignored → IsShut terms tree folder (IsTrue is_ignored)
   shut_by_name told = record { below = told.1.0; free = told.1.1; why = inr told.0 }
 
-  pub shut_by_repository : tree.has_git folder ≡ true → IsFree terms folder → IsShut terms tree folder (IsTrue is_ignored)
-  shut_by_repository git free = record { below = free.0; free = free.1; why = inl git }
+  pub shut_by_itself : ShutsItself terms tree folder × IsFree terms folder → IsShut terms tree folder (IsTrue is_ignored)
+  shut_by_itself itself = record { below = itself.1.0; free = itself.1.1; why = inl itself.0 }
 
-  pub not_shut : ¬ IsToldBy terms folder is_ignored → (tree.has_git folder ≡ true → ¬ IsFree terms folder) → ¬ IsShut terms tree folder (IsTrue is_ignored)
+  pub not_shut : ¬ IsToldBy terms folder is_ignored → ¬ (ShutsItself terms tree folder × IsFree terms folder) → ¬ IsShut terms tree folder (IsTrue is_ignored)
   not_shut untold other shut = ⊎_elim
-      (λ (git : tree.has_git folder ≡ true). other git (shut.below, shut.free))
+      (λ (itself : ShutsItself terms tree folder). other (itself, (shut.below, shut.free)))
       (λ (named : IsNamed terms.folders terms.chosen (IsTrue is_ignored)). untold (named, (shut.below, shut.free)))
       shut.why
 

@@ -1,23 +1,26 @@
--- What is said of folders that are told only if they are filled.
-use Rattle.std.specs.Prelude.{◌≡◌, ◌⊎◌, ℕ, ◌≤◌, List, length, take, Option, MatchOption}
+-- What is said of folders about which searches of them decide.
+use Rattle.std.specs.Prelude.{◌≡◌, ◌≢◌, ◌⊎◌, ℕ, ◌≤◌, true, false, List, [], length, take, Option, Some, MatchOption}
 use Rattle.gix_glob.specs.EntryLists.{EntryList}
 use Rattle.glob_trees.specs.Ways.{Folder, start_of}
 use Rattle.tree_commands.specs.declared.files.choosing.Chosen.{Chosen}
-use Rattle.tree_commands.specs.declared.files.choosing.Folders.TheVariants.{NamedIfFilled}
+use Rattle.tree_commands.specs.declared.files.choosing.Chosen.TheVariants.{Ignored}
+use Rattle.tree_commands.specs.declared.files.choosing.Folders.{Folders}
+use Rattle.tree_commands.specs.declared.files.choosing.Folders.TheVariants.{NamedIfAllIgnored, NamedIfFilled}
 use Rattle.tree_commands.specs.declared.files.pending.Pending.{Pending}
 use Rattle.tree_commands.specs.FileTrees.{FileTree}
 use Rattle.git_index.specs.Entries.{IsTracked}
-use Rattle.tree_commands.specs.Files.{Basis, IsFilled, IsReplaced, Terms, entering}
-use Rattle.tree_commands.specs.Private.Listing.{Among, IsEntered, IsPassedOver, IsToList, Stands, path_of}
+use Rattle.tree_commands.specs.Files.{Basis, IsAllIgnored, IsFilled, IsReplaced, Terms, search_of}
+use Rattle.tree_commands.specs.Private.Listing.{Among, Enters, IsEntered, IsIgnoredNext, IsPassedOver, IsToList, Stands, path_of}
+use Rattle.tree_commands.specs.Lookups.{HasEntryBelow}
 use Rattle.tree_commands.specs.Private.UnderWay.{Beginning}
 
 -- what follows of a known tree wherever a listing stands at the path with these lists
 abbrev pub OfStanding : (FileTree → Type 0) → Terms → List (EntryList (Unit {0})) → Pending → (Basis → FileTree → Type 0) → Type 0
 OfStanding Known terms lists next Holds = (tree : FileTree) → Known tree → (basis : Basis) → basis.terms ≡ terms → Stands basis tree lists next → Holds basis tree
 
--- where a listing stands, one of the paths that are chosen so stands, too
-abbrev pub MaySearch : Terms → List (EntryList (Unit {0})) → Pending → Chosen → Type 0
-MaySearch terms lists next chosen = (tree : FileTree) (basis : Basis) → basis.terms ≡ terms → Stands basis tree lists next → Stands (entering chosen basis) tree lists next
+-- where a listing stands, a search of the paths that are chosen so stands, too
+abbrev pub MaySearch : Terms → List (EntryList (Unit {0})) → Pending → Folders → Chosen → Type 0
+MaySearch terms lists next folders chosen = (tree : FileTree) (basis : Basis) → basis.terms ≡ terms → Stands basis tree lists next → Stands (search_of folders chosen basis) tree lists next
 
 -- as many of the lists as each pending path has are as they were
 abbrev pub KeepsLists : Beginning → List (EntryList (Unit {0})) → Type 0
@@ -55,5 +58,34 @@ pub record IsVisited (Known : FileTree → Type 0) (terms : Terms) (next : Pendi
   pub tells : Tells Known terms next old_lists new_lists old new told
   pub unreplaced : OfStanding Known terms old_lists next (λ basis tree. (folder : Folder) → path_of next ≡ start_of folder → ¬ IsReplaced basis tree folder)
 
+abbrev pub StepsOnce : (FileTree → Type 0) → Terms → Pending → List (EntryList (Unit {0})) → List (EntryList (Unit {0})) → List Pending → List Pending → Option (List ℕ) → Type 0
+StepsOnce Known terms next old_lists new_lists old new told = IsNamedInPlace Known terms next old_lists new_lists old new told ⊎ IsVisited Known terms next old_lists new_lists old new told
+
+-- all may be ignored that lies in a folder, by what is known before it is searched
+pub record MayBeAllIgnored (terms : Terms) (lists : List (EntryList (Unit {0}))) (place : Pending) (folder : Folder) : Type 0 where
+  pub asks : (terms.folders ≡ NamedIfAllIgnored) × (terms.chosen ≡ Ignored)
+  pub below : folder ≢ []
+  pub free : ¬ HasEntryBelow terms.tracked folder
+  pub name : ¬ IsTracked terms.tracked.entries folder
+  pub unignored : ¬ IsIgnoredNext terms lists place folder true
+
+-- a folder was entered that isn't ignored
+pub record EntersBeside (Known : FileTree → Type 0) (terms : Terms) (next : Pending) (old_lists new_lists : List (EntryList (Unit {0}))) (old new : List Pending) : Type 0 where
+  pub folder : Folder
+  pub start : path_of next ≡ start_of folder
+  pub enters : Enters Known terms folder next.list_count false old_lists new_lists old new
+
+-- a folder was entered in which all is ignored, and its name is told
+pub record IsNamedBeside (Known : FileTree → Type 0) (terms : Terms) (next : Pending) (old_lists new_lists : List (EntryList (Unit {0}))) (old new : List Pending) (told : Option (List ℕ)) : Type 0 where
+  pub name : told ≡ Some (path_of next)
+  pub entered : EntersBeside Known terms next old_lists new_lists old new
+  pub may : MayBeAllIgnored terms old_lists next entered.folder
+  pub ignored : OfStanding Known terms old_lists next (λ basis tree. IsAllIgnored basis tree entered.folder)
+
+-- or it is no such folder's path, and tells one name at most
+pub record IsToldOnce (Known : FileTree → Type 0) (terms : Terms) (next : Pending) (old_lists new_lists : List (EntryList (Unit {0}))) (old new : List Pending) (told : Option (List ℕ)) : Type 0 where
+  pub steps : StepsOnce Known terms next old_lists new_lists old new told
+  pub other : OfStanding Known terms old_lists next (λ basis tree. (folder : Folder) → path_of next ≡ start_of folder → ¬ IsAllIgnored basis tree folder)
+
 abbrev pub Steps : (FileTree → Type 0) → Terms → Pending → List (EntryList (Unit {0})) → List (EntryList (Unit {0})) → List Pending → List Pending → Option (List ℕ) → Type 0
-Steps Known terms next old_lists new_lists old new told = IsNamedInPlace Known terms next old_lists new_lists old new told ⊎ IsVisited Known terms next old_lists new_lists old new told
+Steps Known terms next old_lists new_lists old new told = IsNamedBeside Known terms next old_lists new_lists old new told ⊎ IsToldOnce Known terms next old_lists new_lists old new told

@@ -1,5 +1,5 @@
 -- What the functions of a listing say to one another.
-use Rattle.std.specs.Prelude.{◌≡◌, ◌≢◌, ◌⊎◌, ◌↔◌, ℕ, ◌≤◌, Bool, true, false, not, if◌then◌else◌, IsTrue, List, [], ◌∷◌, ◌++◌, length, map, take, Option, None, Some, MatchBool, MatchOption}
+use Rattle.std.specs.Prelude.{◌≡◌, ◌≢◌, ◌⊎◌, ◌↔◌, ℕ, ◌≤◌, Bool, true, false, not, if◌then◌else◌, IsTrue, List, [], ◌∷◌, ◌++◌, length, map, take, Option, None, Some, IsSome, MatchBool, MatchOption}
 use Rattle.std.specs.List.{AllByRecursion}
 use Rattle.std.specs.Io.KnownBytes.{Appends}
 use Rattle.git_index.specs.Entries.{IsTracked}
@@ -20,7 +20,7 @@ use Rattle.tree_commands.specs.declared.files.pending.Pending.{Pending}
 use Rattle.tree_commands.specs.declared.files.source.EntryKind.{EntryKind}
 use Rattle.tree_commands.specs.declared.files.terms.Terms as held
 use Rattle.tree_commands.specs.FileTrees.{FileTree, names_in}
-use Rattle.tree_commands.specs.Files.{Basis, BeginsAt, BeginsBelow, ComesBefore, IsBelowIgnored, IsEntryName, IsFound, IsHidden, IsKept, IsListedBy, IsNamed, IsShut, LetsPass, Terms, is_folder, is_git, lists_to}
+use Rattle.tree_commands.specs.Files.{Basis, BeginsAt, BeginsBelow, ComesBefore, IsBelowIgnored, IsEntryName, IsFound, IsHidden, IsKept, IsListedBy, IsNamed, IsShut, LetsPass, ShutsItself, Terms, is_folder, is_git, lists_to}
 use Rattle.tree_commands.specs.Ignoring.{IsIgnored}
 use Rattle.tree_commands.specs.Lookups.{HasEntryBelow, LookedUp}
 use Rattle.tree_commands.specs.Private.FoldedPaths.{case_by}
@@ -91,6 +91,14 @@ pub record IsFoundAmong (lists : List (EntryList (Unit {0}))) (terms : Terms) (t
   pub among : Among names name
   pub may : IsEntryName terms.case name
   pub here : IsFound lists terms tree (start ++ name) found
+
+-- whether something stands behind such a start and a name that may be listed
+abbrev pub LiesThere : Case → FileTree → List ℕ → List ℕ → Bool → Type 0
+LiesThere case tree start name is_there = IsTrue is_there ↔ (IsEntryName case name × IsSome (tree.kind (start ++ name)))
+
+-- nothing stands behind it and one of the names
+abbrev pub IsNoneAmong : Case → FileTree → List ℕ → List (List ℕ) → Type 0
+IsNoneAmong case tree start names = (name : List ℕ) → Among names name → IsEntryName case name → tree.kind (start ++ name) ≡ None
 
 -- each name behind such a start makes a path
 abbrev pub LeadsOn : Case → List ℕ → Type 0
@@ -163,6 +171,10 @@ pub record FlagsFolder (terms : Terms) (lists : List (EntryList (Unit {0}))) (ne
 -- a folder below the top in which no tracked path lies, and one that is told by its name
 abbrev pub IsFree : Terms → Folder → Type 0
 IsFree terms folder = (folder ≢ []) × (¬ HasEntryBelow terms.tracked folder)
+
+-- whether what is found in a folder is why it isn't gone into
+abbrev pub SaysShut : Terms → FileTree → Folder → Bool → Type 0
+SaysShut terms tree folder is_shut = IsTrue is_shut ↔ (ShutsItself terms tree folder × IsFree terms folder)
 
 abbrev pub IsNamedBy : Folders → Chosen → Bool → Type 0
 IsNamedBy folders chosen is_ignored = IsNamed folders chosen (IsTrue is_ignored)

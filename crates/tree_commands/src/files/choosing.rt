@@ -20,9 +20,14 @@ pub enum Folders {
     Named,
     /// It is told by its name where it is ignored, and the ignored paths are chosen; else it is gone into.
     NamedIfIgnored,
+    /// It is told by its name where nothing lies in it; else it is gone into.
+    NamedIfEmpty,
     /// It isn't gone into, and is told by its name where it is filled: a listing from there that goes into all folders would list something.
     /// Where the ignored paths are chosen, it would list all that lies in the folder.
     NamedIfFilled,
     /// It is told by its name where it is filled in this sense; else it is gone into.
     EnteredUnlessFilled,
+    /// Where the ignored paths are chosen, it is told by its name if it is ignored, or if a listing from there of the paths that aren't, which
+    /// tells empty folders, would list nothing. It is gone into unless it is ignored itself.
+    NamedIfAllIgnored,
 }

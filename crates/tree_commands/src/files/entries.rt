@@ -9,7 +9,7 @@ ghost use Rattle.glob_trees.specs.Ways.{GivesOnly};
 ghost use Rattle.told_paths.specs.Paths.{is_name};
 ghost use Rattle.tree_commands.specs.FileTrees.{FileTree, StaysKnown, names_in};
 ghost use Rattle.tree_commands.specs.Files.{IsEntryName, is_folder, is_git};
-ghost use Rattle.tree_commands.specs.Private.Listing.{AddsFound, Among, EndsInName, IsChosenThere, IsFoundAmong, IsMetThere, LeadsOn, StandsThere, seen_lists, terms_of};
+ghost use Rattle.tree_commands.specs.Private.Listing.{AddsFound, Among, EndsInName, IsChosenThere, IsFoundAmong, IsMetThere, IsNoneAmong, LeadsOn, LiesThere, StandsThere, seen_lists, terms_of};
 
 use crate::files::asking::kind_at;
 use crate::files::ignoring::{Ignoring, ignoring_by, is_ignored_by};
@@ -56,6 +56,52 @@ pub(crate) fn entries_of<S: FileSource>(
         rest = behind;
     }
     Ok(paths)
+}
+
+/// Whether nothing lies in a folder, by its names: nothing stands behind any that may be listed. `start` begins the paths of its entries.
+pub(crate) fn has_no_entry<S: FileSource>(
+    alloc: Global,
+    source: &mut S,
+    case: Case,
+    start: &[u8],
+    names: &[u8],
+) -> Result<bool, TreeFault<S::Fault>>
+    ensures none { IfOk result (λ is_none. (tree : FileTree) → S.shows source.old tree → IsTrue is_none ↔ IsNoneAmong case tree start.now (names_in names.now)) }
+    ensures stays { StaysKnown S.shows source.old source.new }
+    ensures asks { GivesOnly (λ _. ⊥) (S.asked source.old) (S.asked source.new) }
+{
+    let mut others = Some(names);
+    'names: while let Some(left) = others {
+        let (name, behind) = first_name(left);
+        let is_there = has_entry(alloc, source, case, start, name)?;
+        if is_there {
+            return Ok(false);
+        }
+        others = behind;
+    }
+    Ok(true)
+}
+
+/// Whether a name may be listed, and something stands behind it.
+fn has_entry<S: FileSource>(
+    alloc: Global,
+    source: &mut S,
+    case: Case,
+    start: &[u8],
+    name: &[u8],
+) -> Result<bool, TreeFault<S::Fault>>
+    ensures there { IfOk result (λ is_there. (tree : FileTree) → S.shows source.old tree → LiesThere case tree start.now name.now is_there) }
+    ensures stays { StaysKnown S.shows source.old source.new }
+    ensures asks { GivesOnly (λ _. ⊥) (S.asked source.old) (S.asked source.new) }
+{
+    if !is_entry_name(case, name) {
+        return Ok(false);
+    }
+    let mut path = Vec::with_capacity(alloc, start.len() + name.len())?;
+    path.extend_from_slice(start)?;
+    path.extend_from_slice(name)?;
+    let found = kind_at(source, &path)?;
+    Ok(found.is_some())
 }
 
 /// Whether a name in a folder may be listed.

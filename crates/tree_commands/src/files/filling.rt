@@ -6,10 +6,9 @@ ghost use Rattle.gix_glob.specs.Bytes.{EndsInSlash, slash};
 ghost use Rattle.glob_lists.specs.Deciding.{BasesAreFolders};
 ghost use Rattle.glob_trees.specs.Ways.{Folder, GivesOnly, start_of};
 ghost use Rattle.tree_commands.specs.declared.files.choosing.Chosen.{Chosen};
-ghost use Rattle.tree_commands.specs.declared.files.choosing.Folders.TheVariants as manners;
 ghost use Rattle.tree_commands.specs.FileTrees.{StaysKnown};
-ghost use Rattle.tree_commands.specs.Files.{HasListed, IsFilled, IsMet, IsReplaced, IsSearched, IsTold, entering};
-ghost use Rattle.tree_commands.specs.Private.Filling.{KeepsLists, MaySearch, OfStanding, Steps, Tells};
+ghost use Rattle.tree_commands.specs.Files.{AsksSearches, HasListedBy, IsFilled, IsMet, IsReplaced, IsSearched, IsTold, entering, search_of};
+ghost use Rattle.tree_commands.specs.Private.Filling.{KeepsLists, MaySearch, OfStanding, StepsOnce, Tells};
 ghost use Rattle.tree_commands.specs.Private.Listing.{FlagsFolder, MayVisit, seen_lists, terms_of};
 ghost use Rattle.tree_commands.specs.Private.ListingFaults.{is_of_start};
 ghost use Rattle.tree_commands.specs.Private.UnderWay.{IsUnderWay, OfKnown, beginning_of};
@@ -28,9 +27,8 @@ use std::alloc::AllocError;
 use std::mem;
 
 impl<'a> Lister<'a> {
-    /// Takes the next step of a listing: visits a path, or puts the name of a folder in place of what lies in it. It answers the path where that
-    /// is to be told.
-    pub(crate) fn tell<S: FileSource>(
+    /// Visits a path, or puts the name of a folder in place of what lies in it. It answers the path where that is to be told.
+    pub(crate) fn tell_once<S: FileSource>(
         &mut self,
         source: &mut S,
         next: Pending,
@@ -38,7 +36,7 @@ impl<'a> Lister<'a> {
         requires folders { BasesAreFolders (seen_lists self.old.on_way.lists.items) }
         requires may { MayVisit self.old.on_way.terms.case next.path.items }
         requires count { next.list_count ≤ length self.old.on_way.lists.items }
-        ensures steps { IfOk result (λ told. Steps (S.shows source.old) (terms_of self.old.on_way.terms) next (take next.list_count (seen_lists self.old.on_way.lists.items)) (seen_lists self.new.on_way.lists.items) self.old.pending.items self.new.pending.items (option_map vec_items told)) }
+        ensures steps { IfOk result (λ told. StepsOnce (S.shows source.old) (terms_of self.old.on_way.terms) next (take next.list_count (seen_lists self.old.on_way.lists.items)) (seen_lists self.new.on_way.lists.items) self.old.pending.items self.new.pending.items (option_map vec_items told)) }
         ensures terms { self.new.on_way.terms ≡ self.old.on_way.terms }
         ensures folders { OnOk result (BasesAreFolders (seen_lists self.new.on_way.lists.items)) }
         ensures stays { StaysKnown S.shows source.old source.new }
@@ -143,7 +141,7 @@ impl<'a> Lister<'a> {
         ensures begun { IfErr result (λ fault. is_of_start fault ≡ false) }
     {
         let chosen = self.on_way.terms.chosen;
-        let has_chosen = self.has_listed(source, place, chosen)?;
+        let has_chosen = self.has_listed(source, place, Folders::Entered, chosen)?;
         if !has_chosen {
             return Ok(false);
         }
@@ -156,27 +154,29 @@ impl<'a> Lister<'a> {
         if is_ignored_at(&self.on_way, place) {
             return Ok(true);
         }
-        let has_other = self.has_listed(source, place, Chosen::Unignored)?;
+        let has_other = self.has_listed(source, place, Folders::Entered, Chosen::Unignored)?;
         Ok(!has_other)
     }
 
-    /// Whether a listing of paths that are chosen so, from a path on, lists something, where it goes into all folders.
-    fn has_listed<S: FileSource>(
+    /// Whether a listing of paths that are chosen so, which tells folders so, lists something from a path on.
+    pub(crate) fn has_listed<S: FileSource>(
         &mut self,
         source: &mut S,
         place: &Pending,
+        folders: Folders,
         chosen: Chosen,
     ) -> Result<bool, FilesFault<S::Fault>>
         requires folders { BasesAreFolders (seen_lists self.old.on_way.lists.items) }
         requires may { MayVisit self.old.on_way.terms.case place.now.path.items }
         requires count { place.now.list_count ≡ length self.old.on_way.lists.items }
-        requires standing { MaySearch (terms_of self.old.on_way.terms) (seen_lists self.old.on_way.lists.items) place.now chosen }
-        ensures any { IfOk result (λ is_any. OfStanding (S.shows source.old) (terms_of self.old.on_way.terms) (seen_lists self.old.on_way.lists.items) place.now (λ basis tree. (folder : Folder) → place.now.path.items ≡ start_of folder → IsTrue is_any ↔ HasListed chosen basis tree folder)) }
+        requires standing { MaySearch (terms_of self.old.on_way.terms) (seen_lists self.old.on_way.lists.items) place.now folders chosen }
+        requires plain { ¬ AsksSearches folders }
+        ensures any { IfOk result (λ is_any. OfStanding (S.shows source.old) (terms_of self.old.on_way.terms) (seen_lists self.old.on_way.lists.items) place.now (λ basis tree. (folder : Folder) → place.now.path.items ≡ start_of folder → IsTrue is_any ↔ HasListedBy folders chosen basis tree folder)) }
         ensures lists { OnOk result (seen_lists self.new.on_way.lists.items ≡ seen_lists self.old.on_way.lists.items) }
         ensures terms { self.new.on_way.terms ≡ self.old.on_way.terms }
         ensures pending { self.new.pending ≡ self.old.pending }
         ensures stays { StaysKnown S.shows source.old source.new }
-        ensures asks { GivesOnly (λ folder. OfStanding (S.shows source.old) (terms_of self.old.on_way.terms) (seen_lists self.old.on_way.lists.items) place.now (λ basis tree. IsMet (entering chosen basis) tree place.now.path.items (start_of folder))) (S.asked source.old) (S.asked source.new) }
+        ensures asks { GivesOnly (λ folder. OfStanding (S.shows source.old) (terms_of self.old.on_way.terms) (seen_lists self.old.on_way.lists.items) place.now (λ basis tree. IsMet (search_of folders chosen basis) tree place.now.path.items (start_of folder))) (S.asked source.old) (S.asked source.new) }
         ensures begun { IfErr result (λ fault. is_of_start fault ≡ false) }
     {
         let path = path_of(place)?;
@@ -184,7 +184,7 @@ impl<'a> Lister<'a> {
         let terms = Terms {
             case: self.on_way.terms.case,
             chosen,
-            folders: Folders::Entered,
+            folders,
             tracked: self.on_way.terms.tracked,
         };
         let mut search = Lister::new(self.alloc, lists, terms);
@@ -242,7 +242,7 @@ fn lists_any<S: FileSource>(
 ) -> Result<bool, FilesFault<S::Fault>>
     requires folders { BasesAreFolders (seen_lists search.old.on_way.lists.items) }
     requires under_way { IsUnderWay search.old.on_way.terms.case [] search.old.pending.items (seen_lists search.old.on_way.lists.items) }
-    requires entered { search.old.on_way.terms.folders ≡ manners.Entered }
+    requires plain { ¬ AsksSearches search.old.on_way.terms.folders }
     ensures any { IfOk result (λ is_any. OfKnown (S.shows source.old) (terms_of search.old.on_way.terms) (beginning_of search.old) (λ basis tree start. IsTrue is_any ↔ ((path : List ℕ) × IsMet basis tree start path × IsTold basis tree path))) }
     ensures lists { OnOk result (KeepsLists (beginning_of search.old) (seen_lists search.new.on_way.lists.items)) }
     ensures stays { StaysKnown S.shows source.old source.new }

@@ -6,15 +6,15 @@ ghost use Rattle.glob_lists.specs.Deciding.{BasesAreFolders};
 ghost use Rattle.glob_lists.specs.Paths.{IsPlainPath};
 ghost use Rattle.glob_trees.specs.Ways.{GivesOnly, start_of, unless_empty};
 ghost use Rattle.tree_commands.specs.FileTrees.{AreFoundIn, FileTree, StaysKnown};
-ghost use Rattle.tree_commands.specs.Private.Listing.{AddsOwn, Enters, Flags, FlagsFolder, IsFree, IsToldBy, LeadsOn, ListsFile, ListsFolder, MayVisit, Visits, if_listed, reads_list, seen_list, seen_lists, terms_of};
+ghost use Rattle.tree_commands.specs.Private.Listing.{AddsOwn, Enters, Flags, FlagsFolder, IsFree, IsToldBy, LeadsOn, ListsFile, ListsFolder, MayVisit, SaysShut, Visits, if_listed, reads_list, seen_list, seen_lists, terms_of};
 
 use crate::files::asking::{list_of, names_in};
 use crate::files::choosing::Chosen;
-use crate::files::entries::{ListsOnWay, entries_of};
+use crate::files::entries::{ListsOnWay, entries_of, has_no_entry};
 use crate::files::ignoring::is_ignored_by;
 use crate::files::pending::{Pending, put_in_order};
 use crate::files::source::{FileSource, FolderNames};
-use crate::files::terms::{Terms, asks_filled, is_named, wants_ignored};
+use crate::files::terms::{Terms, asks_filled, is_named, tells_empty, wants_ignored};
 use gix_glob::search::pattern::List;
 use glob_lines::IgnoreLines;
 use glob_lists::PreparedList;
@@ -74,7 +74,15 @@ impl<'a> Lister<'a> {
             return Ok(only_if(is_listed, next.path));
         }
         let names = names_in(source, folder)?;
-        if is_shut(&self.on_way.terms, folder, &names) {
+        let is_shut = is_shut(
+            self.alloc,
+            source,
+            &self.on_way.terms,
+            &next.path,
+            folder,
+            &names,
+        )?;
+        if is_shut {
             let is_listed = lists_folder(&self.on_way.terms, folder, is_ignored);
             return Ok(only_if(is_listed, next.path));
         }
@@ -83,7 +91,7 @@ impl<'a> Lister<'a> {
     }
 
     /// Enters a folder: its entries that are met come before all that is pending.
-    fn enter<S: FileSource>(
+    pub(crate) fn enter<S: FileSource>(
         &mut self,
         source: &mut S,
         next: &Pending,
@@ -189,11 +197,33 @@ fn is_told(terms: &Terms<'_>, folder: &[u8], is_ignored: bool) -> bool
     is_named(terms.folders, terms.chosen, is_ignored) && is_free(terms, folder)
 }
 
-/// Whether a folder below the top is a repository of its own, in which no tracked path lies.
-fn is_shut(terms: &Terms<'_>, folder: &[u8], names: &FolderNames) -> bool
-    ensures { IsTrue result ↔ (names.now.has_git ≡ true) × IsFree (terms_of terms.now) folder.now }
+/// Whether what is found in a folder below the top, in which no tracked path lies, is why it isn't gone into: it is a repository of its own, or
+/// empty, where such folders are told. `start` is the folder's path.
+fn is_shut<S: FileSource>(
+    alloc: Global,
+    source: &mut S,
+    terms: &Terms<'_>,
+    start: &[u8],
+    folder: &[u8],
+    names: &FolderNames,
+) -> Result<bool, TreeFault<S::Fault>>
+    requires { start.now ≡ start_of folder.now }
+    ensures shut { IfOk result (λ is_shut. (tree : FileTree) → S.shows source.old tree → AreFoundIn tree folder.now names.now → SaysShut (terms_of terms.now) tree folder.now is_shut) }
+    ensures free { IfOk result (λ is_shut. IsTrue is_shut → IsFree (terms_of terms.now) folder.now) }
+    ensures stays { StaysKnown S.shows source.old source.new }
+    ensures asks { GivesOnly (λ _. ⊥) (S.asked source.old) (S.asked source.new) }
 {
-    names.has_git && is_free(terms, folder)
+    if !is_free(terms, folder) {
+        return Ok(false);
+    }
+    if names.has_git {
+        return Ok(true);
+    }
+    if !tells_empty(terms.folders) {
+        return Ok(false);
+    }
+    let is_empty = has_no_entry(alloc, source, terms.case, start, &names.bytes)?;
+    Ok(is_empty)
 }
 
 /// Whether a folder isn't the top, and no tracked path lies in it.

@@ -1,7 +1,9 @@
 //! How paths are looked up in the index: with case, or without.
 ghost use Rattle.std.specs.Prelude.{◌≡◌, ◌↔◌, IfOk, IsTrue};
-ghost use Rattle.git_index.specs.Entries.{IsTracked};
+ghost use Rattle.std.specs.Option.{unwrap_or};
+ghost use Rattle.git_index.specs.Entries.{IsTracked, starting_with};
 ghost use Rattle.gix_glob.specs.declared.pattern.Case.{Case};
+ghost use Rattle.tree_commands.specs.Listings.{told_in};
 ghost use Rattle.tree_commands.specs.Lookups.{HasEntry, HasEntryBelow, IsOfSubmodule};
 ghost use Rattle.tree_commands.specs.Private.FoldedPaths.{AreFoldedBy};
 ghost use Rattle.tree_commands.specs.Private.Listing.{looked};
@@ -10,7 +12,42 @@ use crate::files::lookup::Lookup;
 use git_index::Index;
 use gix_glob::pattern::Case;
 use std::alloc::{AllocError, Global};
+use told_paths::folder_of;
 use tracked_paths::FoldedPaths;
+
+/// The entries that count where a path is told; `None` where all of the index do.
+pub(crate) fn counted_at(
+    alloc: Global,
+    index: &Index,
+    path: &[u8],
+    is_told_folder: bool,
+) -> Result<Option<Index>, AllocError>
+    ensures { IfOk result (λ part. unwrap_or part index.now ≡ starting_with (told_in path.now is_told_folder) index.now) }
+{
+    let folder = told_in(path, is_told_folder);
+    if folder.is_empty() {
+        return Ok(None);
+    }
+    Ok(Some(index.starting_with(alloc, folder)?))
+}
+
+/// The folder in which a path is told: itself, where it is told as a folder's.
+fn told_in(path: &[u8], is_told_folder: bool) -> &[u8]
+    ensures { result.now ≡ told_in path.entry.now is_told_folder }
+{
+    if is_told_folder {
+        path
+    } else {
+        folder_of(path)
+    }
+}
+
+/// A part of an index, or all of it where there is none.
+pub(crate) fn part_or<'a>(part: &'a Option<Index>, index: &'a Index) -> &'a Index
+    ensures { result.now ≡ unwrap_or part.entry.now index.entry.now }
+{
+    part.as_ref().unwrap_or(index)
+}
 
 /// The paths of an index without case, where case doesn't count.
 pub(crate) fn folded_by(

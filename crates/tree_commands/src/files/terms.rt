@@ -57,6 +57,20 @@ pub(crate) fn asks_filled(folders: Folders) -> bool
     matches!(folders, Folders::NamedIfFilled)
 }
 
+/// Whether a folder is told by its name, and not gone into, if nothing lies in it.
+pub(crate) fn tells_empty(folders: Folders) -> bool
+    ensures { IsTrue result ↔ folders ≡ manners.NamedIfEmpty }
+{
+    matches!(folders, Folders::NamedIfEmpty)
+}
+
+/// Whether a folder is told beside what lies in it, if all of that is ignored.
+pub(crate) fn tells_beside(terms: &Terms<'_>) -> bool
+    ensures { IsTrue result ↔ ((terms.now.folders ≡ manners.NamedIfAllIgnored) × (terms.now.chosen ≡ choices.Ignored)) }
+{
+    matches!(terms.folders, Folders::NamedIfAllIgnored) && wants_ignored(terms.chosen)
+}
+
 /// Whether a folder is told by its name in place of what lies in it, if it is filled.
 pub(crate) fn replaces_filled(folders: Folders) -> bool
     ensures { IsTrue result ↔ folders ≡ manners.EnteredUnlessFilled }
@@ -69,8 +83,10 @@ pub(crate) fn is_named(folders: Folders, chosen: Chosen, is_ignored: bool) -> bo
     ensures { IsTrue result ↔ IsNamedBy folders chosen is_ignored }
 {
     match folders {
-        Folders::Entered | Folders::EnteredUnlessFilled => false,
+        Folders::Entered | Folders::EnteredUnlessFilled | Folders::NamedIfEmpty => false,
         Folders::Named | Folders::NamedIfFilled => true,
-        Folders::NamedIfIgnored => wants_ignored(chosen) && is_ignored,
+        Folders::NamedIfIgnored | Folders::NamedIfAllIgnored => {
+            wants_ignored(chosen) && is_ignored
+        }
     }
 }

@@ -1,6 +1,7 @@
-use Rattle.std.proofs.Common.{◌++◌, [], ◌∷◌, map, ap, ◌∙◌, arith, rules}
+use Rattle.std.proofs.Common.{[], ◌∷◌, map, ap, ◌∙◌, arith, rules}
 use Rattle.std.proofs.lemmas.List.{length-map, map-append, take_all}
 use Rattle.git_index.specs.Entries.{tracked}
+use Rattle.git_index.proofs.lemmas.Copies.{copied}
 use Rattle.tracked_paths.specs.Folding.{alike}
 use Rattle.tracked_paths.proofs.lemmas.Sorting.{one_more, sorted_alike, sorted_in_order}
 use Rattle.tracked_paths.proofs.sorted.sorted.Goals as goal
@@ -9,7 +10,7 @@ pub loop-entry-preserved : goal.loop-entry-preserved
 loop-entry-preserved c =
     ap (map tracked) c.in_ok-push.ensures.items
     ∙ map-append tracked c.loop-entry.sorted.items _
-    ∙ one_more c.args.entries.now c.loop-entry.entry-index c.entry-item.result _ (map tracked c.loop-entry.sorted.items) c.loop-entry-test.true c.entry-item.is c.loop-entry.invariant (ap (λ t. t ∷ []) c.in_ok-copied.ensures)
+    ∙ one_more c.args.entries.now c.loop-entry.entry-index c.entry-item.result _ (map tracked c.loop-entry.sorted.items) c.loop-entry-test.true c.entry-item.is c.loop-entry.invariant (ap (λ t. t ∷ []) (copied c.entry-item.result c.in_ok-clone.field-0 c.in_ok-clone.ensures.cases))
 
 pub returns-clause-ordered : goal.returns-clause-ordered
 returns-clause-ordered c = sorted_in_order (λ a r q k. search rules) c.sort_by.new.self.items c.in_ok-sort_by.ensures.sorted

@@ -1,5 +1,5 @@
 use Rattle.std.proofs.Common.{sym}
-use Rattle.tree_answers.proofs.lemmas.ZeroLemmas.{before_found, before_not_found}
+use Rattle.glob_attributes.proofs.lemmas.ZeroLemmas.{before_found, before_not_found}
 use Rattle.tree_answers.proofs.records.before_zero.Goals as goal
 
 pub returns-in-Some : goal.returns-in-Some

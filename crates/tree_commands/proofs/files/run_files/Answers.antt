@@ -12,6 +12,7 @@ use Rattle.tree_commands.specs.Private.Listing.{Begins, looked, seen_lists, term
 use Rattle.tree_commands.specs.Private.UnderWay.{OfKnown, beginning_of}
 use Rattle.tree_commands.proofs.lemmas.BeginLemmas.{all_is_listed, all_pairs, folder_is_reached, some_is_listed}
 use Rattle.tree_commands.proofs.lemmas.ListingRuns.{nothing_in_front}
+use Rattle.tree_commands.proofs.lemmas.LookupLemmas.{looks_up}
 use Rattle.tree_commands.proofs.lemmas.SourceLemmas.{gives_further, on_any_err}
 use Rattle.tree_commands.proofs.files.run_files.Goals as goal
 
@@ -30,6 +31,9 @@ returns-then-not-are_of_folders-clause-base g c = λ told folders. false≢true 
 pub returns-in_err-is_told_folder-clause-front : goal.returns-in_err-is_told_folder-clause-front
 returns-in_err-is_told_folder-clause-front g c = on_any_err c.from_residual.result (λ unfailed. ([], all_pairs [] tt, nothing_in_front (path_line c.args.listing.mark c.args.listing.standpoint c.args.listing.form) (g.W.Write.contents (inner c.args.writer.now)), λ tree known path there. absurd (none_there path there)))
 
+pub returns-in_err-part-clause-front : goal.returns-in_err-part-clause-front
+returns-in_err-part-clause-front g c = on_any_err c.from_residual-in_err-part.result (λ unfailed. ([], all_pairs [] tt, nothing_in_front (path_line c.args.listing.mark c.args.listing.standpoint c.args.listing.form) (g.W.Write.contents (inner c.args.writer.now)), λ tree known path there. absurd (none_there path there)))
+
 pub returns-in_err-folded-clause-front : goal.returns-in_err-folded-clause-front
 returns-in_err-folded-clause-front g c = on_any_err c.from_residual-in_err-folded.result (λ unfailed. ([], all_pairs [] tt, nothing_in_front (path_line c.args.listing.mark c.args.listing.standpoint c.args.listing.form) (g.W.Write.contents (inner c.args.writer.now)), λ tree known path there. absurd (none_there path there)))
 
@@ -38,7 +42,7 @@ returns-in_err-begin-clause-front g c = on_any_err c.from_residual-in_err-begin.
 
 pub returns-clause-lists : goal.returns-clause-lists
 returns-clause-lists g c =
-    let basis : Basis = asked_basis c.args.listing c.args.tracked.now in
+    let basis : Basis = asked_basis c.args.listing c.args.told.now c.args.tracked.now in
     let standpoint = c.args.listing.standpoint in
     let line = path_line c.args.listing.mark c.args.listing.standpoint c.args.listing.form in
     let known = g.S.FileSource.shows c.args.source.now in
@@ -47,7 +51,7 @@ returns-clause-lists g c =
     let pending = c.begin.new.self.pending.items in
     let told = c.in_ok-is_told_folder.is_told_folder in
     let leads = c.in_ok-is_told_folder.ensures.leads in
-    let looks : looked c.new-tracked.result ≡ basis.terms.tracked = c.new-tracked.ensures c.args.listing.case c.in_ok-folded.ensures in
+    let looks : looked c.new-tracked.result ≡ basis.terms.tracked = looks_up c.args.listing c.args.told.now c.lead.new.path.items c.deref-2.result.now told c.args.tracked.now c.part_or-counted.result.now (looked c.new-tracked.result) leads.0 leads.1 c.deref-2.ensures.value (c.part_or-counted.ensures ∙ c.in_ok-part.ensures) (c.new-tracked.ensures c.args.listing.case c.in_ok-folded.ensures) in
     let at : Begins known basis c.lead.new.path.items told lists pending = subst (λ (t : LookedUp). Begins known (record { fronts = basis.fronts; terms = with_tracked c.args.listing t }) c.lead.new.path.items told lists pending) looks (rw (c.new-lister.ensures.lists, c.new-lister.ensures.terms) at c.in_ok-begin.ensures.begins) in
     let as_terms : terms_of c.begin.new.self.on_way.terms ≡ basis.terms = ap terms_of c.begin.ensures.terms ∙ c.new-lister.ensures.terms ∙ ap (with_tracked c.args.listing) looks in
     let old = g.W.Write.contents (inner c.args.writer.now) in
@@ -64,7 +68,7 @@ returns-clause-lists g c =
 
 pub returns-clause-front : goal.returns-clause-front
 returns-clause-front g c =
-    let basis : Basis = asked_basis c.args.listing c.args.tracked.now in
+    let basis : Basis = asked_basis c.args.listing c.args.told.now c.args.tracked.now in
     let standpoint = c.args.listing.standpoint in
     let line = path_line c.args.listing.mark c.args.listing.standpoint c.args.listing.form in
     let known = g.S.FileSource.shows c.args.source.now in
@@ -73,7 +77,7 @@ returns-clause-front g c =
     let pending = c.begin.new.self.pending.items in
     let told = c.in_ok-is_told_folder.is_told_folder in
     let leads = c.in_ok-is_told_folder.ensures.leads in
-    let looks : looked c.new-tracked.result ≡ basis.terms.tracked = c.new-tracked.ensures c.args.listing.case c.in_ok-folded.ensures in
+    let looks : looked c.new-tracked.result ≡ basis.terms.tracked = looks_up c.args.listing c.args.told.now c.lead.new.path.items c.deref-2.result.now told c.args.tracked.now c.part_or-counted.result.now (looked c.new-tracked.result) leads.0 leads.1 c.deref-2.ensures.value (c.part_or-counted.ensures ∙ c.in_ok-part.ensures) (c.new-tracked.ensures c.args.listing.case c.in_ok-folded.ensures) in
     let at : Begins known basis c.lead.new.path.items told lists pending = subst (λ (t : LookedUp). Begins known (record { fronts = basis.fronts; terms = with_tracked c.args.listing t }) c.lead.new.path.items told lists pending) looks (rw (c.new-lister.ensures.lists, c.new-lister.ensures.terms) at c.in_ok-begin.ensures.begins) in
     let as_terms : terms_of c.begin.new.self.on_way.terms ≡ basis.terms = ap terms_of c.begin.ensures.terms ∙ c.new-lister.ensures.terms ∙ ap (with_tracked c.args.listing) looks in
     let old = g.W.Write.contents (inner c.args.writer.now) in
@@ -90,7 +94,7 @@ returns-clause-front g c =
 
 pub returns-clause-asks : goal.returns-clause-asks
 returns-clause-asks g c =
-    let basis : Basis = asked_basis c.args.listing c.args.tracked.now in
+    let basis : Basis = asked_basis c.args.listing c.args.told.now c.args.tracked.now in
     let standpoint = c.args.listing.standpoint in
     let line = path_line c.args.listing.mark c.args.listing.standpoint c.args.listing.form in
     let known = g.S.FileSource.shows c.args.source.now in
@@ -99,7 +103,7 @@ returns-clause-asks g c =
     let pending = c.begin.new.self.pending.items in
     let told = c.in_ok-is_told_folder.is_told_folder in
     let leads = c.in_ok-is_told_folder.ensures.leads in
-    let looks : looked c.new-tracked.result ≡ basis.terms.tracked = c.new-tracked.ensures c.args.listing.case c.in_ok-folded.ensures in
+    let looks : looked c.new-tracked.result ≡ basis.terms.tracked = looks_up c.args.listing c.args.told.now c.lead.new.path.items c.deref-2.result.now told c.args.tracked.now c.part_or-counted.result.now (looked c.new-tracked.result) leads.0 leads.1 c.deref-2.ensures.value (c.part_or-counted.ensures ∙ c.in_ok-part.ensures) (c.new-tracked.ensures c.args.listing.case c.in_ok-folded.ensures) in
     let at : Begins known basis c.lead.new.path.items told lists pending = subst (λ (t : LookedUp). Begins known (record { fronts = basis.fronts; terms = with_tracked c.args.listing t }) c.lead.new.path.items told lists pending) looks (rw (c.new-lister.ensures.lists, c.new-lister.ensures.terms) at c.in_ok-begin.ensures.begins) in
     let as_terms : terms_of c.begin.new.self.on_way.terms ≡ basis.terms = ap terms_of c.begin.ensures.terms ∙ c.new-lister.ensures.terms ∙ ap (with_tracked c.args.listing) looks in
     let old = g.W.Write.contents (inner c.args.writer.now) in

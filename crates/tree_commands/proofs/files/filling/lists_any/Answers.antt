@@ -1,5 +1,5 @@
-use Rattle.std.proofs.Common.{◌≡◌, ◌≤◌, ℕ, [], true, false, length, refl, sym, ap, subst, ◌∙◌, arith}
-use Rattle.std.specs.Prelude.{List, Option, None, option_map}
+use Rattle.std.proofs.Common.{◌≡◌, ◌≤◌, ℕ, [], true, false, refl, sym, ap, subst, ◌∙◌, arith}
+use Rattle.std.specs.Prelude.{List, Option, option_map}
 use Rattle.std.specs.Vec.{vec_items}
 use Rattle.std.proofs.lemmas.Bool.{false≢true}
 use Rattle.std.proofs.lemmas.List.{nil_from_length}
@@ -46,7 +46,7 @@ returns-in_err-listed-clause-asks g c =
     let beginning = beginning_of c.args.search.now in
     let lists = seen_lists c.paths.search.on_way.lists.items in
     let it = subst (λ (ps : List Pending). IsSearching known terms beginning ps lists) c.in-Some.ensures.items c.paths.invariant.searching in
-    search_asks known terms beginning c.requires.entered (g.S.FileSource.shows c.paths.source) c.paths.invariant.stays c.in-Some.next c.pop.new.self.items [] lists [] it
+    search_asks known terms beginning c.requires.plain (g.S.FileSource.shows c.paths.source) c.paths.invariant.stays c.in-Some.next c.pop.new.self.items [] lists [] it
     (g.S.FileSource.asked c.args.source.now) (g.S.FileSource.asked c.paths.source) (g.S.FileSource.asked c.visit.new.source) c.paths.invariant.asks c.visit.ensures.asks
 
 pub returns-then-is_some-clause-any : goal.returns-then-is_some-clause-any
@@ -62,7 +62,7 @@ returns-then-is_some-clause-any g c =
     let it = subst (λ (ps : List Pending). IsSearching known terms beginning ps lists) c.in-Some.ensures.items c.paths.invariant.searching in
     let visited = subst (λ (t : Terms). (λ (o : Option (List ℕ)). Visits now t c.in-Some.next lists new_lists pending new o) (option_map vec_items c.in_ok-listed.listed)) (ap terms_of c.paths.invariant.terms) c.in_ok-listed.ensures.visits in
     let one = found_by_some vec_items c.in_ok-listed.listed (λ (o : Option (List ℕ)). Visits now terms c.in-Some.next lists new_lists pending new o) (sym c.is_some.ensures ∙ c.if-is_some.true) visited in
-    let found = search_finds known terms beginning c.requires.entered now c.paths.invariant.stays c.in-Some.next pending new lists new_lists it one.0 one.1 in
+    let found = search_finds known terms beginning c.requires.plain now c.paths.invariant.stays c.in-Some.next pending new lists new_lists it one.0 one.1 in
     λ tree is basis same start halfway. ((λ yes. found tree is basis same start halfway), λ met. refl)
 
 pub returns-then-is_some-clause-asks : goal.returns-then-is_some-clause-asks
@@ -72,7 +72,7 @@ returns-then-is_some-clause-asks g c =
     let beginning = beginning_of c.args.search.now in
     let lists = seen_lists c.paths.search.on_way.lists.items in
     let it = subst (λ (ps : List Pending). IsSearching known terms beginning ps lists) c.in-Some.ensures.items c.paths.invariant.searching in
-    search_asks known terms beginning c.requires.entered (g.S.FileSource.shows c.paths.source) c.paths.invariant.stays c.in-Some.next c.pop.new.self.items [] lists [] it
+    search_asks known terms beginning c.requires.plain (g.S.FileSource.shows c.paths.source) c.paths.invariant.stays c.in-Some.next c.pop.new.self.items [] lists [] it
     (g.S.FileSource.asked c.args.source.now) (g.S.FileSource.asked c.paths.source) (g.S.FileSource.asked c.visit.new.source) c.paths.invariant.asks c.visit.ensures.asks
 
 pub paths-preserved : goal.paths-preserved
@@ -90,12 +90,12 @@ paths-preserved g c =
     let none = none_by_none vec_items c.in_ok-listed.listed (λ (o : Option (List ℕ)). Visits now terms c.in-Some.next lists new_lists pending new o) (sym c.is_some.ensures ∙ c.if-is_some.false) visited in
     let few = count_next terms it.listed pending c.in-Some.next lists it.under_way in
     record {
-      searching = search_goes_on known terms beginning c.requires.entered now c.paths.invariant.stays c.in-Some.next pending new lists new_lists it none;
+      searching = search_goes_on known terms beginning c.requires.plain now c.paths.invariant.stays c.in-Some.next pending new lists new_lists it none;
       folders = c.in_ok-listed.ensures.folders;
       terms = c.visit.ensures.terms ∙ c.paths.invariant.terms;
       kept = λ count fits each. kept_by_visit now terms c.in-Some.next count (seen_lists c.args.search.now.on_way.lists.items) lists new_lists pending new few
           (subst (λ (ps : List Pending). AreKept count (seen_lists c.args.search.now.on_way.lists.items) lists ps) c.in-Some.ensures.items (c.paths.invariant.kept count fits each)) none;
       stays = stays_further g.S.FileSource.shows c.args.source.now c.paths.source c.visit.new.source c.paths.invariant.stays c.visit.ensures.stays;
-      asks = search_asks known terms beginning c.requires.entered now c.paths.invariant.stays c.in-Some.next pending new lists new_lists it
+      asks = search_asks known terms beginning c.requires.plain now c.paths.invariant.stays c.in-Some.next pending new lists new_lists it
           (g.S.FileSource.asked c.args.source.now) (g.S.FileSource.asked c.paths.source) (g.S.FileSource.asked c.visit.new.source) c.paths.invariant.asks c.visit.ensures.asks;
     }

@@ -1,4 +1,4 @@
-use Rattle.std.proofs.Common.{◌≡◌, inr, sym, ◌∙◌}
+use Rattle.std.proofs.Common.{inl, inr, sym, ◌∙◌}
 use Rattle.std.proofs.lemmas.Bool.{false≢true}
 use Rattle.tree_commands.specs.Private.Listing.{seen_lists, terms_of}
 use Rattle.tree_commands.proofs.lemmas.FillingLemmas.{asked_searched, kept_file, kept_otherwise, kept_unfree, says_replaced}
@@ -43,7 +43,7 @@ returns-in_err-is_filled-clause-asks g c =
     let terms = terms_of c.args.self.now.on_way.terms in
     let lists = seen_lists c.args.self.now.on_way.lists.items in
     let place = c.args.place.now in
-    asked_searched known terms lists place (inr (c.replaces_filled.ensures.0 c.if-not-replaces_filled.false)) (g.S.FileSource.asked c.args.source.now) (g.S.FileSource.asked c.is_filled.new.source) c.is_filled.ensures.asks
+    asked_searched known terms lists place (inr (inl (c.replaces_filled.ensures.0 c.if-not-replaces_filled.false))) (g.S.FileSource.asked c.args.source.now) (g.S.FileSource.asked c.is_filled.new.source) c.is_filled.ensures.asks
 
 pub returns-clause-replaced : goal.returns-clause-replaced
 returns-clause-replaced g c =
@@ -66,4 +66,4 @@ returns-clause-asks g c =
     let terms = terms_of c.args.self.now.on_way.terms in
     let lists = seen_lists c.args.self.now.on_way.lists.items in
     let place = c.args.place.now in
-    asked_searched known terms lists place (inr (c.replaces_filled.ensures.0 c.if-not-replaces_filled.false)) (g.S.FileSource.asked c.args.source.now) (g.S.FileSource.asked c.is_filled.new.source) c.is_filled.ensures.asks
+    asked_searched known terms lists place (inr (inl (c.replaces_filled.ensures.0 c.if-not-replaces_filled.false))) (g.S.FileSource.asked c.args.source.now) (g.S.FileSource.asked c.is_filled.new.source) c.is_filled.ensures.asks

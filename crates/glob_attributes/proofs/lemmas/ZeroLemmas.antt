@@ -7,7 +7,7 @@ use Rattle.memchr.specs.Find.{IsFirstByte, is_byte}
 use Rattle.glob_lines.specs.Lines.{HasNo}
 use Rattle.glob_lines.proofs.lemmas.LinesLemmas.{HasNo-not_found, IsCutAt-found}
 use Rattle.glob_attributes.proofs.lemmas.PlaceLemmas.{place-later}
-use Rattle.tree_answers.specs.Records.{is_zero}
+use Rattle.glob_attributes.specs.Private.Readings.{is_zero}
 
 take-more : (n b : ℕ) (text : List ℕ) → take (1 + n) (b ∷ text) ≡ b ∷ take n text
 take-more n b text = let is : 1 + n ≡ suc n = omega arith in ap (λ k. take k (b ∷ text)) is

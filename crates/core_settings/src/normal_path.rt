@@ -1,0 +1,114 @@
+//! Paths without `.`, `..` and slashes in a row, by their text alone.
+ghost use Rattle.std.specs.Prelude.{◌≡◌, ◌++◌, ◌∷◌, ℕ, List, [], IfOk, MatchBool, MatchOption, None, Some, codes, false, map};
+ghost use Rattle.std.specs.List.{flat_map, slice_split};
+ghost use Rattle.git_config.specs.Paths.{is_slash};
+ghost use Rattle.core_settings.specs.NormalPaths.{ends_in_folder, goes_up, normal_path, root_of, spelled, stays, step, walk};
+
+use std::alloc::{AllocError, Global};
+
+/// A path without `.`, `..` and slashes in a row; links aren't followed. One that leads above its front is as it is told.
+pub(crate) fn normal_path(alloc: Global, path: &[u8]) -> Result<Vec<u8>, AllocError>
+    ensures { IfOk result (λ normal. normal.items ≡ normal_path path.now) }
+{
+    let parts = parts_of(alloc, path)?;
+    let Some(names) = walk(alloc, &parts)? else {
+        return Vec::from_slice(alloc, path);
+    };
+    let mut normal = Vec::from_slice(alloc, root_of(path))?;
+    let spelled = spelled(alloc, ends_in_folder(&parts), &names)?;
+    normal.extend_from_slice(&spelled)?;
+    Ok(normal)
+}
+
+/// What stands between the slashes.
+fn parts_of(alloc: Global, path: &[u8]) -> Result<Vec<&[u8]>, AllocError>
+    ensures { IfOk result (λ parts. map (λ part. part.now) parts.items ≡ slice_split is_slash path.now) }
+{
+    path.split(|b| *b == b'/').collect(alloc)
+}
+
+/// The slash of a path that is told from the root.
+fn root_of(path: &[u8]) -> &[u8]
+    ensures { result.now ≡ root_of path.now }
+{
+    if path.starts_with(b"/") { b"/" } else { b"" }
+}
+
+/// The names that are left of parts; none where they lead above the front.
+fn walk<'a>(alloc: Global, parts: &[&'a [u8]]) -> Result<Option<Vec<&'a [u8]>>, AllocError>
+    ensures { IfOk result (λ led. MatchOption led
+        (walk [] (map (λ part. part.now) parts.now) ≡ None)
+        (λ names. walk [] (map (λ part. part.now) parts.now) ≡ Some (map (λ name. name.now) names.items))) }
+{
+    let mut names = Vec::new(alloc);
+    for part in parts {
+        if !step(&mut names, part)? {
+            return Ok(None);
+        }
+    }
+    Ok(Some(names))
+}
+
+/// Goes where a part leads, if that isn't above the front.
+fn step<'a>(names: &mut Vec<&'a [u8]>, part: &'a [u8]) -> Result<bool, AllocError>
+    ensures { IfOk result (λ leads. MatchBool leads
+        (step (map (λ name. name.now) names.old.items) part.now ≡ Some (map (λ name. name.now) names.new.items))
+        (step (map (λ name. name.now) names.old.items) part.now ≡ None)) }
+{
+    if stays(part) {
+        return Ok(true);
+    }
+    if goes_up(part) {
+        return Ok(names.pop().is_some());
+    }
+    names.push(part)?;
+    Ok(true)
+}
+
+/// Whether a part leads nowhere else.
+fn stays(part: &[u8]) -> bool
+    ensures { result ≡ stays part.now }
+{
+    part.is_empty() || part == b".".as_slice()
+}
+
+/// Whether a part leads to the folder above.
+fn goes_up(part: &[u8]) -> bool
+    ensures { result ≡ goes_up part.now }
+{
+    part == b"..".as_slice()
+}
+
+/// Whether the last part is no name.
+fn ends_in_folder(parts: &[&[u8]]) -> bool
+    ensures { result ≡ ends_in_folder false (map (λ part. part.now) parts.now) }
+{
+    let mut is_folder = false;
+    for part in parts {
+        is_folder = stays(part) || goes_up(part);
+    }
+    is_folder
+}
+
+/// Names with slashes between, and at the end where a folder is meant.
+fn spelled(alloc: Global, is_folder: bool, names: &[&[u8]]) -> Result<Vec<u8>, AllocError>
+    ensures { IfOk result (λ text. text.items ≡ spelled is_folder (map (λ name. name.now) names.now)) }
+{
+    let mut text = with_slashes(alloc, names)?;
+    if !is_folder {
+        text.pop();
+    }
+    Ok(text)
+}
+
+/// Names with a slash behind each.
+fn with_slashes(alloc: Global, names: &[&[u8]]) -> Result<Vec<u8>, AllocError>
+    ensures { IfOk result (λ text. text.items ≡ flat_map (λ name. name ++ codes "/") (map (λ name. name.now) names.now)) }
+{
+    let mut text = Vec::new(alloc);
+    for name in names {
+        text.extend_from_slice(name)?;
+        text.push(b'/')?;
+    }
+    Ok(text)
+}
