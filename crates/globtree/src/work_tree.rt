@@ -1,5 +1,5 @@
 //! The work tree that a command is called in: where paths are told from, and the files that count in all of it.
-ghost use Rattle.std.specs.Prelude.{◌≡◌, codes, option_map, IfOk, MatchOption, Some};
+ghost use Rattle.std.specs.Prelude.{◌≡◌, codes, option_map, true, IfOk, MatchOption, Some};
 ghost use Rattle.std.specs.Vec.{vec_items};
 ghost use Rattle.core_settings.specs.Values.{last_value};
 ghost use Rattle.core_settings.specs.Views.{seen_settings};
@@ -202,19 +202,31 @@ pub(crate) fn index_place<R: Files + Env + AllocGlobal>(
     let opened = open_here(rt, alloc, options, &current, Purpose::Index)?;
     let index = index_file_of(alloc, &current, &opened)?;
     let quoting = quoting_of(opened.core.quote_path);
-    let standpoint = match opened.top {
-        Some(top) => {
-            let top = path_text(alloc, &told_from(alloc, &current, &top)?)?;
-            let top = go_to_top(rt, alloc, top.as_str())?;
-            standpoint_in(alloc, &here, top)?
-        }
-        None => standpoint_in(alloc, b"", Vec::new(alloc))?,
-    };
+    let standpoint = standpoint_from(rt, alloc, &here, &current, opened.top.as_deref())?;
     Ok(IndexPlace {
         standpoint,
         quoting,
         index,
     })
+}
+
+/// Goes to the top of a work tree, which is told from the current folder. Paths are told from that folder then, where it lies in the work
+/// tree, and else from the top. Without a work tree nothing is gone to.
+fn standpoint_from<R: Files>(
+    rt: &R,
+    alloc: Global,
+    here: &[u8],
+    current: &[u8],
+    top: Option<&[u8]>,
+) -> Result<Standpoint>
+    ensures { IfOk result (λ standpoint. standpoint.is_inside ≡ true) }
+{
+    let Some(top) = top else {
+        return Ok(standpoint_in(alloc, b"", Vec::new(alloc))?);
+    };
+    let top = path_text(alloc, &told_from(alloc, current, top)?)?;
+    let top = go_to_top(rt, alloc, top.as_str())?;
+    Ok(standpoint_in(alloc, here, top)?)
 }
 
 /// Which names stand in quotes: all with bytes past ASCII, unless that is configured otherwise.
