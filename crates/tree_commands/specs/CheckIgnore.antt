@@ -22,8 +22,8 @@ use Rattle.tree_commands.specs.declared.check_ignore.fault.IgnoreFault.TheVarian
 use Rattle.tree_commands.specs.declared.check_ignore.flags.IgnoreFlags.{IgnoreFlags}
 use Rattle.tree_commands.specs.Tops.{DecidesForTop}
 
--- What is known of what stands at paths: whether a folder does, of a path from the top; and whether it is the top, where links are
--- followed, of a path from the root.
+-- What is known of paths: whether a folder stands at one that is told from the top; and whether one that is told from the root is the
+-- top, where links are followed.
 pub record Known : Type 0 where
   pub kind_of : List ℕ → Option Bool
   pub is_top : List ℕ → Option Bool
@@ -32,8 +32,8 @@ abbrev pub nothing_known : Known
 nothing_known = record { kind_of = λ _. None; is_top = λ _. None }
 
 -- What is asked of each told path: where it leads from the top by its text, and how many of its bytes there are the current folder's; what
--- is tracked; what is known of what stands at paths; the lists that stand before those of all folders, and how many; the rules by which
--- patterns are matched; and what is written.
+-- is tracked; what is known of paths; the lists that stand before those of all folders, and how many; the rules by which patterns are
+-- matched; and what is written.
 pub record Question : Type 0 where
   pub leads : List ℕ → Option (List ℕ)
   pub literal : List ℕ → ℕ
@@ -44,7 +44,7 @@ pub record Question : Type 0 where
   pub rules : Rules
   pub flags : IgnoreFlags
 
--- what is asked from a standpoint of a tree, where so much is known of what stands at paths
+-- what is asked from a standpoint of a tree, where so much is known of paths
 abbrev pub question_of : {S T X : Type 0} → Standpoint → IgnoreFlags → List Tracked → TreeParts S T X → Known → Question
 question_of standpoint flags tracked tree known =
     record { leads = word_leads standpoint; literal = word_front standpoint; tracked = tracked; known = known; front_count = tree.front_count; fronts = take tree.front_count (map (entry_list_of {V = Unit {0}} (λ _. tt)) tree.lists); rules = tree.rules; flags = flags }
@@ -66,7 +66,7 @@ pub record IsLeftBehindTop (is_top : List ℕ → Option Bool) (path left : List
   pub rest : left ≡ drop (end + 1) path
 
 -- Where a told path leads from the top: where its text does. One that is told from the root, and leads nowhere by its text, leads to what
--- is left behind the top.
+-- is left of it behind the top.
 abbrev pub LeadsTo : Question → List ℕ → List ℕ → Type 0
 LeadsTo question told path =
     (question.leads told ≡ Some path)

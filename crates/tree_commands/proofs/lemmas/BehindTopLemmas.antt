@@ -1,5 +1,5 @@
 -- Which folder of a path from the root is the top: each is asked that ends before a slash, and at last the path itself.
-use Rattle.std.proofs.Common.{◌≡◌, ◌≢◌, inl, inr, ℕ, ◌+◌, ◌<◌, false, true, List, drop, length, take, Option, Bool, None, Some, IfSome, ap, arith, below_more, subst, sym, ◌∙◌}
+use Rattle.std.proofs.Common.{◌≡◌, ◌≢◌, inl, inr, ℕ, ◌+◌, false, true, List, drop, length, take, Option, Bool, None, Some, IfSome, ap, arith, below_more, subst, sym, ◌∙◌}
 use Rattle.std.specs.Prelude.{slice_get}
 use Rattle.std.proofs.lemmas.Option.{slice_get_within}
 use Rattle.std.specs.Option.{option_and_then}

@@ -1,10 +1,9 @@
 -- The line that decides about a told path, and what is kept account of, as what the source shows grows.
-use Rattle.std.proofs.Common.{◌≡◌, ◌⊎◌, inl, inr, ◌≢◌, ℕ, ◌≤◌, ◌==◌, Bool, true, false, ◌||◌, List, [], ◌∷◌, ◌++◌, map, take, Option, None, Some, IfNone, IfOk, IfSome, IsTrue, ◌↔◌, Result, Ok, Err, IsErr, refl, sym, ap, subst, ◌∙◌, if◌then◌else◌, length, append-nil, length-append, arith}
+use Rattle.std.proofs.Common.{◌≡◌, ◌⊎◌, inl, inr, ◌≢◌, ℕ, ◌≤◌, ◌==◌, Bool, true, false, ◌||◌, List, [], ◌∷◌, ◌++◌, map, take, Option, None, Some, IfNone, IfOk, IfSome, IsTrue, ◌↔◌, Result, Ok, Err, IsErr, refl, sym, ap, subst, ◌∙◌, length, append-nil, arith}
 use Rattle.std.specs.Borrow.{Bor}
 use Rattle.std.specs.Prelude.{is_some, slice_get}
 use Rattle.std.specs.List.{list_any}
 use Rattle.std.proofs.lemmas.Bool.{eqb-true, false≢true}
-use Rattle.std.proofs.Math.Seq.{take-append_seam, take-length}
 use Rattle.std.proofs.lemmas.List.{take-map}
 use Rattle.std.proofs.lemmas.List.Folds.{list_any-append}
 use Rattle.std.proofs.lemmas.Result.{IfOk-weaker}
@@ -260,39 +259,6 @@ module _ {S T X : Type 0} (shows : S → Folder → EntryList (Unit {0}) → Typ
 pub asked_bare : (path : List ℕ) → asked_path false path ≡ path
 asked_bare [] = refl
 asked_bare (b ∷ path) = append-nil (b ∷ path)
-
-asked_top : (is_told : Bool) (path : List ℕ) → path ≡ [] → asked_path is_told path ≡ path
-asked_top is_told [] top = refl
-asked_top is_told (b ∷ path) top = absurd (cc)
-
-asked_folder : (path : List ℕ) → path ≢ [] → asked_path true path ≡ path ++ slash ∷ []
-asked_folder [] some = absurd (some refl)
-asked_folder (b ∷ path) some = refl
-
--- the bytes are those that are asked about, and so many of them come before the slash
-abbrev pub IsLed : (List ℕ → Type 0) → Bool → ℕ → List ℕ → Type 0
-IsLed Leads is_told bare asked = Leads (take bare asked) × (asked ≡ asked_path is_told (take bare asked)) × (bare ≤ length asked)
-
-module _ (Leads : List ℕ → Type 0) (is_told : Bool) (path : List ℕ) (led : Leads path) where
-  led_whole : asked_path is_told path ≡ path → IsLed Leads is_told (length path) path
-  led_whole same = (
-    subst Leads (sym (take-length path)) led,
-    sym same ∙ ap (asked_path is_told) (sym (take-length path)),
-    omega arith,
-  )
-
-  pub led_bare : is_told ≡ false → IsLed Leads is_told (length path) path
-  led_bare bare = led_whole (ap (λ b. asked_path b path) bare ∙ asked_bare path)
-
-  pub led_top : path ≡ [] → IsLed Leads is_told (length path) path
-  led_top top = led_whole (asked_top is_told path top)
-
-  pub led_folder : is_told ≡ true → path ≢ [] → IsLed Leads is_told (length path) (path ++ slash ∷ [])
-  led_folder told some = (
-    subst Leads (sym (take-append_seam path (slash ∷ []))) led,
-    sym (ap (asked_path is_told) (take-append_seam path (slash ∷ [])) ∙ (ap (λ b. asked_path b path) told ∙ asked_folder path some)),
-    omega (arith, length-append path (slash ∷ [])),
-  )
 
 -- what is asked about is known of, where a told path leads to it
 module _ (question : Question) (told bare asked : List ℕ) (led : LeadsTo question told bare) (same : asked ≡ told_path told bare) (outside : ¬ LiesInSubmodule question.tracked asked) where

@@ -15,7 +15,7 @@ pub trait PathKinds {
     /// Why there is no answer.
     type Fault: Drop;
 
-    // What is known of what stands at paths. Of files nothing is, so a source of files has `nothing_known`.
+    // What is known of paths. Of files nothing is, so a source of files has `nothing_known`.
     ghost known: { Self → Known };
 
     /// Whether a folder stands at a path, and no link to one.
