@@ -71,8 +71,8 @@ impl<'a> FolderLists<IgnoreLines> for Folders<'a> {
     fn forget(&mut self) {}
 }
 
-/// What stands at paths: a line for each folder, with a slash at its end, and for each link, with an `@`. Notes each question: about a kind
-/// in brackets, about a link in parentheses.
+/// What stands at paths: a line for each folder, with a slash at its end, for each link, with an `@`, and for each path from the root that
+/// leads to the top, with a `=`. Notes each question: about a kind in angle brackets, about a link in parentheses, about the top in braces.
 #[derive(Drop)]
 pub(crate) struct Kinds<'a> {
     there: &'a [u8],
@@ -108,11 +108,11 @@ impl<'a> Kinds<'a> {
 }
 
 impl<'a> PathKinds for Kinds<'a> {
-    ghost use Rattle.std.specs.Prelude.{None};
+    ghost use Rattle.tree_commands.specs.CheckIgnore.{nothing_known};
 
     type Fault = SourceFault;
 
-    ghost kind_of = { λ _ _. None };
+    ghost known = { λ _. nothing_known };
 
     fn is_folder(&mut self, path: &[u8]) -> Result<bool, SourceFault> {
         self.note(b'<', path, b'>')?;
@@ -125,5 +125,10 @@ impl<'a> PathKinds for Kinds<'a> {
             return Err(SourceFault::Link);
         }
         Ok(self.stands(folder, b'/'))
+    }
+
+    fn is_top(&mut self, folder: &[u8]) -> Result<bool, SourceFault> {
+        self.note(b'{', folder, b'}')?;
+        Ok(self.stands(folder, b'='))
     }
 }

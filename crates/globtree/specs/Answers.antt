@@ -1,4 +1,5 @@
--- What is answered for the words. Of real files nothing is known: those of a folder may have any bytes, and anything may stand at a path.
+-- What is answered for the words. Of real files nothing is known: those of a folder may have any bytes, anything may stand at a path, and
+-- any folder that is told from the root may be the top.
 use Rattle.std.specs.Prelude.{◌≡◌, ◌||◌, ℕ, Bool, true, false, if◌then◌else◌, List, [], ◌∷◌, AllPairs, MatchBool, MatchOption, Option, Ok, Some, drop, length, map, string_bytes, take}
 use Rattle.std.specs.Io.KnownBytes.{Appends}
 use Rattle.std.specs.List.{flat_map}

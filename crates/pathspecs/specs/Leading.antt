@@ -1,10 +1,10 @@
 -- Where a spelt path leads.
-use Rattle.std.specs.Prelude.{ℕ, ◌-◌, ◌==◌, Bool, false, nat_eq, if◌then◌else◌, List, [], ◌∷◌, length, take, Option, None, Some, codes}
+use Rattle.std.specs.Prelude.{ℕ, ◌-◌, ◌==◌, ◌&&◌, Bool, false, not, nat_eq, if◌then◌else◌, List, [], ◌∷◌, length, take, Option, None, Some, codes}
 use Rattle.std.specs.List.{ends_with, list_any}
 use Rattle.std.specs.Option.{option_and_then, option_map_or}
 use Rattle.told_paths.specs.declared.standpoint.Standpoint.{Standpoint}
-use Rattle.told_paths.specs.Paths.{names_folder, parts_of}
-use Rattle.told_paths.specs.Standpoints.{led, literal_front}
+use Rattle.told_paths.specs.Paths.{names_folder, parts_of, walk}
+use Rattle.told_paths.specs.Standpoints.{is_absolute, led, literal_front}
 use Rattle.pathspecs.specs.Spelling.{Spelt, spelt_by}
 
 -- a slash stands at the end
@@ -29,6 +29,10 @@ standing (b ∷ path) =
 abbrev pub leads : Standpoint → Spelt → Option (List ℕ)
 leads standpoint spelt = if spelt.is_from_top then standing spelt.path else led standpoint spelt.path
 
+-- where a path leads that is told from the root, from there
+abbrev pub leads_from_root : Spelt → Option (List ℕ)
+leads_from_root spelt = if not spelt.is_from_top && is_absolute spelt.path then walk [] (parts_of spelt.path) else None
+
 abbrev pub names_folder_so : Spelt → Bool
 names_folder_so spelt = if spelt.is_from_top then ends_in_slash spelt.path else names_folder false (parts_of spelt.path)
 
@@ -39,6 +43,9 @@ front_of standpoint spelt = if spelt.is_from_top then 0 else literal_front stand
 -- the same of a word: one that spells nothing leads nowhere
 abbrev pub word_leads : Standpoint → List ℕ → Option (List ℕ)
 word_leads standpoint word = option_and_then (leads standpoint) (spelt_by word)
+
+abbrev pub word_leads_from_root : List ℕ → Option (List ℕ)
+word_leads_from_root word = option_and_then leads_from_root (spelt_by word)
 
 abbrev pub word_names_folder : List ℕ → Bool
 word_names_folder word = option_map_or names_folder_so (spelt_by word) false

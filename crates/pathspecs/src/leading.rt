@@ -3,12 +3,12 @@ ghost use Rattle.std.specs.Prelude.{◌≡◌, false, None, Some, IfOk, MatchOpt
 ghost use Rattle.std.specs.List.{list_any};
 ghost use Rattle.told_paths.specs.Paths.{names_folder, parts_of};
 ghost use Rattle.told_paths.specs.Standpoints.{led};
-ghost use Rattle.pathspecs.specs.Leading.{front_of, is_empty, leads, names_folder_so, standing};
+ghost use Rattle.pathspecs.specs.Leading.{front_of, is_empty, leads, leads_from_root, names_folder_so, standing};
 ghost use Rattle.pathspecs.specs.Spelling.{seen};
 
 use crate::spelling::Pathspec;
 use std::alloc::{AllocError, Global};
-use told_paths::{LeadFault, Standpoint};
+use told_paths::{LeadFault, Standpoint, walk};
 
 impl Pathspec<'_> {
     /// Goes where the path leads: `path` becomes its path from the top. It answers whether it is told as a folder's, and `None` where it
@@ -35,6 +35,22 @@ impl Pathspec<'_> {
         path.clear();
         path.extend_from_slice(bare)?;
         Ok(Some(self.path.ends_with(b"/")))
+    }
+
+    /// Goes where a path leads that is told from the root: `path` becomes its path from there, without the slash at its front. It answers
+    /// whether it is told as a folder's, and `None` where the path is told from elsewhere, or leads above the root.
+    ///
+    /// # Errors
+    /// Only where memory was refused.
+    pub fn lead_from_root(&self, path: &mut Vec<u8>) -> Result<Option<bool>, AllocError>
+        ensures { IfOk result (λ led. MatchOption led (leads_from_root (seen self.now) ≡ None)
+            (λ is_folder. (leads_from_root (seen self.now) ≡ Some path.new.items) × (is_folder ≡ names_folder_so (seen self.now)))) }
+    {
+        if self.is_from_top || !self.path.starts_with(b"/") {
+            return Ok(None);
+        }
+        path.clear();
+        walk(path, self.path)
     }
 
     /// How many bytes of the current folder's path stay in front of where the path leads ([`Standpoint::literal_front`]).

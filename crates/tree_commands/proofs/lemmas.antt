@@ -13,6 +13,7 @@ pub mod AttributeTexts
 pub mod AttributeTold
 pub mod AttributeWalks
 pub mod BeginLemmas
+pub mod BehindTopLemmas
 pub mod BesideLemmas
 pub mod BesideSearches
 pub mod EmptyLemmas

@@ -1,5 +1,5 @@
 -- Which line decides about a told path, and what `check-ignore` writes about it.
-use Rattle.std.specs.Prelude.{◌≡◌, ◌≢◌, ◌⊎◌, ℕ, Bool, ◌&&◌, ◌||◌, not, if◌then◌else◌, List, [], ◌∷◌, ◌++◌, map, slice_get, take, Option, None, Some, IfSome, MatchOption, is_some}
+use Rattle.std.specs.Prelude.{◌≡◌, ◌≢◌, ◌⊎◌, ℕ, ◌+◌, ◌<◌, Bool, true, false, ◌&&◌, ◌||◌, not, if◌then◌else◌, List, [], ◌∷◌, ◌++◌, drop, length, map, slice_get, take, Option, None, Some, IfSome, MatchOption, is_some}
 use Rattle.std.specs.List.{AllZip, list_any}
 use Rattle.std.specs.Option.{unwrap_or}
 use Rattle.git_index.specs.Entries.{Tracked}
@@ -12,7 +12,7 @@ use Rattle.glob_lists.specs.Paths.{IsPlainPath}
 use Rattle.glob_trees.specs.TreeParts.{TreeParts}
 use Rattle.glob_trees.specs.Trees.{DecidesInTree}
 use Rattle.glob_trees.specs.Ways.{AreOnTheWay, Folder}
-use Rattle.pathspecs.specs.Leading.{word_front, word_leads, word_names_folder}
+use Rattle.pathspecs.specs.Leading.{word_front, word_leads, word_leads_from_root, word_names_folder}
 use Rattle.pathspecs.specs.Spelling.{Spelt, spelt_by}
 use Rattle.told_paths.specs.declared.standpoint.Standpoint.{Standpoint}
 use Rattle.tracked_paths.specs.Holding.{IsHeld, LiesInSubmodule}
@@ -22,23 +22,59 @@ use Rattle.tree_commands.specs.declared.check_ignore.fault.IgnoreFault.TheVarian
 use Rattle.tree_commands.specs.declared.check_ignore.flags.IgnoreFlags.{IgnoreFlags}
 use Rattle.tree_commands.specs.Tops.{DecidesForTop}
 
--- What is asked of each told path: where it leads from the top, and how many of its bytes there are the current folder's; what is
--- tracked; whether a folder stands there, as far as it is known; the lists that stand before those of all folders, and how many; the
--- rules by which patterns are matched; and what is written.
+-- What is known of paths: whether a folder stands at one that is told from the top; and whether one that is told from the root is the
+-- top, where links are followed.
+pub record Known : Type 0 where
+  pub kind_of : List ℕ → Option Bool
+  pub is_top : List ℕ → Option Bool
+
+abbrev pub nothing_known : Known
+nothing_known = record { kind_of = λ _. None; is_top = λ _. None }
+
+-- What is asked of each told path: where it leads from the top by its text, and how many of its bytes there are the current folder's; what
+-- is tracked; what is known of paths; the lists that stand before those of all folders, and how many; the rules by which patterns are
+-- matched; and what is written.
 pub record Question : Type 0 where
   pub leads : List ℕ → Option (List ℕ)
   pub literal : List ℕ → ℕ
   pub tracked : List Tracked
-  pub kind_of : List ℕ → Option Bool
+  pub known : Known
   pub front_count : ℕ
   pub fronts : List (EntryList (Unit {0}))
   pub rules : Rules
   pub flags : IgnoreFlags
 
--- what is asked from a standpoint of a tree, where the kinds of paths are known so far
-abbrev pub question_of : {S T X : Type 0} → Standpoint → IgnoreFlags → List Tracked → TreeParts S T X → (List ℕ → Option Bool) → Question
-question_of standpoint flags tracked tree kind_of =
-    record { leads = word_leads standpoint; literal = word_front standpoint; tracked = tracked; kind_of = kind_of; front_count = tree.front_count; fronts = take tree.front_count (map (entry_list_of {V = Unit {0}} (λ _. tt)) tree.lists); rules = tree.rules; flags = flags }
+-- what is asked from a standpoint of a tree, where so much is known of paths
+abbrev pub question_of : {S T X : Type 0} → Standpoint → IgnoreFlags → List Tracked → TreeParts S T X → Known → Question
+question_of standpoint flags tracked tree known =
+    record { leads = word_leads standpoint; literal = word_front standpoint; tracked = tracked; known = known; front_count = tree.front_count; fronts = take tree.front_count (map (entry_list_of {V = Unit {0}} (λ _. tt)) tree.lists); rules = tree.rules; flags = flags }
+
+-- a folder of a path ends before a slash, and the path itself at its end
+abbrev pub EndsFolder : List ℕ → ℕ → Type 0
+EndsFolder path end = (slice_get path end ≡ Some slash) ⊎ (end ≡ length path)
+
+-- none that ends before a place is known to be the top
+abbrev pub NoTopBefore : (List ℕ → Option Bool) → List ℕ → ℕ → Type 0
+NoTopBefore is_top path end = (e : ℕ) → e < end → EndsFolder path e → IfSome (is_top (take e path)) (λ is. is ≡ false)
+
+-- what is left of a path from the root behind the first of its folders that is the top, as far as that is known
+pub record IsLeftBehindTop (is_top : List ℕ → Option Bool) (path left : List ℕ) : Type 0 where
+  pub end : ℕ
+  pub ends : EndsFolder path end
+  pub top : IfSome (is_top (take end path)) (λ is. is ≡ true)
+  pub first : NoTopBefore is_top path end
+  pub rest : left ≡ drop (end + 1) path
+
+-- Where a told path leads from the top: where its text does. One that is told from the root, and leads nowhere by its text, leads to what
+-- is left of it behind the top.
+abbrev pub LeadsTo : Question → List ℕ → List ℕ → Type 0
+LeadsTo question told path =
+    (question.leads told ≡ Some path)
+    ⊎ ((question.leads told ≡ None) × (way : List ℕ) × (word_leads_from_root told ≡ Some way) × IsLeftBehindTop question.known.is_top way path)
+
+-- and nowhere, where no folder of it is known to be the top
+abbrev pub LeadsNowhere : Question → List ℕ → Type 0
+LeadsNowhere question told = (question.leads told ≡ None) × IfSome (word_leads_from_root told) (λ way. NoTopBefore question.known.is_top way (length way + 1))
 
 -- the line at a pair of places, and none for none
 abbrev pub IsLineAt : List (EntryList (Unit {0})) → Option (ℕ × ℕ) → Option Decision → Type 0
@@ -93,9 +129,9 @@ IsLineIn question shows literal asked known line =
 -- it is told.
 pub record IsLineFor (question : Question) (shows : Folder → EntryList (Unit {0}) → Type 0) (told : List ℕ) (line : Option Decision) : Type 0 where
   pub path : List ℕ
-  pub leads : question.leads told ≡ Some path
+  pub leads : LeadsTo question told path
   pub outside : ¬ LiesInSubmodule question.tracked (told_path told path)
-  pub decided : IsLineIn question shows (question.literal told) (told_path told path) (question.kind_of path) line
+  pub decided : IsLineIn question shows (question.literal told) (told_path told path) (question.known.kind_of path) line
 
 -- the line, where it counts: a negative one only where lines are written
 abbrev pub counted : Bool → Option Decision → Option Decision
@@ -117,9 +153,9 @@ IsStatus question shows is_any paths =
 
 -- what a told path may get a fault for: that it leads out of the work tree or into a submodule, spells no path, or has no bytes, only
 -- where it is so
-abbrev pub Refuses : {F : Type 0} → (List ℕ → Option (List ℕ)) → List Tracked → List ℕ → IgnoreFault F → Type 0
-Refuses leads tracked told (Outside path) = (path.items ≡ told) × (spelt : Spelt) × (spelt_by told ≡ Some spelt) × (leads told ≡ None)
-Refuses leads tracked told (InSubmodule path) = (path.items ≡ told) × (way : List ℕ) × (leads told ≡ Some way) × LiesInSubmodule tracked (told_path told way)
-Refuses leads tracked told (Unspelt path) = (path.items ≡ told) × (told ≢ []) × (spelt_by told ≡ None)
-Refuses leads tracked told Empty = told ≡ []
-Refuses leads tracked told _ = Unit {0}
+abbrev pub Refuses : {F : Type 0} → Question → List ℕ → IgnoreFault F → Type 0
+Refuses question told (Outside path) = (path.items ≡ told) × (spelt : Spelt) × (spelt_by told ≡ Some spelt) × LeadsNowhere question told
+Refuses question told (InSubmodule path) = (path.items ≡ told) × (way : List ℕ) × LeadsTo question told way × LiesInSubmodule question.tracked (told_path told way)
+Refuses question told (Unspelt path) = (path.items ≡ told) × (told ≢ []) × (spelt_by told ≡ None)
+Refuses question told Empty = told ≡ []
+Refuses question told _ = Unit {0}

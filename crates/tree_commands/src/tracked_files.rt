@@ -189,7 +189,7 @@ pub fn write_ignored<
 )
     requires { has_failed writer.old ≡ false }
     ensures ok { OnOk result.1 (Writes
-        (AreIgnored (question_of standpoint.now (names_alone form) [] tree (K.kind_of kinds)) (S.shows (Unit {0}) result.0.tree.source) standpoint.now (map (λ (path : Bor (List ℕ)). path.now) paths.now))
+        (AreIgnored (question_of standpoint.now (names_alone form) [] tree (K.known kinds)) (S.shows (Unit {0}) result.0.tree.source) standpoint.now (map (λ (path : Bor (List ℕ)). path.now) paths.now))
         (Appends (W.contents (inner writer.old)) (W.contents (inner writer.new)))) }
     ensures write { is_write_fault result.1 ≡ has_failed writer.new }
 {

@@ -2,10 +2,14 @@
 
 use crate::fault::CheckFault;
 use crate::standing::path_text;
-use std::alloc::Global;
+use std::alloc::{AllocError, Global};
 use std::fs;
+use std::io::ErrorKind;
 use std::rt::Files;
 use tree_commands::check_ignore::PathKinds;
+
+/// No path of so many bytes behind its first slash can be looked at.
+const MOST_BYTES: usize = 4095;
 
 /// What stands at the paths below the folder that the program stands in.
 #[derive(Drop)]
@@ -36,11 +40,11 @@ impl<'a, R> FileKinds<'a, R> {
 }
 
 impl<'a, R: Files> PathKinds for FileKinds<'a, R> {
-    ghost use Rattle.std.specs.Prelude.{None};
+    ghost use Rattle.tree_commands.specs.CheckIgnore.{nothing_known};
 
     type Fault = CheckFault;
 
-    ghost kind_of = { λ _ _. None };
+    ghost known = { λ _. nothing_known };
 
     fn is_folder(&mut self, path: &[u8]) -> Result<bool, CheckFault> {
         let name = path_text(self.alloc, path)?;
@@ -60,5 +64,26 @@ impl<'a, R: Files> PathKinds for FileKinds<'a, R> {
             Ok(found) => Ok(found.is_dir()),
             Err(_missing) => Ok(false),
         }
+    }
+
+    fn is_top(&mut self, folder: &[u8]) -> Result<bool, CheckFault> {
+        if folder.len() >= MOST_BYTES {
+            return Ok(false);
+        }
+        let name = path_text(self.alloc, folder)?;
+        let path = format!(in self.alloc; "/{name}")?;
+        let Some(real) = real_path(self.rt, self.alloc, &path)? else {
+            return Ok(false);
+        };
+        Ok(real_path(self.rt, self.alloc, ".")? == Some(real))
+    }
+}
+
+/// The path from the root of what stands somewhere, without links; `None` where it can't be looked at.
+fn real_path<R: Files>(rt: &R, alloc: Global, path: &str) -> Result<Option<String>, AllocError> {
+    match rt.canonicalize(alloc, path) {
+        Ok(real) => Ok(Some(real.into_string())),
+        Err(error) if error.kind() == ErrorKind::OutOfMemory => Err(AllocError),
+        Err(_missing) => Ok(None),
     }
 }

@@ -1,10 +1,9 @@
 -- The line that decides about a told path, and what is kept account of, as what the source shows grows.
-use Rattle.std.proofs.Common.{◌≡◌, ◌⊎◌, inl, inr, ◌≢◌, ℕ, ◌≤◌, ◌==◌, Bool, true, false, ◌||◌, List, [], ◌∷◌, ◌++◌, map, take, Option, None, Some, IfNone, IfOk, IfSome, IsTrue, ◌↔◌, Result, Ok, Err, IsErr, refl, sym, ap, subst, ◌∙◌, if◌then◌else◌, length, append-nil, length-append, arith}
+use Rattle.std.proofs.Common.{◌≡◌, ◌⊎◌, inl, inr, ◌≢◌, ℕ, ◌≤◌, ◌==◌, Bool, true, false, ◌||◌, List, [], ◌∷◌, ◌++◌, map, take, Option, None, Some, IfNone, IfOk, IfSome, IsTrue, ◌↔◌, Result, Ok, Err, IsErr, refl, sym, ap, subst, ◌∙◌, length, append-nil, arith}
 use Rattle.std.specs.Borrow.{Bor}
 use Rattle.std.specs.Prelude.{is_some, slice_get}
 use Rattle.std.specs.List.{list_any}
 use Rattle.std.proofs.lemmas.Bool.{eqb-true, false≢true}
-use Rattle.std.proofs.Math.Seq.{take-append_seam, take-length}
 use Rattle.std.proofs.lemmas.List.{take-map}
 use Rattle.std.proofs.lemmas.List.Folds.{list_any-append}
 use Rattle.std.proofs.lemmas.Result.{IfOk-weaker}
@@ -28,7 +27,7 @@ use Rattle.tree_answers.specs.Records.{IsRefusal}
 use Rattle.tree_commands.specs.declared.check_ignore.fault.IgnoreFault.{IgnoreFault}
 use Rattle.tree_commands.specs.declared.check_ignore.fault.IgnoreFault.TheVariants.{BadlyQuoted}
 use Rattle.tree_commands.specs.Private.Faults.{IsOfName}
-use Rattle.tree_commands.specs.CheckIgnore.{IsDeciding, IsDecidingForTop, IsIgnoreAnswer, IsLineAt, IsLineFor, IsLineIn, IsLineOf, IsStatus, Question, Refuses, asked_path, counted, question_of, text_about, told_path}
+use Rattle.tree_commands.specs.CheckIgnore.{IsDeciding, IsDecidingForTop, IsIgnoreAnswer, IsLineAt, IsLineFor, IsLineIn, IsLineOf, IsStatus, Known, LeadsTo, Question, Refuses, asked_path, counted, question_of, text_about, told_path}
 use Rattle.tree_commands.specs.Private.Finding.{Finds, FindsIn, FindsTold, IsFound, IsFoundForTop, KeepsTree, lists_of}
 use Rattle.tree_answers.proofs.lemmas.RecordLemmas.{AllZip-append}
 use Rattle.tree_commands.proofs.lemmas.AnswerLemmas.{AllZip-weaker}
@@ -107,7 +106,7 @@ module _ (before after : Folder → EntryList (Unit {0}) → Type 0) (on : (fold
       path = h.path;
       leads = h.leads;
       outside = h.outside;
-      decided = held_stays (question.literal told) (told_path told h.path) (question.kind_of h.path) line h.decided;
+      decided = held_stays (question.literal told) (told_path told h.path) (question.known.kind_of h.path) line h.decided;
     }
 
     pub answers_stay : StaysAllowed (IsIgnoreAnswer question before) (IsIgnoreAnswer question after)
@@ -149,17 +148,17 @@ module _ {S T X : Type 0} (shows : S → Folder → EntryList (Unit {0}) → Typ
       ∙ (ap (map (entry_list_of {V = Unit {0}} (λ _. tt))) keeps.fronts
       ∙ sym (take-map (entry_list_of {V = Unit {0}} (λ _. tt)) old.front_count old.lists)))
 
-  abbrev asks : ℕ → List (EntryList (Unit {0})) → Rules → (List ℕ → Option Bool) → Standpoint → IgnoreFlags → List Tracked → Question
-  asks count fronts rules kind_of standpoint flags tracked =
-      record { leads = word_leads standpoint; literal = word_front standpoint; tracked = tracked; kind_of = kind_of; front_count = count; fronts = fronts; rules = rules; flags = flags }
+  abbrev asks : ℕ → List (EntryList (Unit {0})) → Rules → Known → Standpoint → IgnoreFlags → List Tracked → Question
+  asks count fronts rules known standpoint flags tracked =
+      record { leads = word_leads standpoint; literal = word_front standpoint; tracked = tracked; known = known; front_count = count; fronts = fronts; rules = rules; flags = flags }
 
-  pub question_kept : (standpoint : Standpoint) (flags : IgnoreFlags) (tracked : List Tracked) (before after : List ℕ → Option Bool) → after ≡ before
+  pub question_kept : (standpoint : Standpoint) (flags : IgnoreFlags) (tracked : List Tracked) (before after : Known) → after ≡ before
       → question_of standpoint flags tracked new after ≡ question_of standpoint flags tracked old before
   question_kept standpoint flags tracked before after same =
       ap (λ n. asks n (take new.front_count (map (entry_list_of {V = Unit {0}} (λ _. tt)) new.lists)) new.rules after standpoint flags tracked) keeps.front_count
       ∙ (ap (λ fronts. asks old.front_count fronts new.rules after standpoint flags tracked) fronts_kept
       ∙ (ap (λ rules. asks old.front_count (take old.front_count (map (entry_list_of {V = Unit {0}} (λ _. tt)) old.lists)) rules after standpoint flags tracked) keeps.rules
-      ∙ ap (λ kind_of. asks old.front_count (take old.front_count (map (entry_list_of {V = Unit {0}} (λ _. tt)) old.lists)) old.rules kind_of standpoint flags tracked) same))
+      ∙ ap (λ known. asks old.front_count (take old.front_count (map (entry_list_of {V = Unit {0}} (λ _. tt)) old.lists)) old.rules known standpoint flags tracked) same))
 
 -- ---- what is found
 
@@ -189,13 +188,13 @@ module _ {S T X : Type 0} (shows : S → Folder → EntryList (Unit {0}) → Typ
   in_there tracked literal asked known pair (inr (free, found)) = finds_there asked known pair found
 
   pub told_there : (question : Question) (told : List ℕ) (pair : Option (ℕ × ℕ)) → FindsTold shows question told tree pair → IfSome pair (HasMappingAt tree.lists)
-  told_there question told pair finds = in_there question.tracked (question.literal told) (told_path told finds.path) (question.kind_of finds.path) pair finds.found
+  told_there question told pair finds = in_there question.tracked (question.literal told) (told_path told finds.path) (question.known.kind_of finds.path) pair finds.found
 
-module _ {S T X : Type 0} (shows : S → Folder → EntryList (Unit {0}) → Type 0) (tree : TreeParts S T X) (standpoint : Standpoint) (flags : IgnoreFlags) (tracked : List Tracked) (kind_of : List ℕ → Option Bool) (told : List ℕ) (pair : Option (ℕ × ℕ)) (line : Option Decision) where
+module _ {S T X : Type 0} (shows : S → Folder → EntryList (Unit {0}) → Type 0) (tree : TreeParts S T X) (standpoint : Standpoint) (flags : IgnoreFlags) (tracked : List Tracked) (so_far : Known) (told : List ℕ) (pair : Option (ℕ × ℕ)) (line : Option Decision) where
   nothing_there : pair ≡ None → IsLineAt (lists_of tree) pair line → line ≡ None
   nothing_there none there = subst (λ (p : Option (ℕ × ℕ)). IsLineAt (lists_of tree) p line) none there
 
-  decided_here : (asked : List ℕ) (known : Option Bool) → IsLineAt (lists_of tree) pair line → Finds shows tree asked known pair → IsLineOf (question_of standpoint flags tracked tree kind_of) (shows tree.source) asked known line
+  decided_here : (asked : List ℕ) (known : Option Bool) → IsLineAt (lists_of tree) pair line → Finds shows tree asked known pair → IsLineOf (question_of standpoint flags tracked tree so_far) (shows tree.source) asked known line
   decided_here asked known there (inl (top, found)) = inl (
     top,
     record {
@@ -223,21 +222,21 @@ module _ {S T X : Type 0} (shows : S → Folder → EntryList (Unit {0}) → Typ
   ))
 
   in_here : (literal : ℕ) (asked : List ℕ) (known : Option Bool) → IsLineAt (lists_of tree) pair line → FindsIn shows tree tracked literal asked known pair
-      → IsLineIn (question_of standpoint flags tracked tree kind_of) (shows tree.source) literal asked known line
+      → IsLineIn (question_of standpoint flags tracked tree so_far) (shows tree.source) literal asked known line
   in_here literal asked known there (inl (held, none)) = inl (held, nothing_there none there)
   in_here literal asked known there (inr (free, found)) = inr (free, decided_here asked known there found)
 
-  line_here : FindsTold shows (question_of standpoint flags tracked tree kind_of) told tree pair → IsLineAt (lists_of tree) pair line
-      → IsLineFor (question_of standpoint flags tracked tree kind_of) (shows tree.source) told line
+  line_here : FindsTold shows (question_of standpoint flags tracked tree so_far) told tree pair → IsLineAt (lists_of tree) pair line
+      → IsLineFor (question_of standpoint flags tracked tree so_far) (shows tree.source) told line
   line_here finds there = record {
     path = finds.path;
     leads = finds.led;
     outside = finds.outside;
-    decided = in_here (word_front standpoint told) (told_path told finds.path) (kind_of finds.path) there finds.found;
+    decided = in_here (word_front standpoint told) (told_path told finds.path) (so_far.kind_of finds.path) there finds.found;
   }
 
   -- the line at the pair that was found is the line for the told path
-  pub line_found : (question : Question) → question_of standpoint flags tracked tree kind_of ≡ question
+  pub line_found : (question : Question) → question_of standpoint flags tracked tree so_far ≡ question
       → FindsTold shows question told tree pair → IsLineAt (lists_of tree) pair line
       → IsLineFor question (shows tree.source) told line
   line_found question same =
@@ -245,7 +244,7 @@ module _ {S T X : Type 0} (shows : S → Folder → EntryList (Unit {0}) → Typ
       → IsLineFor q (shows tree.source) told line) same line_here
 
   -- what is appended is an answer
-  pub answer_found : (question : Question) → question_of standpoint flags tracked tree kind_of ≡ question
+  pub answer_found : (question : Question) → question_of standpoint flags tracked tree so_far ≡ question
       → FindsTold shows question told tree pair → IsLineAt (lists_of tree) pair line
       → (old new : List ℕ) → new ≡ old ++ text_about flags told (counted flags.verbose line) → Adds (IsIgnoreAnswer question (shows tree.source) told) old new
   answer_found question same finds there old new grown = record {
@@ -261,48 +260,15 @@ pub asked_bare : (path : List ℕ) → asked_path false path ≡ path
 asked_bare [] = refl
 asked_bare (b ∷ path) = append-nil (b ∷ path)
 
-asked_top : (is_told : Bool) (path : List ℕ) → path ≡ [] → asked_path is_told path ≡ path
-asked_top is_told [] top = refl
-asked_top is_told (b ∷ path) top = absurd (cc)
-
-asked_folder : (path : List ℕ) → path ≢ [] → asked_path true path ≡ path ++ slash ∷ []
-asked_folder [] some = absurd (some refl)
-asked_folder (b ∷ path) some = refl
-
--- the bytes are those that are asked about, and so many of them come before the slash
-abbrev pub IsLed : Option (List ℕ) → Bool → ℕ → List ℕ → Type 0
-IsLed leads is_told bare asked = (leads ≡ Some (take bare asked)) × (asked ≡ asked_path is_told (take bare asked)) × (bare ≤ length asked)
-
-module _ (leads : Option (List ℕ)) (is_told : Bool) (path : List ℕ) (led : leads ≡ Some path) where
-  led_whole : asked_path is_told path ≡ path → IsLed leads is_told (length path) path
-  led_whole same = (
-    led ∙ ap (λ p. Some p) (sym (take-length path)),
-    sym same ∙ ap (asked_path is_told) (sym (take-length path)),
-    omega arith,
-  )
-
-  pub led_bare : is_told ≡ false → IsLed leads is_told (length path) path
-  led_bare bare = led_whole (ap (λ b. asked_path b path) bare ∙ asked_bare path)
-
-  pub led_top : path ≡ [] → IsLed leads is_told (length path) path
-  led_top top = led_whole (asked_top is_told path top)
-
-  pub led_folder : is_told ≡ true → path ≢ [] → IsLed leads is_told (length path) (path ++ slash ∷ [])
-  led_folder told some = (
-    led ∙ ap (λ p. Some p) (sym (take-append_seam path (slash ∷ []))),
-    sym (ap (asked_path is_told) (take-append_seam path (slash ∷ [])) ∙ (ap (λ b. asked_path b path) told ∙ asked_folder path some)),
-    omega (arith, length-append path (slash ∷ [])),
-  )
-
 -- what is asked about is known of, where a told path leads to it
-module _ (question : Question) (told bare asked : List ℕ) (led : question.leads told ≡ Some bare) (same : asked ≡ told_path told bare) (outside : ¬ LiesInSubmodule question.tracked asked) where
-  way : {S T X : Type 0} (shows : S → Folder → EntryList (Unit {0}) → Type 0) (tree : TreeParts S T X) (pair : Option (ℕ × ℕ)) → FindsIn shows tree question.tracked (question.literal told) asked (question.kind_of bare) pair
+module _ (question : Question) (told bare asked : List ℕ) (led : LeadsTo question told bare) (same : asked ≡ told_path told bare) (outside : ¬ LiesInSubmodule question.tracked asked) where
+  way : {S T X : Type 0} (shows : S → Folder → EntryList (Unit {0}) → Type 0) (tree : TreeParts S T X) (pair : Option (ℕ × ℕ)) → FindsIn shows tree question.tracked (question.literal told) asked (question.known.kind_of bare) pair
       → FindsTold shows question told tree pair
   way shows tree pair found = record {
     path = bare;
     led = led;
     outside = subst (λ (a : List ℕ). ¬ LiesInSubmodule question.tracked a) same outside;
-    found = subst (λ (a : List ℕ). FindsIn shows tree question.tracked (question.literal told) a (question.kind_of bare) pair) same found;
+    found = subst (λ (a : List ℕ). FindsIn shows tree question.tracked (question.literal told) a (question.known.kind_of bare) pair) same found;
   }
 
   pub told_held : {S T X : Type 0} (shows : S → Folder → EntryList (Unit {0}) → Type 0) (tree : TreeParts S T X) → IsHeld question.tracked asked (question.literal told) → FindsTold shows question told tree None
@@ -315,9 +281,9 @@ module _ (question : Question) (told bare asked : List ℕ) (led : question.lead
     pub told_unplain : asked ≢ [] → ¬ IsPlainPath asked → FindsTold shows question told tree None
     told_unplain some unplain = way shows tree None (inr (free, inr (inl (some, unplain, refl))))
 
-    pub told_plain : {E : Type 0} (result : Result (Option (ℕ × ℕ)) E) → IsPlainPath asked → IfOk result (IsFound shows tree asked (question.kind_of bare)) → IfOk result (FindsTold shows question told tree)
+    pub told_plain : {E : Type 0} (result : Result (Option (ℕ × ℕ)) E) → IsPlainPath asked → IfOk result (IsFound shows tree asked (question.known.kind_of bare)) → IfOk result (FindsTold shows question told tree)
     told_plain result plain found =
-        IfOk-weaker result (IsFound shows tree asked (question.kind_of bare)) (FindsTold shows question told tree) (λ pair here. way shows tree pair (inr (free, inr (inr (plain, here))))) found
+        IfOk-weaker result (IsFound shows tree asked (question.known.kind_of bare)) (FindsTold shows question told tree) (λ pair here. way shows tree pair (inr (free, inr (inr (plain, here))))) found
 
 -- ---- what is tracked
 
@@ -354,8 +320,8 @@ held_as_asked tracked own asked literal front same here is_held held =
 -- ---- faults
 
 -- a fault of a run is that of a path, or that a record names none
-pub refusal_told : {F : Type 0} (leads : List ℕ → Option (List ℕ)) (tracked : List Tracked) (fault : IgnoreFault F) → IsRefusal (Refuses leads tracked) IsOfName fault
-    → ((told : List ℕ) × Refuses leads tracked told fault) ⊎ (fault ≡ BadlyQuoted)
-refusal_told leads tracked fault (inl told) = inl told
-refusal_told leads tracked fault (inr (name.Memory, same)) = inl ([], subst (Refuses leads tracked []) (sym same) tt)
-refusal_told leads tracked fault (inr (name.BadlyQuoted, same)) = inr same
+pub refusal_told : {F : Type 0} (question : Question) (fault : IgnoreFault F) → IsRefusal (Refuses question) IsOfName fault
+    → ((told : List ℕ) × Refuses question told fault) ⊎ (fault ≡ BadlyQuoted)
+refusal_told question fault (inl told) = inl told
+refusal_told question fault (inr (name.Memory, same)) = inl ([], subst (Refuses question []) (sym same) tt)
+refusal_told question fault (inr (name.BadlyQuoted, same)) = inr same

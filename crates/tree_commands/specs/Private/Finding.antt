@@ -14,7 +14,7 @@ use Rattle.glob_trees.specs.Trees.{DecidesInTree}
 use Rattle.glob_trees.specs.Ways.{AreOnTheWay, Folder, GoesOn}
 use Rattle.tree_answers.specs.Lines.{Decision}
 use Rattle.tracked_paths.specs.Holding.{IsHeld, LiesInSubmodule}
-use Rattle.tree_commands.specs.CheckIgnore.{Question, told_path}
+use Rattle.tree_commands.specs.CheckIgnore.{LeadsTo, Question, told_path}
 use Rattle.tree_commands.specs.Tops.{DecidesForTop}
 
 -- the lists of a tree as plain data
@@ -66,6 +66,6 @@ FindsIn shows tree tracked literal asked known pair =
 -- where a told path leads, which is into no submodule, and what is found there
 pub record FindsTold {S T X : Type 0} (shows : S → Folder → EntryList (Unit {0}) → Type 0) (question : Question) (told : List ℕ) (tree : TreeParts S T X) (pair : Option (ℕ × ℕ)) : Type 0 where
   pub path : List ℕ
-  pub led : question.leads told ≡ Some path
+  pub led : LeadsTo question told path
   pub outside : ¬ LiesInSubmodule question.tracked (told_path told path)
-  pub found : FindsIn shows tree question.tracked (question.literal told) (told_path told path) (question.kind_of path) pair
+  pub found : FindsIn shows tree question.tracked (question.literal told) (told_path told path) (question.known.kind_of path) pair

@@ -10,19 +10,19 @@ ghost use Rattle.glob_lists.specs.Paths.{IsPlainPath};
 ghost use Rattle.glob_trees.specs.TreeParts.{HasMappingAt};
 ghost use Rattle.glob_trees.specs.Ways.{GoesOn};
 ghost use Rattle.pathspecs.specs.Leading.{word_names_folder};
-ghost use Rattle.pathspecs.specs.Spelling.{seen, spelt_by};
+ghost use Rattle.pathspecs.specs.Spelling.{Spelt, seen, spelt_by};
 ghost use Rattle.told_paths.specs.declared.quoting.Quoting.TheVariants.{Full};
 ghost use Rattle.told_paths.specs.Quoting.{is_unusual};
 ghost use Rattle.tracked_paths.specs.Holding.{IsHeld, LiesInSubmodule};
 ghost use Rattle.tree_answers.specs.Lines.{Decision};
 ghost use Rattle.tree_answers.specs.Records.{LeadsAsTold};
-ghost use Rattle.tree_commands.specs.CheckIgnore.{IsLineAt, Refuses, counted, question_of, text_about, told_path};
+ghost use Rattle.tree_commands.specs.CheckIgnore.{IsLineAt, LeadsNowhere, LeadsTo, Refuses, counted, question_of, text_about, told_path};
 ghost use Rattle.tree_commands.specs.Private.Finding.{FindsTold, line_of, lists_of};
 
 use crate::check_ignore::fault::IgnoreFault;
 use crate::check_ignore::finding::Finder;
 use crate::check_ignore::flags::IgnoreFlags;
-use crate::check_ignore::kinds::PathKinds;
+use crate::check_ignore::kinds::{PathKinds, left_behind_top};
 use crate::check_ignore::running::IgnoreSources;
 use crate::check_ignore::unlinked::UnlinkedFolders;
 use gix_glob::search::pattern;
@@ -50,8 +50,9 @@ impl AskedQuestion for Brand {
     ghost use Rattle.glob_lists.specs.Rules.{by_git};
     ghost use Rattle.told_paths.specs.declared.quoting.Quoting.TheVariants.{Full};
     ghost use Rattle.tree_answers.specs.declared.form.Form.TheVariants.{Lines};
+    ghost use Rattle.tree_commands.specs.CheckIgnore.{nothing_known};
 
-    ghost question = { record { leads = λ _. None; literal = λ _. 0; tracked = []; kind_of = λ _. None; front_count = 0; fronts = []; rules = by_git Sensitive; flags = record { form = Lines Full; verbose = false; non_matching = false; quiet = false } } };
+    ghost question = { record { leads = λ _. None; literal = λ _. 0; tracked = []; known = nothing_known; front_count = 0; fronts = []; rules = by_git Sensitive; flags = record { form = Lines Full; verbose = false; non_matching = false; quiet = false } } };
 }
 
 /// What answers each told path by the tree. Its type names what is asked: so a run keeps the question, whatever it does to the answerer.
@@ -68,7 +69,7 @@ pub(crate) struct IgnoreAsker<'a, S: FolderLists<IgnoreLines>, K: PathKinds, Q: 
     /// Whether a line that counts decided about some path.
     is_any: bool,
     question: PhantomData<Q>,
-    ghost asked: { question_of standpoint.now flags tracked finder.tree (K.kind_of finder.kinds) ≡ Q.question },
+    ghost asked: { question_of standpoint.now flags tracked finder.tree (K.known finder.kinds) ≡ Q.question },
 }
 
 impl<
@@ -85,7 +86,7 @@ impl<
 
     ghost answered = { λ self. IsStatus Q.question (S.shows (Unit {0}) self.finder.tree.source) self.is_any };
 
-    ghost refuses = { Refuses Q.question.leads Q.question.tracked };
+    ghost refuses = { Refuses Q.question };
 
     fn answer_path(
         &mut self,
@@ -113,7 +114,7 @@ impl<
         flags: IgnoreFlags,
         sources: IgnoreSources<S, K>,
     ) -> IgnoreAsker<'a, S, K, Q>
-        requires { question_of standpoint.now flags sources.tracked sources.tree (K.kind_of sources.kinds) ≡ Q.question }
+        requires { question_of standpoint.now flags sources.tracked sources.tree (K.known sources.kinds) ≡ Q.question }
         ensures { result.is_any ≡ false }
     {
         let IgnoreSources {
@@ -174,7 +175,7 @@ impl<
         ensures found { IfOk result (FindsTold (S.shows (Unit {0})) Q.question told.now self.new.finder.tree) }
         ensures goes_on { GoesOn (S.shows (Unit {0})) self.old.finder.tree.source self.new.finder.tree.source }
         ensures same { self.new.is_any ≡ self.old.is_any }
-        ensures faults { IfErr result (Refuses Q.question.leads Q.question.tracked told.now) }
+        ensures faults { IfErr result (Refuses Q.question told.now) }
     {
         if is_usual && is_path(told) && self.standpoint.is_at_top() && self.tracked.is_empty() {
             return self.finder.find(told, told);
@@ -188,7 +189,7 @@ impl<
         ensures found { IfOk result (FindsTold (S.shows (Unit {0})) Q.question told.now self.new.finder.tree) }
         ensures goes_on { GoesOn (S.shows (Unit {0})) self.old.finder.tree.source self.new.finder.tree.source }
         ensures same { self.new.is_any ≡ self.old.is_any }
-        ensures faults { IfErr result (Refuses Q.question.leads Q.question.tracked told.now) }
+        ensures faults { IfErr result (Refuses Q.question told.now) }
     {
         let spelt = self.spell(told)?;
         let bare = self.lead(told, &spelt)?;
@@ -209,7 +210,7 @@ impl<
         told: &[u8],
         bare: usize,
     ) -> Result<Option<(usize, usize)>, IgnoreFault<S::Fault>>
-        requires leads { Q.question.leads told.now ≡ Some (take bare self.old.path.items) }
+        requires leads { LeadsTo Q.question told.now (take bare self.old.path.items) }
         requires asked { self.old.path.items ≡ told_path told.now (take bare self.old.path.items) }
         requires whole { bare ≤ length self.old.path.items }
         requires outside { ¬ LiesInSubmodule Q.question.tracked self.old.path.items }
@@ -217,7 +218,7 @@ impl<
         ensures found { IfOk result (FindsTold (S.shows (Unit {0})) Q.question told.now self.new.finder.tree) }
         ensures goes_on { GoesOn (S.shows (Unit {0})) self.old.finder.tree.source self.new.finder.tree.source }
         ensures same { self.new.is_any ≡ self.old.is_any }
-        ensures faults { IfErr result (Refuses Q.question.leads Q.question.tracked told.now) }
+        ensures faults { IfErr result (Refuses Q.question told.now) }
     {
         if self.path.is_empty() {
             return self.finder.find_top();
@@ -246,10 +247,10 @@ impl<
 
     /// The fault of a told path that leads into a submodule.
     fn in_submodule(&self, told: &[u8], bare: usize) -> IgnoreFault<S::Fault>
-        requires leads { Q.question.leads told.now ≡ Some (take bare self.now.path.items) }
+        requires leads { LeadsTo Q.question told.now (take bare self.now.path.items) }
         requires asked { self.now.path.items ≡ told_path told.now (take bare self.now.path.items) }
         requires below { LiesInSubmodule Q.question.tracked self.now.path.items }
-        ensures { Refuses Q.question.leads Q.question.tracked told.now result }
+        ensures { Refuses Q.question told.now result }
     {
         match Vec::from_slice(self.alloc, told) {
             Ok(path) => IgnoreFault::InSubmodule(path),
@@ -260,7 +261,7 @@ impl<
     /// What a told word spells.
     fn spell<'t>(&self, told: &'t [u8]) -> Result<Pathspec<'t>, IgnoreFault<S::Fault>>
         ensures spells { IfOk result (λ spelt. spelt_by told.entry.now ≡ Some (seen spelt)) }
-        ensures faults { IfErr result (Refuses Q.question.leads Q.question.tracked told.entry.now) }
+        ensures faults { IfErr result (Refuses Q.question told.entry.now) }
     {
         if told.is_empty() {
             return Err(IgnoreFault::Empty);
@@ -278,12 +279,12 @@ impl<
     /// is how many of its bytes come before that slash.
     fn lead(&mut self, told: &[u8], spelt: &Pathspec<'_>) -> Result<usize, IgnoreFault<S::Fault>>
         requires { spelt_by told.now ≡ Some (seen spelt.now) }
-        ensures leads { IfOk result (λ bare. (Q.question.leads told.now ≡ Some (take bare self.new.path.items))
+        ensures leads { IfOk result (λ bare. LeadsTo Q.question told.now (take bare self.new.path.items)
             × (self.new.path.items ≡ told_path told.now (take bare self.new.path.items)) × (bare ≤ length self.new.path.items)) }
         ensures tracked { self.new.tracked ≡ self.old.tracked }
-        ensures finder { self.new.finder ≡ self.old.finder }
+        ensures tree { self.new.finder.tree ≡ self.old.finder.tree }
         ensures same { self.new.is_any ≡ self.old.is_any }
-        ensures faults { IfErr result (Refuses Q.question.leads Q.question.tracked told.now) }
+        ensures faults { IfErr result (Refuses Q.question told.now) }
     {
         let is_folder = self.go(told, spelt)?;
         let bare = self.path.len();
@@ -298,18 +299,53 @@ impl<
     /// Goes where a told path leads. It answers whether the path is told as a folder.
     fn go(&mut self, told: &[u8], spelt: &Pathspec<'_>) -> Result<bool, IgnoreFault<S::Fault>>
         requires { spelt_by told.now ≡ Some (seen spelt.now) }
-        ensures leads { IfOk result (λ is_folder. (Q.question.leads told.now ≡ Some self.new.path.items) × (is_folder ≡ word_names_folder told.now)) }
-        ensures finder { self.new.finder ≡ self.old.finder }
+        ensures leads { IfOk result (λ is_folder. LeadsTo Q.question told.now self.new.path.items × (is_folder ≡ word_names_folder told.now)) }
+        ensures tracked { self.new.tracked ≡ self.old.tracked }
+        ensures tree { self.new.finder.tree ≡ self.old.finder.tree }
         ensures same { self.new.is_any ≡ self.old.is_any }
-        ensures faults { IfErr result (Refuses Q.question.leads Q.question.tracked told.now) }
+        ensures faults { IfErr result (Refuses Q.question told.now) }
     {
         match spelt.lead(self.alloc, self.standpoint, &mut self.path) {
             Ok(Some(is_folder)) => Ok(is_folder),
-            Ok(None) => match Vec::from_slice(self.alloc, told) {
-                Ok(path) => Err(IgnoreFault::Outside(path)),
-                Err(_refused) => Err(IgnoreFault::Memory),
-            },
+            Ok(None) => self.go_by_links(told, spelt),
             Err(_refused) => Err(IgnoreFault::Memory),
+        }
+    }
+
+    /// Goes where a path leads that is told from the root by a link to the top, or to a folder above the top.
+    #[tactic(auto, using(crate::proofs::lemmas::BehindTopLemmas::nowhere_else, crate::proofs::lemmas::BehindTopLemmas::nowhere_over, crate::proofs::lemmas::BehindTopLemmas::led_over))]
+    fn go_by_links(
+        &mut self,
+        told: &[u8],
+        spelt: &Pathspec<'_>,
+    ) -> Result<bool, IgnoreFault<S::Fault>>
+        requires spelt { spelt_by told.now ≡ Some (seen spelt.now) }
+        requires nowhere { Q.question.leads told.now ≡ None }
+        ensures leads { IfOk result (λ is_folder. LeadsTo Q.question told.now self.new.path.items × (is_folder ≡ word_names_folder told.now)) }
+        ensures tracked { self.new.tracked ≡ self.old.tracked }
+        ensures tree { self.new.finder.tree ≡ self.old.finder.tree }
+        ensures same { self.new.is_any ≡ self.old.is_any }
+        ensures faults { IfErr result (Refuses Q.question told.now) }
+    {
+        let Some(is_folder) = spelt.lead_from_root(&mut self.path)? else {
+            return Err(self.outside(told));
+        };
+        let Some(left) = left_behind_top(&mut self.finder.kinds, &self.path)? else {
+            return Err(self.outside(told));
+        };
+        self.path = Vec::from_slice(self.alloc, left)?;
+        Ok(is_folder)
+    }
+
+    /// The fault of a told path that leads out of the work tree.
+    fn outside(&self, told: &[u8]) -> IgnoreFault<S::Fault>
+        requires spelt { (spelt : Spelt) × (spelt_by told.now ≡ Some spelt) }
+        requires nowhere { LeadsNowhere Q.question told.now }
+        ensures { Refuses Q.question told.now result }
+    {
+        match Vec::from_slice(self.alloc, told) {
+            Ok(path) => IgnoreFault::Outside(path),
+            Err(_refused) => IgnoreFault::Memory,
         }
     }
 

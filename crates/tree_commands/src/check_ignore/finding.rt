@@ -37,9 +37,9 @@ impl<S: FolderLists<IgnoreLines> + Drop, K: PathKinds<Fault = S::Fault>> Finder<
         bare: &[u8],
     ) -> Result<Option<(usize, usize)>, IgnoreFault<S::Fault>>
         requires { IsPlainPath path.now }
-        ensures found { IfOk result (IsFound (S.shows (Unit {0})) self.new.tree path.now (K.kind_of self.old.kinds bare.now)) }
+        ensures found { IfOk result (IsFound (S.shows (Unit {0})) self.new.tree path.now ((K.known self.old.kinds).kind_of bare.now)) }
         ensures keeps { KeepsTree (S.shows (Unit {0})) self.old.tree self.new.tree }
-        ensures kinds { K.kind_of self.new.kinds ≡ K.kind_of self.old.kinds }
+        ensures kinds { K.known self.new.kinds ≡ K.known self.old.kinds }
         ensures faults { IfErr result IsOfSources }
     {
         let folder = RepositoryPath::from_plain(path, true);
@@ -55,7 +55,7 @@ impl<S: FolderLists<IgnoreLines> + Drop, K: PathKinds<Fault = S::Fault>> Finder<
     pub(crate) fn find_top(&mut self) -> Result<Option<(usize, usize)>, IgnoreFault<S::Fault>>
         ensures found { IfOk result (IsFoundForTop (S.shows (Unit {0})) self.new.tree) }
         ensures keeps { KeepsTree (S.shows (Unit {0})) self.old.tree self.new.tree }
-        ensures kinds { K.kind_of self.new.kinds ≡ K.kind_of self.old.kinds }
+        ensures kinds { K.known self.new.kinds ≡ K.known self.old.kinds }
         ensures faults { IfErr result IsOfSources }
     {
         let top = RepositoryPath::top();
@@ -71,7 +71,7 @@ impl<S: FolderLists<IgnoreLines> + Drop, K: PathKinds<Fault = S::Fault>> Finder<
         bare: &[u8],
     ) -> Result<(), IgnoreFault<S::Fault>>
         ensures tree { self.new.tree ≡ self.old.tree }
-        ensures kinds { K.kind_of self.new.kinds ≡ K.kind_of self.old.kinds }
+        ensures kinds { K.known self.new.kinds ≡ K.known self.old.kinds }
         ensures faults { IfErr result IsOfSources }
     {
         let is_told_folder = bare.len() < path.len();
@@ -99,9 +99,9 @@ impl<S: FolderLists<IgnoreLines> + Drop, K: PathKinds<Fault = S::Fault>> Finder<
     ) -> Result<Option<(usize, usize)>, IgnoreFault<S::Fault>>
         requires plain { IsPlainPath path.now }
         requires as_folder { IsFoundAs (S.shows (Unit {0})) self.old.tree path.now true pair }
-        ensures found { IfOk result (IsFound (S.shows (Unit {0})) self.new.tree path.now (K.kind_of self.old.kinds bare.now)) }
+        ensures found { IfOk result (IsFound (S.shows (Unit {0})) self.new.tree path.now ((K.known self.old.kinds).kind_of bare.now)) }
         ensures keeps { KeepsTree (S.shows (Unit {0})) self.old.tree self.new.tree }
-        ensures kinds { K.kind_of self.new.kinds ≡ K.kind_of self.old.kinds }
+        ensures kinds { K.known self.new.kinds ≡ K.known self.old.kinds }
         ensures faults { IfErr result IsOfSources }
     {
         let entered = self.tree.folder().len();
@@ -122,9 +122,9 @@ impl<S: FolderLists<IgnoreLines> + Drop, K: PathKinds<Fault = S::Fault>> Finder<
         bare: &[u8],
     ) -> Result<Option<(usize, usize)>, IgnoreFault<S::Fault>>
         requires { IsPlainPath path.now }
-        ensures found { IfOk result (IsFound (S.shows (Unit {0})) self.new.tree path.now (K.kind_of self.old.kinds bare.now)) }
+        ensures found { IfOk result (IsFound (S.shows (Unit {0})) self.new.tree path.now ((K.known self.old.kinds).kind_of bare.now)) }
         ensures keeps { KeepsTree (S.shows (Unit {0})) self.old.tree self.new.tree }
-        ensures kinds { K.kind_of self.new.kinds ≡ K.kind_of self.old.kinds }
+        ensures kinds { K.known self.new.kinds ≡ K.known self.old.kinds }
         ensures faults { IfErr result IsOfSources }
     {
         let pair = find_as(&mut self.tree, &RepositoryPath::from_plain(path, false))?;

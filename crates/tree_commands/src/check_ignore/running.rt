@@ -7,7 +7,6 @@ ghost use Rattle.glob_lines.specs.Transfers.{AppendsFront};
 ghost use Rattle.record_streams.specs.Faults.{is_write_fault, told_refusal};
 ghost use Rattle.record_streams.specs.Records.{TextOf};
 ghost use Rattle.record_streams.specs.Runs.{EndsRun};
-ghost use Rattle.pathspecs.specs.Leading.{word_leads};
 ghost use Rattle.tree_answers.specs.Lines.{behind};
 ghost use Rattle.tree_answers.specs.Records.{IsTextOf};
 ghost use Rattle.tree_commands.specs.Answering.{IsTextOfFirst, StopsAt, TextOfNamed, TextOfPaths, Writes};
@@ -74,13 +73,13 @@ pub fn run_check_ignore<
 )
     requires readable { has_failed records.old ≡ false }
     requires writable { has_failed writer.old ≡ false }
-    ensures ends { EndsRun (λ is_any. TextOfNamed (IsIgnoreAnswer (question_of standpoint.now flags sources.tracked sources.tree (K.kind_of sources.kinds)) (S.shows (Unit {0}) result.0.tree.source)) (IsStatus (question_of standpoint.now flags sources.tracked sources.tree (K.kind_of sources.kinds)) (S.shows (Unit {0}) result.0.tree.source) is_any) flags.form)
-        (TextOf (IsTextOf (IsIgnoreAnswer (question_of standpoint.now flags sources.tracked sources.tree (K.kind_of sources.kinds)) (S.shows (Unit {0}) result.0.tree.source)) flags.form)) (behind flags.form 10) result.1
+    ensures ends { EndsRun (λ is_any. TextOfNamed (IsIgnoreAnswer (question_of standpoint.now flags sources.tracked sources.tree (K.known sources.kinds)) (S.shows (Unit {0}) result.0.tree.source)) (IsStatus (question_of standpoint.now flags sources.tracked sources.tree (K.known sources.kinds)) (S.shows (Unit {0}) result.0.tree.source) is_any) flags.form)
+        (TextOf (IsTextOf (IsIgnoreAnswer (question_of standpoint.now flags sources.tracked sources.tree (K.known sources.kinds)) (S.shows (Unit {0}) result.0.tree.source)) flags.form)) (behind flags.form 10) result.1
         (R.remaining (inner records.old)) (R.remaining (inner records.new)) (W.contents (inner writer.old)) (W.contents (inner writer.new))
         (has_failed records.new) (has_failed writer.new) }
     // What is told of a path that got no answer is so.
-    ensures refused { AllByRecursion (λ fault. ((told : List ℕ) × Refuses (word_leads standpoint.now) sources.tracked told fault) ⊎ (fault ≡ BadlyQuoted)) (told_refusal result.1) }
-    ensures again { question_of standpoint.now flags result.0.tracked result.0.tree (K.kind_of result.0.kinds) ≡ question_of standpoint.now flags sources.tracked sources.tree (K.kind_of sources.kinds) }
+    ensures refused { AllByRecursion (λ fault. ((told : List ℕ) × Refuses (question_of standpoint.now flags sources.tracked sources.tree (K.known sources.kinds)) told fault) ⊎ (fault ≡ BadlyQuoted)) (told_refusal result.1) }
+    ensures again { question_of standpoint.now flags result.0.tracked result.0.tree (K.known result.0.kinds) ≡ question_of standpoint.now flags sources.tracked sources.tree (K.known sources.kinds) }
 {
     run_question::<S, K, R, W, Brand>(alloc, standpoint, flags, sources, records, writer)
 }
@@ -103,15 +102,15 @@ fn run_question<
     IgnoreSources<S, K>,
     Result<bool, RecordFault<IgnoreFault<S::Fault>>>,
 )
-    requires asked { question_of standpoint.now flags sources.tracked sources.tree (K.kind_of sources.kinds) ≡ Q.question }
+    requires asked { question_of standpoint.now flags sources.tracked sources.tree (K.known sources.kinds) ≡ Q.question }
     requires readable { has_failed records.old ≡ false }
     requires writable { has_failed writer.old ≡ false }
     ensures ends { EndsRun (λ is_any. TextOfNamed (IsIgnoreAnswer Q.question (S.shows (Unit {0}) result.0.tree.source)) (IsStatus Q.question (S.shows (Unit {0}) result.0.tree.source) is_any) flags.form)
         (TextOf (IsTextOf (IsIgnoreAnswer Q.question (S.shows (Unit {0}) result.0.tree.source)) flags.form)) (behind flags.form 10) result.1
         (R.remaining (inner records.old)) (R.remaining (inner records.new)) (W.contents (inner writer.old)) (W.contents (inner writer.new))
         (has_failed records.new) (has_failed writer.new) }
-    ensures refused { AllByRecursion (λ fault. ((told : List ℕ) × Refuses (word_leads standpoint.now) sources.tracked told fault) ⊎ (fault ≡ BadlyQuoted)) (told_refusal result.1) }
-    ensures again { question_of standpoint.now flags result.0.tracked result.0.tree (K.kind_of result.0.kinds) ≡ Q.question }
+    ensures refused { AllByRecursion (λ fault. ((told : List ℕ) × Refuses Q.question told fault) ⊎ (fault ≡ BadlyQuoted)) (told_refusal result.1) }
+    ensures again { question_of standpoint.now flags result.0.tracked result.0.tree (K.known result.0.kinds) ≡ Q.question }
 {
     let asker = IgnoreAsker::<'_, S, K, Q>::new(alloc, standpoint, flags, sources);
     let (asker, told) = answer_records(alloc, asker, flags.form, records, writer);
@@ -142,19 +141,19 @@ pub fn check_ignore_paths<
 )
     requires { has_failed writer.old ≡ false }
     ensures ok { IfOk result.1 (λ is_any.
-        Writes (TextOfPaths (IsIgnoreAnswer (question_of standpoint.now flags sources.tracked sources.tree (K.kind_of sources.kinds)) (S.shows (Unit {0}) result.0.tree.source)) (IsStatus (question_of standpoint.now flags sources.tracked sources.tree (K.kind_of sources.kinds)) (S.shows (Unit {0}) result.0.tree.source) is_any) (map (λ path. path.now) paths.now))
+        Writes (TextOfPaths (IsIgnoreAnswer (question_of standpoint.now flags sources.tracked sources.tree (K.known sources.kinds)) (S.shows (Unit {0}) result.0.tree.source)) (IsStatus (question_of standpoint.now flags sources.tracked sources.tree (K.known sources.kinds)) (S.shows (Unit {0}) result.0.tree.source) is_any) (map (λ path. path.now) paths.now))
         (Appends (W.contents (inner writer.old)) (W.contents (inner writer.new)))) }
     // After the fault of a path, nothing was written.
     ensures refused { AllByRecursion
-        (StopsAt (IsIgnoreAnswer (question_of standpoint.now flags sources.tracked sources.tree (K.kind_of sources.kinds)) (S.shows (Unit {0}) result.0.tree.source)) (Refuses (word_leads standpoint.now) sources.tracked) (map (λ path. path.now) paths.now) false
+        (StopsAt (IsIgnoreAnswer (question_of standpoint.now flags sources.tracked sources.tree (K.known sources.kinds)) (S.shows (Unit {0}) result.0.tree.source)) (Refuses (question_of standpoint.now flags sources.tracked sources.tree (K.known sources.kinds))) (map (λ path. path.now) paths.now) false
         (W.contents (inner writer.old)) (W.contents (inner writer.new)))
         (told_refusal result.1) }
     // After one of the writer's, a beginning of the text was.
     ensures cut { OnErr result.1
-        (Writes (IsTextOfFirst (IsIgnoreAnswer (question_of standpoint.now flags sources.tracked sources.tree (K.kind_of sources.kinds)) (S.shows (Unit {0}) result.0.tree.source)) (map (λ path. path.now) paths.now))
+        (Writes (IsTextOfFirst (IsIgnoreAnswer (question_of standpoint.now flags sources.tracked sources.tree (K.known sources.kinds)) (S.shows (Unit {0}) result.0.tree.source)) (map (λ path. path.now) paths.now))
         (AppendsFront (W.contents (inner writer.old)) (W.contents (inner writer.new)))) }
     ensures write { is_write_fault result.1 ≡ has_failed writer.new }
-    ensures again { question_of standpoint.now flags result.0.tracked result.0.tree (K.kind_of result.0.kinds) ≡ question_of standpoint.now flags sources.tracked sources.tree (K.kind_of sources.kinds) }
+    ensures again { question_of standpoint.now flags result.0.tracked result.0.tree (K.known result.0.kinds) ≡ question_of standpoint.now flags sources.tracked sources.tree (K.known sources.kinds) }
 {
     check_paths::<S, K, W, Brand>(alloc, standpoint, flags, sources, paths, writer)
 }
@@ -176,14 +175,14 @@ fn check_paths<
     IgnoreSources<S, K>,
     Result<bool, RecordFault<IgnoreFault<S::Fault>>>,
 )
-    requires asked { question_of standpoint.now flags sources.tracked sources.tree (K.kind_of sources.kinds) ≡ Q.question }
+    requires asked { question_of standpoint.now flags sources.tracked sources.tree (K.known sources.kinds) ≡ Q.question }
     requires writable { has_failed writer.old ≡ false }
     ensures ok { IfOk result.1 (λ is_any.
         Writes (TextOfPaths (IsIgnoreAnswer Q.question (S.shows (Unit {0}) result.0.tree.source)) (IsStatus Q.question (S.shows (Unit {0}) result.0.tree.source) is_any) (map (λ path. path.now) paths.now))
         (Appends (W.contents (inner writer.old)) (W.contents (inner writer.new)))) }
     // After the fault of a path, nothing was written.
     ensures refused { AllByRecursion
-        (StopsAt (IsIgnoreAnswer Q.question (S.shows (Unit {0}) result.0.tree.source)) (Refuses (word_leads standpoint.now) sources.tracked) (map (λ path. path.now) paths.now) false
+        (StopsAt (IsIgnoreAnswer Q.question (S.shows (Unit {0}) result.0.tree.source)) (Refuses Q.question) (map (λ path. path.now) paths.now) false
         (W.contents (inner writer.old)) (W.contents (inner writer.new)))
         (told_refusal result.1) }
     // After one of the writer's, a beginning of the text was.
@@ -191,7 +190,7 @@ fn check_paths<
         (Writes (IsTextOfFirst (IsIgnoreAnswer Q.question (S.shows (Unit {0}) result.0.tree.source)) (map (λ path. path.now) paths.now))
         (AppendsFront (W.contents (inner writer.old)) (W.contents (inner writer.new)))) }
     ensures write { is_write_fault result.1 ≡ has_failed writer.new }
-    ensures again { question_of standpoint.now flags result.0.tracked result.0.tree (K.kind_of result.0.kinds) ≡ Q.question }
+    ensures again { question_of standpoint.now flags result.0.tracked result.0.tree (K.known result.0.kinds) ≡ Q.question }
 {
     let asker = IgnoreAsker::<'_, S, K, Q>::new(alloc, standpoint, flags, sources);
     let (asker, told) = answer_paths(alloc, asker, paths, false, writer);

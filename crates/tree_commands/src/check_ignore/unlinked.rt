@@ -50,7 +50,7 @@ impl UnlinkedFolders {
         is_told_folder: bool,
         entered: usize,
     ) -> Result<(), IgnoreFault<K::Fault>>
-        ensures kept { K.kind_of kinds.new ≡ K.kind_of kinds.old }
+        ensures kept { K.known kinds.new ≡ K.known kinds.old }
         ensures faults { IfErr result IsOfSources }
     {
         if is_told_folder && entered < path.len() {
@@ -75,7 +75,7 @@ impl UnlinkedFolders {
         folder: &[u8],
         entered: usize,
     ) -> Result<(), IgnoreFault<K::Fault>>
-        ensures kept { K.kind_of kinds.new ≡ K.kind_of kinds.old }
+        ensures kept { K.known kinds.new ≡ K.known kinds.old }
         ensures faults { IfErr result IsOfSources }
     {
         if self.is_last(folder) {

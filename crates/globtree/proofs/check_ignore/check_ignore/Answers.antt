@@ -1,9 +1,9 @@
-use Rattle.std.proofs.Common.{◌≡◌, ◌≢◌, Bool, true, false, if◌then◌else◌, IfOk, List, None, Option, ℕ, ap, map, refl, sym, string_bytes, subst, ◌∙◌}
+use Rattle.std.proofs.Common.{◌≡◌, ◌≢◌, Bool, true, false, if◌then◌else◌, IfOk, List, Option, ℕ, ap, map, refl, sym, string_bytes, subst, ◌∙◌}
 use Rattle.std.proofs.lemmas.Bool.{false≢true}
 use Rattle.std.specs.Borrow.{Bor}
 use Rattle.gix_glob.specs.Watched.{inner}
 use Rattle.glob_lists.specs.Rules.{by_git}
-use Rattle.tree_commands.specs.CheckIgnore.{Question, question_of}
+use Rattle.tree_commands.specs.CheckIgnore.{Question, nothing_known, question_of}
 use Rattle.tree_words.specs.declared.operands.Operands.{Operands}
 use Rattle.tree_words.specs.Operands.{operands_among}
 use Rattle.globtree.specs.Answers.{ReadsIgnore, TellsIgnore}
@@ -24,7 +24,7 @@ returns-then-flags-clause-answered g c =
     let fronts = c.in_ok-fronts.fronts in
     let tree = c.in_ok-tree.tree in
     let is_any = c.in_ok-is_any.is_any in
-    let question : Question = question_of fronts.standpoint c.asked_by_flags-asked.result c.new-tracked.result tree (λ _. None) in
+    let question : Question = question_of fronts.standpoint c.asked_by_flags-asked.result c.new-tracked.result tree nothing_known in
     let left : Option (List ℕ) = g.I.Read.remaining (inner c.args.input.now) in
     let here : Option (List ℕ) = g.I.Read.remaining (inner c.refuse_settings_for.new.input) in
     let rest : Option (List ℕ) = g.I.Read.remaining (inner c.run_check_ignore-sources.new.records) in
@@ -56,7 +56,7 @@ returns-clause-answered g c =
     let fronts = c.in_ok-fronts.fronts in
     let tree = c.in_ok-tree.tree in
     let is_any = c.in_ok-is_any-2.is_any in
-    let question : Question = question_of fronts.standpoint c.asked_by_flags-asked.result c.new-tracked.result tree (λ _. None) in
+    let question : Question = question_of fronts.standpoint c.asked_by_flags-asked.result c.new-tracked.result tree nothing_known in
     let old : Option (List ℕ) = g.O.Write.contents (inner c.args.output.now) in
     let new : Option (List ℕ) = g.O.Write.contents (inner c.check_ignore_paths-sources.new.writer) in
     let paths = ap (map see) c.deref-2.ensures.value ∙ (c.in_ok-paths-2.ensures ∙ (ap (map see) c.deref.ensures.value ∙ all)) in

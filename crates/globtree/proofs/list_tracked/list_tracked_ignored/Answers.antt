@@ -1,9 +1,9 @@
-use Rattle.std.proofs.Common.{[], ℕ, List, None, Option, map, refl, subst}
+use Rattle.std.proofs.Common.{[], ℕ, List, Option, map, refl, subst}
 use Rattle.std.specs.Borrow.{Bor}
 use Rattle.std.specs.Io.KnownBytes.{Appends}
 use Rattle.gix_glob.specs.Watched.{inner}
 use Rattle.tree_commands.specs.Answering.{Writes}
-use Rattle.tree_commands.specs.CheckIgnore.{question_of}
+use Rattle.tree_commands.specs.CheckIgnore.{nothing_known, question_of}
 use Rattle.tree_commands.specs.TrackedFiles.{AreIgnored, names_alone}
 use Rattle.tree_files.specs.FileLists.{IsOfFolder}
 use Rattle.globtree.proofs.lemmas.ResultLemmas.{of_answer}
@@ -14,7 +14,7 @@ returns g c =
     let see : Bor (List ℕ) → List ℕ = λ path. path.now in
     let old : Option (List ℕ) = g.O.Write.contents (inner c.args.output.now) in
     let new : Option (List ℕ) = g.O.Write.contents (inner c.write_ignored-sources.new.writer) in
-    let question = question_of c.args.standpoint.now (names_alone c.args.form) [] c.args.tree (λ _. None) in
+    let question = question_of c.args.standpoint.now (names_alone c.args.form) [] c.args.tree nothing_known in
     of_answer c.write_ignored-sources.result.1 c.answer_of.result _ _ _ c.answer_of.ensures c.write_ignored-sources.ensures.ok
     (λ _ written. record {
       paths = map see c.in_ok-paths.paths.items;

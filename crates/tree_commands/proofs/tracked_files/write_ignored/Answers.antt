@@ -19,7 +19,7 @@ pub returns-clause-ok : goal.returns-clause-ok
 returns-clause-ok g c =
     let see : Bor (List ℕ) → List ℕ = λ path. path.now in
     let paths = map see c.args.paths.now in
-    let asked = λ (flags : IgnoreFlags) (tracked : List Tracked). question_of c.args.standpoint.now flags tracked c.args.tree (g.K.PathKinds.kind_of c.args.kinds) in
+    let asked = λ (flags : IgnoreFlags) (tracked : List Tracked). question_of c.args.standpoint.now flags tracked c.args.tree (g.K.PathKinds.known c.args.kinds) in
     let shows = g.S.FolderLists.shows (Unit {0}) c.check_ignore_paths-sources.result.0.tree.source in
     let old = g.W.Write.contents (inner c.args.writer.now) in
     let new = g.W.Write.contents (inner c.check_ignore_paths-sources.new.writer) in

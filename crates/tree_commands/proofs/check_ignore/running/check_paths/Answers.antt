@@ -1,9 +1,8 @@
-use Rattle.std.proofs.Common.{◌≡◌, Bool, false, Ok, Err, MatchResult, map, subst, sym}
+use Rattle.std.proofs.Common.{◌≡◌, Bool, false, Ok, Err, MatchResult, map, subst}
 use Rattle.std.specs.List.{AllByRecursion}
 use Rattle.gix_glob.specs.Watched.{inner}
-use Rattle.record_streams.specs.Faults.{told_refusal}
 use Rattle.tree_commands.specs.Answering.{StopsAt}
-use Rattle.tree_commands.specs.CheckIgnore.{IsIgnoreAnswer, Question, Refuses}
+use Rattle.tree_commands.specs.CheckIgnore.{IsIgnoreAnswer, Refuses}
 use Rattle.tree_commands.proofs.lemmas.RunLemmas.{if_any, same_err, same_refusal}
 use Rattle.tree_commands.proofs.check_ignore.running.check_paths.Goals as goal
 
@@ -20,9 +19,8 @@ returns-clause-refused g c =
     let old = g.W.Write.contents (inner c.args.writer.now) in
     let new = g.W.Write.contents (inner c.answer_paths-asker.new.writer) in
     rw c.into_sources.ensures
-    (subst (λ (q : Question). AllByRecursion (StopsAt answers (Refuses q.leads q.tracked) paths false old new) (told_refusal c.outcome_of-outcome.result)) (sym c.requires.asked)
-    (subst (λ faults. AllByRecursion (StopsAt answers (Refuses g.Q.AskedQuestion.question.leads g.Q.AskedQuestion.question.tracked) paths false old new) faults)
-    (same_refusal c.answer_paths-asker.result.1 c.outcome_of-outcome.result c.answer_paths-asker.result.0.is_any same) c.answer_paths-asker.ensures.refused))
+    (subst (λ faults. AllByRecursion (StopsAt answers (Refuses g.Q.AskedQuestion.question) paths false old new) faults)
+    (same_refusal c.answer_paths-asker.result.1 c.outcome_of-outcome.result c.answer_paths-asker.result.0.is_any same) c.answer_paths-asker.ensures.refused)
 
 pub returns-clause-cut : goal.returns-clause-cut
 returns-clause-cut g c =

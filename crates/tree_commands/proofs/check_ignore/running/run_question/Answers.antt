@@ -1,10 +1,10 @@
-use Rattle.std.proofs.Common.{◌≡◌, ◌⊎◌, ℕ, Bool, List, Ok, Err, MatchResult, subst, sym}
+use Rattle.std.proofs.Common.{◌≡◌, ◌⊎◌, ℕ, Bool, List, Ok, Err, MatchResult, subst}
 use Rattle.std.specs.List.{AllByRecursion}
 use Rattle.record_streams.specs.Faults.{told_refusal}
 use Rattle.tree_answers.specs.Records.{IsRefusal}
 use Rattle.tree_commands.specs.Answering.{TextOfNamed}
 use Rattle.tree_commands.specs.declared.check_ignore.fault.IgnoreFault.TheVariants.{BadlyQuoted}
-use Rattle.tree_commands.specs.CheckIgnore.{IsIgnoreAnswer, IsStatus, Question, Refuses}
+use Rattle.tree_commands.specs.CheckIgnore.{IsIgnoreAnswer, IsStatus, Refuses}
 use Rattle.tree_commands.specs.Private.Faults.{IsOfName}
 use Rattle.tree_commands.proofs.lemmas.IgnoreLemmas.{refusal_told}
 use Rattle.tree_commands.proofs.lemmas.RunLemmas.{all_weaker, same_refusal, with_status}
@@ -22,7 +22,6 @@ pub returns-clause-refused : goal.returns-clause-refused
 returns-clause-refused g c =
     let same = subst (λ (b : Bool). MatchResult c.answer_records-asker.result.1 (λ _. c.outcome_of-outcome.result ≡ Ok b) (λ fault. c.outcome_of-outcome.result ≡ Err fault)) c.is_any.ensures c.outcome_of-outcome.ensures in
     let question = g.Q.AskedQuestion.question in
-    subst (λ (q : Question). AllByRecursion (λ fault. ((told : List ℕ) × Refuses q.leads q.tracked told fault) ⊎ (fault ≡ BadlyQuoted)) (told_refusal c.outcome_of-outcome.result)) (sym c.requires.asked)
-    (subst (λ faults. AllByRecursion (λ fault. ((told : List ℕ) × Refuses question.leads question.tracked told fault) ⊎ (fault ≡ BadlyQuoted)) faults)
+    subst (λ faults. AllByRecursion (λ fault. ((told : List ℕ) × Refuses question told fault) ⊎ (fault ≡ BadlyQuoted)) faults)
     (same_refusal c.answer_records-asker.result.1 c.outcome_of-outcome.result c.answer_records-asker.result.0.is_any same)
-    (all_weaker (IsRefusal (Refuses question.leads question.tracked) IsOfName) (λ fault. ((told : List ℕ) × Refuses question.leads question.tracked told fault) ⊎ (fault ≡ BadlyQuoted)) (refusal_told question.leads question.tracked) (told_refusal c.answer_records-asker.result.1) c.answer_records-asker.ensures.refused))
+    (all_weaker (IsRefusal (Refuses question) IsOfName) (λ fault. ((told : List ℕ) × Refuses question told fault) ⊎ (fault ≡ BadlyQuoted)) (refusal_told question) (told_refusal c.answer_records-asker.result.1) c.answer_records-asker.ensures.refused)

@@ -1,9 +1,8 @@
-use Rattle.std.proofs.Common.{◌≡◌, ℕ, Bool, List, Option, Some, IfOk, [], rules, false, ap, subst, sym, ◌∙◌}
+use Rattle.std.proofs.Common.{◌≡◌, inl, Bool, Some, IfOk, [], rules, false, ap, subst, sym, ◌∙◌}
 use Rattle.std.specs.Option.{option_and_then, option_map_or}
 use Rattle.pathspecs.specs.Leading.{leads, names_folder_so, word_names_folder}
-use Rattle.told_paths.specs.Paths.{names_folder, parts_of}
 use Rattle.told_paths.specs.Standpoints.{led}
-use Rattle.tree_commands.specs.CheckIgnore.{Question, asked_path, told_path}
+use Rattle.tree_commands.specs.CheckIgnore.{Known, Question, asked_path, told_path}
 use Rattle.tree_commands.specs.Private.Finding.{IsFound}
 use Rattle.tree_commands.proofs.lemmas.IgnoreLemmas.{asked_bare, led_here, none_below, none_held, question_kept, told_plain}
 use Rattle.tree_commands.proofs.check_ignore.asking.IgnoreAsker.find.Goals as goal
@@ -11,7 +10,7 @@ use Rattle.tree_commands.proofs.check_ignore.asking.IgnoreAsker.find.Goals as go
 pub invariant_of-self : goal.invariant_of-self
 invariant_of-self g c = record {
   asked = question_kept (g.S.FolderLists.shows (Unit {0})) c.args.self.now.finder.tree c.find.new.self.tree c.find.ensures.keeps c.args.self.now.standpoint.now c.args.self.now.flags c.args.self.now.tracked
-      (g.K.PathKinds.kind_of c.args.self.now.finder.kinds) (g.K.PathKinds.kind_of c.find.new.self.kinds) c.find.ensures.kinds
+      (g.K.PathKinds.known c.args.self.now.finder.kinds) (g.K.PathKinds.known c.find.new.self.kinds) c.find.ensures.kinds
       ∙ c.args.self.now.asked;
 }
 
@@ -25,9 +24,9 @@ returns-then-is_empty-clause-found g c =
     let here : led c.args.self.now.standpoint.now told ≡ Some told = led_here c.args.self.now.standpoint.now told at_top.0 at_top.1 (c.requires.plain c.if-is_usual.true).relative way.0 in
     let leads_so : question.leads told ≡ Some told = ap (λ (q : Question). q.leads told) (sym c.args.self.now.asked) ∙ (ap (option_and_then (leads c.args.self.now.standpoint.now)) spelt ∙ here) in
     let bare : word_names_folder told ≡ false = ap (λ s. option_map_or names_folder_so s false) spelt ∙ way.1 in
-    let known = ap (λ (q : Question). q.kind_of) c.args.self.now.asked in
+    let known = ap (λ (q : Question). q.known) c.args.self.now.asked in
     let none : question.tracked ≡ [] = search rules in
     let same : told ≡ told_path told told = sym (ap (λ (b : Bool). asked_path b told) bare ∙ asked_bare told) in
-    told_plain question told told told leads_so same (none_below question.tracked told none) (none_held question.tracked told (question.literal told) none) (g.S.FolderLists.shows (Unit {0})) c.find.new.self.tree c.find.result
+    told_plain question told told told (inl leads_so) same (none_below question.tracked told none) (none_held question.tracked told (question.literal told) none) (g.S.FolderLists.shows (Unit {0})) c.find.new.self.tree c.find.result
     (c.requires.plain c.if-is_usual.true)
-    (subst (λ (kind_of : List ℕ → Option Bool). IfOk c.find.result (IsFound (g.S.FolderLists.shows (Unit {0})) c.find.new.self.tree told (kind_of told))) known c.find.ensures.found)
+    (subst (λ (so_far : Known). IfOk c.find.result (IsFound (g.S.FolderLists.shows (Unit {0})) c.find.new.self.tree told (so_far.kind_of told))) known c.find.ensures.found)

@@ -7,14 +7,14 @@ use Rattle.tree_commands.proofs.check_ignore.asking.IgnoreAsker.find_untracked.G
 pub invariant_of-self : goal.invariant_of-self
 invariant_of-self g c = record {
   asked = question_kept (g.S.FolderLists.shows (Unit {0})) c.args.self.now.finder.tree c.find_top.new.self.tree c.find_top.ensures.keeps c.args.self.now.standpoint.now c.args.self.now.flags c.args.self.now.tracked
-      (g.K.PathKinds.kind_of c.args.self.now.finder.kinds) (g.K.PathKinds.kind_of c.find_top.new.self.kinds) c.find_top.ensures.kinds
+      (g.K.PathKinds.known c.args.self.now.finder.kinds) (g.K.PathKinds.known c.find_top.new.self.kinds) c.find_top.ensures.kinds
       ∙ c.args.self.now.asked;
 }
 
 pub invariant_of-self-2 : goal.invariant_of-self-2
 invariant_of-self-2 g c = record {
   asked = question_kept (g.S.FolderLists.shows (Unit {0})) c.args.self.now.finder.tree c.find.new.self.tree c.find.ensures.keeps c.args.self.now.standpoint.now c.args.self.now.flags c.args.self.now.tracked
-      (g.K.PathKinds.kind_of c.args.self.now.finder.kinds) (g.K.PathKinds.kind_of c.find.new.self.kinds) c.find.ensures.kinds
+      (g.K.PathKinds.known c.args.self.now.finder.kinds) (g.K.PathKinds.known c.find.new.self.kinds) c.find.ensures.kinds
       ∙ c.args.self.now.asked;
 }
 
@@ -37,5 +37,5 @@ returns-clause-found g c =
     let shows = g.S.FolderLists.shows (Unit {0}) in
     let asked = c.args.self.now.path.items in
     let plain : IsPlainPath asked = search rules in
-    let found : IfOk c.find.result (IsFound shows c.find.new.self.tree asked (question.kind_of (take c.args.bare asked))) = search rules in
+    let found : IfOk c.find.result (IsFound shows c.find.new.self.tree asked (question.known.kind_of (take c.args.bare asked))) = search rules in
     told_plain question c.args.told.now (take c.args.bare asked) asked c.requires.leads c.requires.asked c.requires.outside c.requires.free shows c.find.new.self.tree c.find.result plain found

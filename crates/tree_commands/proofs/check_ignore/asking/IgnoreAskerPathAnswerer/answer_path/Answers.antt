@@ -28,14 +28,14 @@ returns-clause-stays g c = answers_stay _ _ c.find.ensures.goes_on g.Q.AskedQues
 pub returns-clause-written : goal.returns-clause-written
 returns-clause-written g c =
     let appended = c.in_ok-is_counted.ensures.appended in
-    answer_found (g.S.FolderLists.shows (Unit {0})) c.find.new.self.finder.tree c.find.new.self.standpoint.now c.find.new.self.flags c.find.new.self.tracked (g.K.PathKinds.kind_of c.find.new.self.finder.kinds) c.args.told.now c.in_ok-pair.pair appended.0
+    answer_found (g.S.FolderLists.shows (Unit {0})) c.find.new.self.finder.tree c.find.new.self.standpoint.now c.find.new.self.flags c.find.new.self.tracked (g.K.PathKinds.known c.find.new.self.finder.kinds) c.args.told.now c.in_ok-pair.pair appended.0
     g.Q.AskedQuestion.question c.find.new.self.asked c.in_ok-pair.ensures.found appended.1 c.args.text.now.items c.append.new.text.items appended.2
 
 pub returns-clause-answered : goal.returns-clause-answered
 returns-clause-answered g c =
     let appended = c.in_ok-is_counted.ensures.appended in
     let question = g.Q.AskedQuestion.question in
-    let line = line_found (g.S.FolderLists.shows (Unit {0})) c.find.new.self.finder.tree c.find.new.self.standpoint.now c.find.new.self.flags c.find.new.self.tracked (g.K.PathKinds.kind_of c.find.new.self.finder.kinds) c.args.told.now c.in_ok-pair.pair appended.0
+    let line = line_found (g.S.FolderLists.shows (Unit {0})) c.find.new.self.finder.tree c.find.new.self.standpoint.now c.find.new.self.flags c.find.new.self.tracked (g.K.PathKinds.known c.find.new.self.finder.kinds) c.args.told.now c.in_ok-pair.pair appended.0
     question c.find.new.self.asked c.in_ok-pair.ensures.found appended.1 in
     let same = ap (λ (b : Bool). b || c.in_ok-is_counted.is_counted) c.find.ensures.same
     ∙ ap (λ (b : Bool). c.args.self.now.is_any || b) (appended.3 ∙ ap (λ (q : Question). is_some (counted q.flags.verbose appended.0)) c.find.new.self.asked) in

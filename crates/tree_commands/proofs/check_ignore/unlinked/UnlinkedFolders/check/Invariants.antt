@@ -3,4 +3,4 @@ use Rattle.std.proofs.Common.{◌≡◌}
 use Rattle.tree_commands.proofs.check_ignore.unlinked.UnlinkedFolders.check.Given as goal
 
 abbrev pub invariant-bytes : goal.invariant-bytes
-invariant-bytes g l = g.K.PathKinds.kind_of l.kinds ≡ g.K.PathKinds.kind_of l.fn.kinds
+invariant-bytes g l = g.K.PathKinds.known l.kinds ≡ g.K.PathKinds.known l.fn.kinds
