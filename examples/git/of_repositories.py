@@ -20,7 +20,7 @@ LISTED = [
     ["-c"], ["-o"], ["-c", "-o"], ["-co", "--exclude-standard"], ["-oi", "--exclude-standard"], ["-c", "-i", "--exclude-standard"],
     ["--cached", "-oi", "--exclude-standard"], ["-o", "--directory"], ["--others", "--directory", "--exclude-standard"], ["--exclude-standard"],
     ["-o", "--directory", "--no-empty-directory"], ["-o", "--exclude-standard", "--directory", "--no-empty-directory"],
-    ["-oi", "--exclude-standard", "--directory", "--no-empty-directory"],
+    ["-oi", "--exclude-standard", "--directory", "--no-empty-directory"], ["-oi", "--exclude-standard", "--directory"],
 ]
 STATUS = [["-uall"], ["-uall", "--ignored"], ["-u", "--ignored=matching"], ["--untracked-files=all", "--ignored=traditional"], ["-uno", "--ignored"], ["-unormal"], ["-unormal", "--ignored=matching"], ["--untracked-files=normal", "--ignored"]]
 ATTRIBUTES = [["-a", "--"], ["one", "two", "--"], ["-z", "two", "--"], ["-a", "-z", "--"]]

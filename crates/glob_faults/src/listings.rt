@@ -373,7 +373,7 @@ const FOLDERS: Tree = &[
 
 #[test]
 fn filled_folders_are_listed(rt: HostRuntime) -> Result<(), Fail> {
-    let rows: [Question; 4] = [
+    let rows: [Question; 6] = [
         Question {
             tree: FOLDERS,
             folders: Folders::Named,
@@ -403,6 +403,21 @@ fn filled_folders_are_listed(rt: HostRuntime) -> Result<(), Fail> {
             mark: Mark::Ignored,
             wanted: b"!! g/\n!! h/x.o\n!! k.o/\n",
             asked: 14,
+            ..PLAIN
+        },
+        Question {
+            tree: FOLDERS,
+            chosen: Chosen::Ignored,
+            folders: Folders::NamedIfAllIgnored,
+            wanted: b"g/\ng/x.o\nh/x.o\nk.o/\n",
+            asked: 12,
+            ..PLAIN
+        },
+        Question {
+            tree: FOLDERS,
+            folders: Folders::NamedIfEmpty,
+            wanted: b".gitignore\nd/e/x\nf/\nh/a\n",
+            asked: 6,
             ..PLAIN
         },
     ];

@@ -1,5 +1,5 @@
 -- What the program ends with, and what is asked of it.
-use Rattle.std.specs.Prelude.{◌≡◌, ◌⊎◌, ◌&&◌, ◌||◌, ℕ, Bool, true, not, List, Some, if◌then◌else◌}
+use Rattle.std.specs.Prelude.{◌≡◌, ◌⊎◌, ◌||◌, ℕ, Bool, true, List, Some, if◌then◌else◌}
 use Rattle.std.specs.Borrow.{Bor}
 use Rattle.core_settings.specs.declared.untracked.ShowUntracked.{ShowUntracked}
 use Rattle.core_settings.specs.declared.untracked.ShowUntracked.TheVariants as shown
@@ -58,17 +58,13 @@ asked_by_flags flags quoting = record { form = form_by flags.nul quoting; verbos
 abbrev pub chosen_by : FilesFlags → Chosen
 chosen_by flags = if flags.ignored then choices.Ignored else (if flags.exclude_standard || are_usual flags then choices.Unignored else choices.All)
 
--- how folders are told that have no tracked path
+-- how folders are told that have no tracked path: of the ignored paths, those in which all is ignored are told, and gone into besides
 abbrev pub folders_by : FilesFlags → Folders
-folders_by flags = if flags.directory then (if flags.no_empty_directory then folders.NamedIfFilled else folders.Named) else folders.Entered
+folders_by flags = if flags.directory then (if flags.no_empty_directory then folders.NamedIfFilled else (if flags.ignored then folders.NamedIfAllIgnored else folders.Named)) else folders.Entered
 
 -- how entries of a configuration are shown, by the options of `config`
 abbrev pub manner_by : ConfigFlags → Manner
 manner_by flags = record { nul = flags.nul; origin = flags.show_origin }
-
--- folders are to be told by their names and gone into: those in which all is ignored, of the ignored paths
-abbrev pub tells_folders_twice : FilesFlags → Bool
-tells_folders_twice flags = ((flags.others && flags.directory) && flags.ignored) && not flags.no_empty_directory
 
 -- which files `status` tells that aren't tracked: those of an option, or else of the configuration
 abbrev pub untracked_by : UntrackedFiles → ShowUntracked → UntrackedFiles

@@ -6,7 +6,7 @@ ghost use Rattle.glob_lists.specs.Rules.{by_git};
 ghost use Rattle.tree_commands.specs.declared.files.mark.Mark.TheVariants as marks;
 ghost use Rattle.globtree.specs.Answers.{AnswersFiles, AreFronts, ListsFound, ListsIgnored, ListsTracked, case_by};
 ghost use Rattle.tree_words.specs.Files.{are_usual, lists_tracked};
-ghost use Rattle.globtree.specs.Running.{IsAnswered, chosen_by, folders_by, form_by, tells_folders_twice};
+ghost use Rattle.globtree.specs.Running.{IsAnswered, chosen_by, folders_by, form_by};
 ghost use Rattle.globtree.specs.Tracked.{IsOfIndex};
 
 use crate::fronts::{Fronts, case_of, fronts_on, ground_of, tree_behind};
@@ -43,9 +43,6 @@ pub(crate) fn list_files<R: Files + Env + Clock + Eprint + AllocGlobal + Clone +
 {
     if let Some(message) = flags.disagreement() {
         bail!("{message}");
-    }
-    if tells_folders_twice(flags) {
-        bail!("--directory isn't known with -i, unless with --no-empty-directory");
     }
     if lists_index(flags) && options.top.is_none() {
         list_index(rt, alloc, options, flags.nul, folder, output)?;
@@ -95,13 +92,6 @@ fn counts_patterns(flags: FilesFlags) -> bool
     ensures { result ≡ (flags.exclude_standard || are_usual flags) }
 {
     flags.exclude_standard || flags.are_usual()
-}
-
-/// Whether folders are to be told by their names and gone into, as no listing knows it.
-fn tells_folders_twice(flags: FilesFlags) -> bool
-    ensures { result ≡ tells_folders_twice flags }
-{
-    flags.others && flags.directory && flags.ignored && !flags.no_empty_directory
 }
 
 /// What is taken from the index: which paths are tracked, unless all files are listed.
@@ -166,7 +156,7 @@ fn chosen_by(flags: FilesFlags) -> Chosen
     Chosen::All
 }
 
-/// How folders are told that have no tracked path.
+/// How folders are told that have no tracked path: of the ignored paths, those in which all is ignored are told, and gone into besides.
 fn folders_by(flags: FilesFlags) -> Folders
     ensures { result ≡ folders_by flags }
 {
@@ -174,7 +164,10 @@ fn folders_by(flags: FilesFlags) -> Folders
         return Folders::Entered;
     }
     if flags.no_empty_directory {
-        Folders::NamedIfFilled
+        return Folders::NamedIfFilled;
+    }
+    if flags.ignored {
+        Folders::NamedIfAllIgnored
     } else {
         Folders::Named
     }

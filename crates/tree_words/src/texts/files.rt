@@ -2,7 +2,7 @@
 
 pub(crate) const HELP: &str = "\
 usage: globtree [OPTION..] files [-c] [-o] [-i] [--exclude-standard] [-z] [DIR]
-       globtree [OPTION..] files -o --directory [[-i] --no-empty-directory] [OPTION..] [DIR]
+       globtree [OPTION..] files -o --directory [--no-empty-directory] [OPTION..] [DIR]
 
 Prints the files below DIR that aren't ignored, tracked or not; without DIR, those below the current
 folder. With options, prints what git ls-files prints with the same ones.
@@ -13,7 +13,7 @@ options:
   -i, --ignored        of these, the ignored ones alone; goes with --exclude-standard
   --exclude-standard   patterns count
   --directory          with -o: a folder without tracked files by its name
-  --no-empty-directory with it: only if something to print lies in it; -i needs this
+  --no-empty-directory with it: only if something to print lies in it
   -z                   a byte 0 ends each name, and none is quoted
   -h, --help           this text (-h: alone)
 
