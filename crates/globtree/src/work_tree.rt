@@ -212,7 +212,7 @@ pub(crate) fn index_place<R: Files + Env + AllocGlobal>(
 
 /// Goes to the top of a work tree, which is told from the current folder. Paths are told from that folder then, where it lies in the work
 /// tree, and else from the top. Without a work tree nothing is gone to.
-fn standpoint_from<R: Files>(
+fn standpoint_from<R: Files + Env + AllocGlobal>(
     rt: &R,
     alloc: Global,
     here: &[u8],
