@@ -1,5 +1,5 @@
 -- Lines of paths that are told from a standpoint.
-use Rattle.std.proofs.Common.{◌≡◌, ℕ, Bool, true, false, List, [], ◌∷◌, ◌++◌, if◌then◌else◌, Option, subst, sym, ◌∙◌}
+use Rattle.std.proofs.Common.{◌≡◌, ◌&&◌, ◌||◌, not, refl, ℕ, Bool, true, false, List, [], ◌∷◌, ◌++◌, if◌then◌else◌, Option, subst, sym, ◌∙◌}
 use Rattle.std.proofs.lemmas.Bool.{false≢true}
 use Rattle.std.specs.Prelude.{MatchBool}
 use Rattle.std.specs.Io.KnownBytes.{Appends}
@@ -39,3 +39,12 @@ where_true A B false told is holds a = absurd (false≢true (sym is ∙ holds))
 pub where_false : (A B : Type 0) (asked told : Bool) → told ≡ asked → told ≡ false → B → MatchBool asked A B
 where_false A B false told is fails b = b
 where_false A B true told is fails b = absurd (false≢true (sym fails ∙ is))
+
+-- where the index alone is listed, nothing else is asked for
+pub index_alone : (cached others ignored standard : Bool) → (cached && not ((others || ignored) || standard)) ≡ true
+    → (cached ≡ true) × (others ≡ false) × (ignored ≡ false)
+index_alone true false false false holds = (refl, refl, refl)
+index_alone true false false true holds = absurd (false≢true holds)
+index_alone true false true standard holds = absurd (false≢true holds)
+index_alone true true ignored standard holds = absurd (false≢true holds)
+index_alone false others ignored standard holds = absurd (false≢true holds)
