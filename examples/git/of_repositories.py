@@ -48,6 +48,7 @@ UNREAD = {
 UNKNOWN_FOLDER = re.compile(rb"fatal: failed to expand user dir in: '%\(prefix\)/[^\n]*\n")
 OF_FORMAT = re.compile(rb"repo version|unknown repository extension")
 WARNINGS = re.compile(rb"(warning: [^\n]*\n)+")
+BARE_WITH_WORK_TREE = b"warning: core.bare and core.worktree do not make sense\n"
 RELATIVE_CONDITION = b"error: relative config include conditionals must come from files\n"
 NO_WORK_TREE = b"fatal: this operation must be run in a work tree\n"
 LISTINGS = ("files", "status")
@@ -216,7 +217,7 @@ class Comparison:
             return OF_CONFIG
         if command == "status" and OF_STATUS in NAMED and NO_OBJECT.search(expected.errors):
             return OF_STATUS
-        if RELATIVE_CONDITION in expected.errors and found.is_as(expected._replace(errors=found.errors)):
+        if (RELATIVE_CONDITION in expected.errors or expected.errors == BARE_WITH_WORK_TREE) and found.is_as(expected._replace(errors=found.errors)):
             return MESSAGES
         unread = next((kind for kind, words in UNREAD.items() if words in fault(found)), None)
         return unread or next((kind for kind, holds in TOLD.items() if holds(self.pair.made, question)), None)
@@ -228,8 +229,10 @@ class Comparison:
         is_fault = not is_answer(expected) and not is_answer(found) and not found.output
         if expected.status == found.status and ORIGIN.sub(b"file:", expected.output) == ORIGIN.sub(b"file:", found.output):
             return True
+        one, other = (re.sub(rb"'[^'\n]*'", b"", text) for text in (fault(found), expected.errors))
+        is_unread = WARNINGS.fullmatch(expected.errors) and one and one in other
         is_unentered = expected.errors.startswith(b"fatal: cannot chdir to")
-        return is_fault or is_unentered or OF_FORMAT.search(found.errors) or b"/." in self.pair.made.variables.get(b"GIT_CONFIG_SYSTEM", b"")
+        return is_fault or is_unread or is_unentered or OF_FORMAT.search(found.errors) or b"/." in self.pair.made.variables.get(b"GIT_CONFIG_SYSTEM", b"")
 
     # ---- texts of faults
 
