@@ -386,7 +386,7 @@ def ask_repository(current, words, fields, *asked):
         ran = subprocess.run(command, cwd=folder, env={**ALONE, **variables}, capture_output=True, check=False)
     told, wrong = (text.decode().replace(top, "") for text in (ran.stdout, ran.stderr))
     fault = re.search(r"^fatal: (.*(\n\t.*)*)", wrong, re.M)
-    return told.rstrip("\n"), fault and re.sub(r": (Success|No such file or directory)$", "", fault[1].replace("\n\t", " "))
+    return told.rstrip("\n"), fault and re.sub(r": (Success|No such file or directory|Not a directory)$", "", fault[1].replace("\n\t", " "))
 
 
 def repositories(current, words, *fields):

@@ -1,11 +1,11 @@
 -- The folders of a repository.
-use Rattle.std.specs.Prelude.{ℕ, Bool, true, false, not, ◌&&◌, ◌||◌, ◌==◌, if◌then◌else◌, List, [], ◌++◌, length, codes, Option, Some, None, option_map, unwrap_or, is_some, Result, Ok, Err}
+use Rattle.std.specs.Prelude.{ℕ, Bool, true, false, not, ◌&&◌, ◌||◌, ◌==◌, if◌then◌else◌, List, ◌++◌, length, codes, Option, Some, None, option_map, unwrap_or, is_some, Result, Ok, Err}
 use Rattle.git_repository.specs.FileTree.{FileTree}
-use Rattle.git_repository.specs.GitFolders.{◌>>=◌, common_folder_by, real_path_of, told_from}
+use Rattle.git_repository.specs.GitFolders.{◌>>=◌, common_folder_by, is_absolute, real_path_of, told_from}
 use Rattle.git_repository.specs.declared.environment.Environment.{Environment}
 use Rattle.git_repository.specs.declared.fault.FindFault.{FindFault}
 use Rattle.git_repository.specs.declared.fault.FindFault.TheVariants.{At}
-use Rattle.git_repository.specs.declared.fault.Wrong.TheVariants.{LeadsNowhere}
+use Rattle.git_repository.specs.declared.fault.Wrong.TheVariants.{NotEntered}
 use Rattle.git_repository.specs.declared.folders.Folders.{Folders}
 use Rattle.git_repository.specs.declared.folders.RepositoryFile.{RepositoryFile}
 use Rattle.git_repository.specs.declared.folders.RepositoryFile.TheVariants as file
@@ -44,9 +44,14 @@ found_work_tree found = work_tree_by found.by found.top
 abbrev pub real_work_tree : FileTree → List ℕ → Result (Option (List ℕ)) (FindFault (List ℕ))
 real_work_tree tree path = real_path_of tree path >>= λ real. Ok (Some real)
 
--- that which `core.worktree` tells from the git folder; an empty path leads nowhere
+-- that which `core.worktree` tells: one that is told from the git folder, and isn't empty, is entered from there
+abbrev pub enters : FileTree → List ℕ → List ℕ → Bool
+enters tree folder told = not (length told == 0) && tree.can_enter (told_from folder told)
+
 abbrev pub configured_work_tree : FileTree → List ℕ → List ℕ → Result (Option (List ℕ)) (FindFault (List ℕ))
-configured_work_tree tree folder told = if length told == 0 then Err (At LeadsNowhere []) else real_work_tree tree (told_from folder told)
+configured_work_tree tree folder told =
+    if is_absolute told then real_work_tree tree told
+    else (if enters tree folder told then real_work_tree tree (told_from folder told) else Err (At NotEntered told))
 
 -- by what the configuration tells, where that counts
 abbrev pub work_tree_told : FileTree → Bool → Option (List ℕ) → Found (List ℕ) → Result (Option (List ℕ)) (FindFault (List ℕ))

@@ -1,6 +1,6 @@
--- How Git names the file `info/exclude` where it tells that a line of it decides.
-use Rattle.std.specs.Prelude.{ℕ, Bool, true, false, not, ◌&&◌, ◌||◌, nat_eq, if◌then◌else◌, List, ◌++◌, length, drop, codes, Option, Some, None, is_some, Result, Ok}
-use Rattle.std.specs.List.{starts_with}
+-- How Git names the files of a repository, where it tells which line decides or where a value stands.
+use Rattle.std.specs.Prelude.{ℕ, Bool, true, false, not, ◌&&◌, ◌||◌, ◌==◌, nat_eq, if◌then◌else◌, List, ◌++◌, length, drop, codes, Option, Some, None, is_some, Result, Ok}
+use Rattle.std.specs.List.{position_or_len, starts_with}
 use Rattle.std.specs.Str.{bytes_eq}
 use Rattle.git_repository.specs.FileTree.{FileTree}
 use Rattle.git_repository.specs.Folders.{counts}
@@ -26,9 +26,14 @@ told_there by.Folder git_folder = codes ".git"
 told_there by.Bare git_folder = codes "."
 told_there _ git_folder = git_folder
 
+-- as it is told elsewhere: where it was found as `.git`, links are followed
+abbrev pub told_elsewhere : FileTree → FoundBy → List ℕ → Result (List ℕ) (FindFault (List ℕ))
+told_elsewhere tree by.Folder git_folder = real_path_of tree git_folder
+told_elsewhere tree _ git_folder = Ok git_folder
+
 -- as it is told in the current folder
-abbrev pub told_folder : List ℕ → Found (List ℕ) → List ℕ
-told_folder current found = if bytes_eq found.top current then told_there found.by found.git_folder else found.git_folder
+abbrev pub told_folder : FileTree → List ℕ → Found (List ℕ) → Result (List ℕ) (FindFault (List ℕ))
+told_folder tree current found = if bytes_eq found.top current then Ok (told_there found.by found.git_folder) else told_elsewhere tree found.by found.git_folder
 
 -- told from the top of the work tree: as in the current folder, if this is the top; without links, if this lies below it
 abbrev pub name_from : FileTree → List ℕ → List ℕ → List ℕ → Result (List ℕ) (FindFault (List ℕ))
@@ -48,7 +53,7 @@ is_folder _ = false
 -- the name of the git folder
 unfoldable pub git_name : FileTree → Environment (List ℕ) → Settings (List ℕ) → Found (List ℕ) → List ℕ → List ℕ → Result (List ℕ) (FindFault (List ℕ))
 git_name tree words settings found current top =
-    if is_folder found.by && not (is_told tree words settings found) then Ok (codes ".git") else name_from tree current top (told_folder current found)
+    if is_folder found.by && not (is_told tree words settings found) then Ok (codes ".git") else (told_folder tree current found >>= λ told. name_from tree current top told)
 
 -- the name of the common folder: as `GIT_COMMON_DIR` tells it, its path without links, or the git folder's name
 abbrev pub common_name : FileTree → Environment (List ℕ) → Settings (List ℕ) → Found (List ℕ) → List ℕ → List ℕ → Option (List ℕ) → Result (List ℕ) (FindFault (List ℕ))
@@ -56,11 +61,29 @@ common_name tree words settings found current top (Some told) = Ok told
 common_name tree words settings found current top None =
     if tree.is_there (found.git_folder ++ codes "/commondir") then own_common_folder tree found.git_folder else git_name tree words settings found current top
 
--- a path without the current folder in front
-unfoldable pub without_dot : List ℕ → List ℕ
-without_dot path = if starts_with nat_eq path (codes "./") then drop 2 path else path
+-- a path without the current folder in front: `./`, and the slashes behind it
+abbrev pub without_slashes : List ℕ → List ℕ
+without_slashes path = drop (position_or_len (λ b. not (b == 47)) path) path
 
+unfoldable pub without_dot : List ℕ → List ℕ
+without_dot path = if starts_with nat_eq path (codes "./") then without_slashes (drop 2 path) else path
+
+-- a file in a folder that is named so: no slash is put behind one
+abbrev pub file_in : List ℕ → List ℕ → List ℕ
+file_in folder name = without_dot (folder_of folder ++ (codes "/" ++ name))
+
+-- how Git names `info/exclude`, `config` and `config.worktree`: before `config` it puts a slash in any case
 unfoldable pub exclude_name : FileTree → Environment (List ℕ) → Settings (List ℕ) → Found (List ℕ) → List ℕ → List ℕ → Result (List ℕ) (FindFault (List ℕ))
 exclude_name tree words settings found current top = do
   name ← common_name tree words settings found current top words.common_dir
-  Ok (without_dot (name ++ codes "/info/exclude"))
+  Ok (file_in name (codes "info/exclude"))
+
+unfoldable pub config_name : FileTree → Environment (List ℕ) → Settings (List ℕ) → Found (List ℕ) → List ℕ → List ℕ → Result (List ℕ) (FindFault (List ℕ))
+config_name tree words settings found current top = do
+  name ← common_name tree words settings found current top words.common_dir
+  Ok (without_dot (name ++ codes "/config"))
+
+unfoldable pub worktree_config_name : FileTree → Environment (List ℕ) → Settings (List ℕ) → Found (List ℕ) → List ℕ → List ℕ → Result (List ℕ) (FindFault (List ℕ))
+worktree_config_name tree words settings found current top = do
+  name ← git_name tree words settings found current top
+  Ok (file_in name (codes "config.worktree"))

@@ -26,6 +26,8 @@ pub enum Wrong {
     CommonFolder,
     /// The path leads nowhere.
     LeadsNowhere,
+    /// `core.worktree` tells this path from the git folder, and no folder is there that can be entered.
+    NotEntered,
     /// This folder above lies on another file system.
     Border,
     /// The folder belongs to another user, and isn't named as safe.
@@ -92,6 +94,7 @@ fn words_of(wrong: Wrong) -> (&'static str, &'static str) {
         Wrong::NotNamed => ("not a git repository: '", "'"),
         Wrong::CommonFolder => ("failed to read ", ""),
         Wrong::LeadsNowhere => ("Invalid path '", "'"),
+        Wrong::NotEntered => ("cannot chdir to '", "'"),
         Wrong::Border => (
             "not a git repository (or any parent up to mount point ",
             ")",

@@ -3,7 +3,7 @@ ghost use Rattle.std.specs.Prelude.{◌≡◌, IfOk, Ok, option_map};
 ghost use Rattle.std.specs.Vec.{vec_items};
 ghost use Rattle.git_repository.specs.Answers.{Gives, found_with};
 ghost use Rattle.git_repository.specs.Environments.{environment_with};
-ghost use Rattle.git_repository.specs.Folders.{configured_work_tree, counts, file_path, folders_of, folders_with, found_work_tree, is_own, settings_with, work_tree_of};
+ghost use Rattle.git_repository.specs.Folders.{configured_work_tree, counts, enters, file_path, folders_of, folders_with, found_work_tree, is_own, settings_with, work_tree_of};
 
 use crate::environment::Environment;
 use crate::fault::{FindFault, Wrong};
@@ -133,11 +133,31 @@ fn configured_work_tree<S: FileSystem>(
 ) -> Result<Option<Vec<u8>>, FindFault<Vec<u8>>>
     ensures { Gives (S.is_known source.now) (λ path. option_map vec_items path) result (configured_work_tree (S.tree source.now) folder.now told.now) }
 {
-    if told.is_empty() {
-        return Err(FindFault::At(Wrong::LeadsNowhere, Vec::new(alloc)));
+    if told.starts_with(b"/") {
+        let path = Vec::from_slice(alloc, told)?;
+        return Ok(Some(real_path_of(source, path)?));
+    }
+    if !enters(alloc, source, folder, told)? {
+        return Err(FindFault::At(Wrong::NotEntered, Vec::from_slice(alloc, told)?));
     }
     let path = told_from(alloc, folder, told)?;
     Ok(Some(real_path_of(source, path)?))
+}
+
+/// Whether a work tree that is told from the git folder can be entered.
+fn enters<S: FileSystem>(
+    alloc: Global,
+    source: &S,
+    folder: &[u8],
+    told: &[u8],
+) -> Result<bool, AllocError>
+    ensures { IfOk result (λ answer. S.is_known source.now → answer ≡ enters (S.tree source.now) folder.now told.now) }
+{
+    if told.is_empty() {
+        return Ok(false);
+    }
+    let path = told_from(alloc, folder, told)?;
+    source.can_enter(&path)
 }
 
 /// A file that Git reads of a repository.

@@ -27,7 +27,7 @@ pub use folders::{Folders, RepositoryFile, file_path, folders_of, work_tree_of};
 pub use format::{FormatFault, check_format};
 pub use found::{Found, FoundBy};
 pub use head::digit_count;
-pub use naming::{exclude_name, git_name};
+pub use naming::{config_name, exclude_name, git_name, worktree_config_name};
 pub use nested::is_repository;
 pub use safety::{Safety, trusts};
 pub use search::find;

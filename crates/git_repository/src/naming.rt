@@ -1,10 +1,10 @@
-//! How Git names the file `info/exclude` where it tells that a line of it decides.
-ghost use Rattle.std.specs.Prelude.{◌≡◌, ◌++◌, IfOk, Ok, codes};
+//! How Git names the files of a repository, where it tells which line decides or where a value stands.
+ghost use Rattle.std.specs.Prelude.{◌≡◌, ◌==◌, IfOk, Ok, not, position};
 ghost use Rattle.std.specs.Vec.{vec_items};
 ghost use Rattle.git_repository.specs.Answers.{Gives, found_with};
 ghost use Rattle.git_repository.specs.Environments.{environment_with};
 ghost use Rattle.git_repository.specs.Folders.{settings_with};
-ghost use Rattle.git_repository.specs.Naming.{common_name, exclude_name, git_name, is_folder, is_told, lies_below, name_below, name_from, told_folder, told_there, without_dot};
+ghost use Rattle.git_repository.specs.Naming.{common_name, config_name, exclude_name, file_in, git_name, is_folder, is_told, lies_below, name_below, name_from, told_elsewhere, told_folder, told_there, without_dot, without_slashes, worktree_config_name};
 
 use crate::ceilings::folder_of;
 use crate::environment::Environment;
@@ -47,14 +47,35 @@ fn told_there(by: FoundBy, git_folder: &[u8]) -> &[u8]
     }
 }
 
+/// The git folder, as it is told in another folder than that in which it was found.
+fn told_elsewhere<S: FileSystem>(
+    alloc: Global,
+    source: &S,
+    by: FoundBy,
+    git_folder: &[u8],
+) -> Result<Vec<u8>, FindFault<Vec<u8>>>
+    ensures { Gives (S.is_known source.now) vec_items result (told_elsewhere (S.tree source.now) by git_folder.now) }
+{
+    let folder = Vec::from_slice(alloc, git_folder)?;
+    match by {
+        FoundBy::Folder => real_path_of(source, folder),
+        FoundBy::Gitfile | FoundBy::Bare | FoundBy::Named => Ok(folder),
+    }
+}
+
 /// The git folder, as it is told in the current folder.
-fn told_folder<'a>(current: &[u8], found: &'a Found<Vec<u8>>) -> &'a [u8]
-    ensures { result.now ≡ told_folder current.now (found_with vec_items found.now) }
+fn told_folder<S: FileSystem>(
+    alloc: Global,
+    source: &S,
+    current: &[u8],
+    found: &Found<Vec<u8>>,
+) -> Result<Vec<u8>, FindFault<Vec<u8>>>
+    ensures { Gives (S.is_known source.now) vec_items result (told_folder (S.tree source.now) current.now (found_with vec_items found.now)) }
 {
     if found.top.as_slice() == current {
-        return told_there(found.by, &found.git_folder);
+        return Ok(Vec::from_slice(alloc, told_there(found.by, &found.git_folder))?);
     }
-    &found.git_folder
+    told_elsewhere(alloc, source, found.by, &found.git_folder)
 }
 
 /// The name of a git folder that is told in the current folder, from the top of the work tree.
@@ -127,13 +148,11 @@ pub fn git_name<S: FileSystem>(
 ) -> Result<Vec<u8>, FindFault<Vec<u8>>>
     ensures { Gives (S.is_known source.now) vec_items result (git_name (S.tree source.now) (environment_with (λ b. b.now) words.now) (settings_with (λ b. b.now) settings.now) (found_with vec_items found.now) current.now top.now) }
 {
-    if !is_folder(found.by) {
-        return name_from(alloc, source, current, top, told_folder(current, found));
-    }
-    if !is_told(alloc, source, words, settings, found)? {
+    if is_folder(found.by) && !is_told(alloc, source, words, settings, found)? {
         return Ok(Vec::from_slice(alloc, b".git")?);
     }
-    name_from(alloc, source, current, top, told_folder(current, found))
+    let told = told_folder(alloc, source, current, found)?;
+    name_from(alloc, source, current, top, &told)
 }
 
 /// The name of the common folder.
@@ -158,22 +177,40 @@ fn common_name<S: FileSystem>(
     git_name(alloc, source, words, settings, found, current, top)
 }
 
-/// A path without the current folder in front.
+/// A path without the current folder in front: `./`, and the slashes behind it.
 #[tactic(auto, unfolding(crate::specs::Naming::without_dot))]
 fn without_dot(path: &[u8]) -> &[u8]
     ensures { result.now ≡ without_dot path.now }
 {
     match path.strip_prefix(b"./") {
-        Some(rest) => rest,
+        Some(rest) => without_slashes(rest),
         None => path,
     }
 }
 
-/// The name of `info/exclude` in a folder that is named so.
-fn exclude_in(alloc: Global, folder: &[u8]) -> Result<Vec<u8>, AllocError>
-    ensures { IfOk result (λ path. path.items ≡ without_dot (folder.now ++ codes "/info/exclude")) }
+/// A path without the slashes in front.
+fn without_slashes(path: &[u8]) -> &[u8]
+    ensures { result.now ≡ without_slashes path.now }
 {
-    let path = joined(alloc, folder, b"/info/exclude")?;
+    match first_other(path) {
+        Some(place) => &path[place..],
+        None => &[],
+    }
+}
+
+/// The place of the first byte that is no slash.
+fn first_other(path: &[u8]) -> Option<usize>
+    ensures { result ≡ position (λ b. not (b == 47)) path.now }
+{
+    path.iter().position(|b| *b != b'/')
+}
+
+/// The name of a file in a folder that is named so.
+fn file_in(alloc: Global, folder: &[u8], name: &[u8]) -> Result<Vec<u8>, AllocError>
+    ensures { IfOk result (λ path. path.items ≡ file_in folder.now name.now) }
+{
+    let mut path = joined(alloc, folder_of(folder), b"/")?;
+    path.extend_from_slice(name)?;
     Vec::from_slice(alloc, without_dot(&path))
 }
 
@@ -196,5 +233,47 @@ pub fn exclude_name<S: FileSystem>(
     ensures { Gives (S.is_known source.now) vec_items result (exclude_name (S.tree source.now) (environment_with (λ b. b.now) words.now) (settings_with (λ b. b.now) settings.now) (found_with vec_items found.now) current.now top.now) }
 {
     let name = common_name(alloc, source, words, settings, found, current, top)?;
-    Ok(exclude_in(alloc, &name)?)
+    Ok(file_in(alloc, &name, b"info/exclude")?)
+}
+
+/// How Git names the repository's file of configuration. It lies in the same folder as `info`, and `current` and `top` are those of
+/// [`git_name`].
+///
+/// # Errors
+/// As those of [`exclude_name`].
+#[tactic(auto, unfolding(crate::specs::Naming::config_name))]
+pub fn config_name<S: FileSystem>(
+    alloc: Global,
+    source: &S,
+    words: &Environment<&[u8]>,
+    settings: &Settings<&[u8]>,
+    found: &Found<Vec<u8>>,
+    current: &[u8],
+    top: &[u8],
+) -> Result<Vec<u8>, FindFault<Vec<u8>>>
+    ensures { Gives (S.is_known source.now) vec_items result (config_name (S.tree source.now) (environment_with (λ b. b.now) words.now) (settings_with (λ b. b.now) settings.now) (found_with vec_items found.now) current.now top.now) }
+{
+    let name = common_name(alloc, source, words, settings, found, current, top)?;
+    let path = joined(alloc, &name, b"/config")?;
+    Ok(Vec::from_slice(alloc, without_dot(&path))?)
+}
+
+/// How Git names the file of configuration for one work tree alone.
+///
+/// # Errors
+/// As those of [`git_name`].
+#[tactic(auto, unfolding(crate::specs::Naming::worktree_config_name))]
+pub fn worktree_config_name<S: FileSystem>(
+    alloc: Global,
+    source: &S,
+    words: &Environment<&[u8]>,
+    settings: &Settings<&[u8]>,
+    found: &Found<Vec<u8>>,
+    current: &[u8],
+    top: &[u8],
+) -> Result<Vec<u8>, FindFault<Vec<u8>>>
+    ensures { Gives (S.is_known source.now) vec_items result (worktree_config_name (S.tree source.now) (environment_with (λ b. b.now) words.now) (settings_with (λ b. b.now) settings.now) (found_with vec_items found.now) current.now top.now) }
+{
+    let name = git_name(alloc, source, words, settings, found, current, top)?;
+    Ok(file_in(alloc, &name, b"config.worktree")?)
 }

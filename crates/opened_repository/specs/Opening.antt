@@ -7,6 +7,7 @@ use Rattle.git_repository.specs.Folders.{file_path, folders_of, work_tree_of}
 use Rattle.git_repository.specs.GitFolders.{is_absolute, real_path_of, told_from}
 use Rattle.git_repository.specs.Naming.{exclude_name, git_name, lies_below}
 use Rattle.git_repository.specs.Search.{Finds, folder_of}
+use Rattle.git_repository.specs.declared.environment.Environment.{Environment}
 use Rattle.git_repository.specs.declared.folders.Folders.{Folders}
 use Rattle.git_repository.specs.declared.folders.RepositoryFile.TheVariants as file
 use Rattle.git_repository.specs.declared.found.Found.{Found}
@@ -60,6 +61,11 @@ top_above current (Some top) = if lies_below top current then Some top else None
 abbrev pub work_place : List ℕ → Option (List ℕ) → List ℕ
 work_place current None = current
 work_place current (Some top) = top
+
+-- what counts there of the environment: without a top above, the current folder is told as the top
+abbrev pub words_there : Said → Option (List ℕ) → Environment (List ℕ)
+words_there said None = record said.environment { work_tree = Some said.current }
+words_there said (Some top) = said.environment
 
 -- its path, which `PWD` may tell with links
 abbrev pub stands_for : FileTree → List ℕ → List ℕ → Bool
@@ -162,10 +168,9 @@ module _ (tree : FileTree) (Shows : Files) (said : Said) where
     work_tree = path_if own (file_path said.environment folders file.WorktreeConfig);
   }
 
-  -- how Git tells the git folder in the folder where it works; without a top above, as if the current folder were told as the top
+  -- how Git tells the git folder in the folder where it works
   abbrev pub GitThere : Found (List ℕ) → Settings (List ℕ) → Option (List ℕ) → Answer (List ℕ)
-  GitThere found own (Some top) = In (is' (git_name tree said.environment own found said.current top))
-  GitThere found own None = In (is' (git_name tree (record said.environment { work_tree = Some said.current }) own found said.current said.current))
+  GitThere found own top = In (is' (git_name tree (words_there said top) own found said.current (work_place said.current top)))
 
   abbrev pub KnownIn : Found (List ℕ) → Settings (List ℕ) → Option (List ℕ) → Folders (List ℕ) → Answer Known
   KnownIn found own top folders = do

@@ -1,15 +1,12 @@
 -- Where the configuration lies that counts in a current folder, and how Git names its files.
-use Rattle.std.specs.Prelude.{ℕ, ◌-◌, Bool, true, false, if◌then◌else◌, List, ◌++◌, length, take, codes, Option, Some, None, option_map, Result, Ok, Err}
-use Rattle.std.specs.Str.{bytes_eq}
+use Rattle.std.specs.Prelude.{ℕ, Bool, true, false, if◌then◌else◌, List, Option, Some, None, option_map, Result, Ok, Err}
 use Rattle.std.specs.Vec.{vec_items}
 use Rattle.git_config.specs.Configuration.{Seen}
 use Rattle.git_repository.specs.FileTree.{FileTree}
-use Rattle.git_repository.specs.GitFolders.{told_from}
-use Rattle.git_repository.specs.Naming.{exclude_name}
+use Rattle.git_repository.specs.Naming.{config_name, worktree_config_name}
 use Rattle.git_repository.specs.declared.fault.FindFault.TheVariants.{At, NotFound}
 use Rattle.git_repository.specs.declared.fault.Wrong.{Wrong}
 use Rattle.git_repository.specs.declared.fault.Wrong.TheVariants.{Bare, Border, NotNamed, Owner}
-use Rattle.git_repository.specs.declared.folders.Folders.{Folders}
 use Rattle.git_repository.specs.declared.found.Found.{Found}
 use Rattle.git_repository.specs.declared.settings.Settings.{Settings}
 use Rattle.opened_repository.specs.declared.fault.OpenFault.{OpenFault}
@@ -18,7 +15,7 @@ use Rattle.opened_repository.specs.declared.fault.RepositoryFault.TheVariants.{F
 use Rattle.opened_repository.specs.declared.place.ConfigPlace.{ConfigPlace}
 use Rattle.opened_repository.specs.Alone.{OwnSettings}
 use Rattle.opened_repository.specs.Answers.{Answer, Asked, Fault, In, fault_of, is, is', ◌>>=◌}
-use Rattle.opened_repository.specs.Opening.{FindsTrusted, FoldersOf, KnownIn, NameFrom, Outer, TopOf, path_if, top_above}
+use Rattle.opened_repository.specs.Opening.{FindsTrusted, FoldersOf, KnownIn, Outer, TopOf, path_if, top_above, words_there, work_place}
 use Rattle.opened_repository.specs.Readings.{Files, Known, Reads, known_of, listed_by, nothing_known}
 use Rattle.opened_repository.specs.Results.{Said}
 
@@ -55,30 +52,14 @@ tells_outside Memory = false
 tells_outside (File fault) = false
 tells_outside (Told fault) = is_outside (fault_of fault)
 
--- ---- names
-
--- a file that lies in the folder of `info` has the name of `info/exclude` up to that
-abbrev pub beside : List ℕ → List ℕ → List ℕ
-beside exclude name = take (length exclude - 12) exclude ++ name
-
--- a folder as the current folder tells it, or by its path where Git goes to the top
-abbrev pub folder_there : List ℕ → Option (List ℕ) → List ℕ → List ℕ
-folder_there current None folder = folder
-folder_there current (Some top) folder = told_from current folder
-
-abbrev pub worktree_name : List ℕ → Option (List ℕ) → Folders (List ℕ) → List ℕ → List ℕ
-worktree_name current top folders exclude =
-    if bytes_eq folders.git_folder folders.common_folder then beside exclude (codes "config.worktree")
-    else folder_there current top folders.git_folder ++ codes "/config.worktree"
-
 module _ (tree : FileTree) (Shows : Files) (said : Said) where
-  -- the name of `info/exclude` from the top to which Git goes; else from the current folder, as if that were told as the top
-  abbrev pub ExcludeHere : Found (List ℕ) → Settings (List ℕ) → Answer (List ℕ)
-  ExcludeHere found own = In (is' (exclude_name tree (record said.environment { work_tree = Some said.current }) own found said.current said.current))
+  -- ---- names of files, in the folder where Git works
 
-  abbrev pub ExcludeThere : Found (List ℕ) → Settings (List ℕ) → Option (List ℕ) → Answer (List ℕ)
-  ExcludeThere found own (Some top) = NameFrom tree Shows said found own top
-  ExcludeThere found own None = ExcludeHere found own
+  abbrev pub ConfigThere : Found (List ℕ) → Settings (List ℕ) → Option (List ℕ) → Answer (List ℕ)
+  ConfigThere found own top = In (is' (config_name tree (words_there said top) own found said.current (work_place said.current top)))
+
+  abbrev pub WorktreeConfigThere : Found (List ℕ) → Settings (List ℕ) → Option (List ℕ) → Answer (List ℕ)
+  WorktreeConfigThere found own top = In (is' (worktree_config_name tree (words_there said top) own found said.current (work_place said.current top)))
 
   -- ---- the place
 
@@ -88,12 +69,13 @@ module _ (tree : FileTree) (Shows : Files) (said : Said) where
     own ← OwnSettings Shows said.environment folders
     top ← TopOf tree Shows said found own
     known ← KnownIn tree Shows said found own top folders
-    exclude ← ExcludeThere found own (top_above said.current top)
+    config ← ConfigThere found own (top_above said.current top)
+    work_tree ← WorktreeConfigThere found own (top_above said.current top)
     is (Ok (record {
       known = known;
       top = top_above said.current top;
-      config = Some (beside exclude (codes "config"));
-      work_tree = path_if own.has_worktree_config (worktree_name said.current (top_above said.current top) folders exclude);
+      config = Some config;
+      work_tree = path_if own.has_worktree_config work_tree;
     }))
 
   abbrev pub PlaceFound : Answer Place

@@ -17,13 +17,12 @@ use crate::fault::OpenFault;
 use crate::head::{Head, head_of};
 use crate::own::lent;
 use crate::reading::read;
-use crate::there::{check_relatives, folder_of, shown, top_above, work_place};
+use crate::there::{check_relatives, folder_of, shown, top_above, words_there, work_place};
 use crate::told::Told;
 use core_settings::ConfigPlaces;
 use git_config::{Config, ConfigFiles};
 use git_repository::{
-    Environment, FileSystem, FindFault, Folders, Found, RepositoryFile, Settings, Wrong, file_path,
-    git_name,
+    FileSystem, FindFault, Folders, Found, RepositoryFile, Settings, Wrong, file_path, git_name,
 };
 use std::alloc::{AllocError, Global};
 
@@ -134,28 +133,9 @@ fn git_there<S: FileSystem + ConfigFiles>(
 ) -> Result<Vec<u8>, OpenFault<S::Fault>>
     ensures { Tells (S.is_known source.now) vec_items result (GitThere (S.tree source.now) (S.shows source.now) (said_of told.now) (found_with vec_items found.now) (settings_with vec_items own.now) (option_map vec_items top.now)) }
 {
-    let current = told.current;
-    match top {
-        Some(top) => {
-            let environment = &told.environment;
-            Ok(git_name(alloc, source, environment, &lent(own), found, current, top)?)
-        }
-        None => {
-            let environment = Environment {
-                work_tree: Some(current),
-                ..told.environment
-            };
-            Ok(git_name(
-                alloc,
-                source,
-                &environment,
-                &lent(own),
-                found,
-                current,
-                current,
-            )?)
-        }
-    }
+    let (words, current) = (words_there(told, top), told.current);
+    let place = work_place(current, top);
+    Ok(git_name(alloc, source, &words, &lent(own), found, current, place)?)
 }
 
 /// A path from the root, without links.

@@ -162,7 +162,7 @@ fn name_of<S: FileSystem + ConfigFiles>(
 }
 
 /// How Git names the file `info/exclude` from the top of a work tree.
-pub(crate) fn name_from<S: FileSystem + ConfigFiles>(
+fn name_from<S: FileSystem + ConfigFiles>(
     alloc: Global,
     source: &S,
     told: &Told<'_>,

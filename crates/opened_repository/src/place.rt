@@ -1,29 +1,29 @@
 //! Where the configuration lies that counts in a current folder, in a repository or outside of one, and how Git names its files.
-ghost use Rattle.std.specs.Prelude.{◌≡◌, IfOk, MatchResult, false, option_map, true};
+ghost use Rattle.std.specs.Prelude.{◌≡◌, MatchResult, false, option_map, true};
 ghost use Rattle.std.specs.Vec.{vec_items};
 ghost use Rattle.git_repository.specs.Answers.{found_with};
-ghost use Rattle.git_repository.specs.Folders.{folders_with, settings_with};
+ghost use Rattle.git_repository.specs.Folders.{settings_with};
 ghost use Rattle.core_settings.specs.Views.{seen_settings};
 ghost use Rattle.opened_repository.specs.Answers.{Tells, fault_of};
 ghost use Rattle.opened_repository.specs.Opening.{path_if};
-ghost use Rattle.opened_repository.specs.Places.{ExcludeHere, ExcludeThere, Locates, PlaceFound, PlaceIn, ReadsPlace, beside, folder_there, is_outside, is_passed, outside, place_of, tells_outside, worktree_name};
+ghost use Rattle.opened_repository.specs.Places.{ConfigThere, Locates, PlaceFound, PlaceIn, ReadsPlace, WorktreeConfigThere, is_outside, is_passed, outside, place_of, tells_outside};
 ghost use Rattle.opened_repository.specs.Results.{said_of};
 
 use crate::around::{KnownRepository, nothing_known};
 use crate::fault::{OpenFault, RepositoryFault};
-use crate::inside::{known_in, told_from};
-use crate::order::{folders, name_from, work_tree};
+use crate::inside::known_in;
+use crate::order::{folders, work_tree};
 use crate::own::{lent, read_own};
 use crate::reading::read;
-use crate::there::top_above;
+use crate::there::{top_above, words_there, work_place};
 use crate::told::Told;
 use crate::trusted::{find_trusted, read_outer};
 use core_settings::ConfigPlaces;
 use git_config::{Config, ConfigFiles};
 use git_repository::{
-    Environment, FileSystem, FindFault, Folders, Found, Settings, Wrong, exclude_name,
+    FileSystem, FindFault, Found, Settings, Wrong, config_name, worktree_config_name,
 };
-use std::alloc::{AllocError, Global};
+use std::alloc::Global;
 use std::rc::Rc;
 
 /// Where the configuration lies that counts in a current folder.
@@ -160,7 +160,8 @@ fn is_passed(wrong: Wrong) -> bool
         | Wrong::NoPath
         | Wrong::NoGitFolder
         | Wrong::CommonFolder
-        | Wrong::LeadsNowhere => false,
+        | Wrong::LeadsNowhere
+        | Wrong::NotEntered => false,
     }
 }
 
@@ -178,24 +179,18 @@ fn place_in<S: FileSystem + ConfigFiles>(
     let top = work_tree(alloc, source, told, &own, found)?;
     let known = known_in(alloc, source, told, found, &own, &top, &folders)?;
     let top = top_above(alloc, told.current, &top)?;
-    let exclude = exclude_there(alloc, source, told, found, &own, &top)?;
+    let config = config_there(alloc, source, told, found, &own, &top)?;
+    let work_tree = worktree_config_there(alloc, source, told, found, &own, &top)?;
     Ok(ConfigPlace {
         known,
-        config: Some(beside(alloc, &exclude, b"config")?),
-        work_tree: if_own(
-            alloc,
-            own.has_worktree_config,
-            told.current,
-            &top,
-            &folders,
-            &exclude,
-        )?,
+        config: Some(config),
+        work_tree: name_if(own.has_worktree_config, work_tree),
         top,
     })
 }
 
-/// The name of `info/exclude` from the top to which Git goes, or else from the current folder.
-fn exclude_there<S: FileSystem + ConfigFiles>(
+/// How Git names the repository's file in the folder in which it works; `top` is the top above the current folder.
+fn config_there<S: FileSystem + ConfigFiles>(
     alloc: Global,
     source: &S,
     told: &Told<'_>,
@@ -203,86 +198,32 @@ fn exclude_there<S: FileSystem + ConfigFiles>(
     own: &Settings<Vec<u8>>,
     top: &Option<Vec<u8>>,
 ) -> Result<Vec<u8>, OpenFault<S::Fault>>
-    ensures { Tells (S.is_known source.now) vec_items result (ExcludeThere (S.tree source.now) (S.shows source.now) (said_of told.now) (found_with vec_items found.now) (settings_with vec_items own.now) (option_map vec_items top.now)) }
+    ensures { Tells (S.is_known source.now) vec_items result (ConfigThere (S.tree source.now) (S.shows source.now) (said_of told.now) (found_with vec_items found.now) (settings_with vec_items own.now) (option_map vec_items top.now)) }
 {
-    match top {
-        Some(top) => name_from(alloc, source, told, found, own, top),
-        None => exclude_here(alloc, source, told, found, own),
-    }
+    let (words, current) = (words_there(told, top), told.current);
+    let place = work_place(current, top);
+    Ok(config_name(alloc, source, &words, &lent(own), found, current, place)?)
 }
 
-/// The name of `info/exclude` from the current folder.
-fn exclude_here<S: FileSystem + ConfigFiles>(
+/// How it names there the file for this work tree alone.
+fn worktree_config_there<S: FileSystem + ConfigFiles>(
     alloc: Global,
     source: &S,
     told: &Told<'_>,
     found: &Found<Vec<u8>>,
     own: &Settings<Vec<u8>>,
+    top: &Option<Vec<u8>>,
 ) -> Result<Vec<u8>, OpenFault<S::Fault>>
-    ensures { Tells (S.is_known source.now) vec_items result (ExcludeHere (S.tree source.now) (S.shows source.now) (said_of told.now) (found_with vec_items found.now) (settings_with vec_items own.now)) }
+    ensures { Tells (S.is_known source.now) vec_items result (WorktreeConfigThere (S.tree source.now) (S.shows source.now) (said_of told.now) (found_with vec_items found.now) (settings_with vec_items own.now) (option_map vec_items top.now)) }
 {
-    let current = told.current;
-    let environment = Environment {
-        work_tree: Some(current),
-        ..told.environment
-    };
-    Ok(exclude_name(
-        alloc,
-        source,
-        &environment,
-        &lent(own),
-        found,
-        current,
-        current,
-    )?)
+    let (words, current) = (words_there(told, top), told.current);
+    let place = work_place(current, top);
+    Ok(worktree_config_name(alloc, source, &words, &lent(own), found, current, place)?)
 }
 
-/// How many bytes `info/exclude` has.
-const EXCLUDE_SIZE: usize = 12;
-
-/// The name of a file of a git folder, by that of `info/exclude`.
-fn beside(alloc: Global, exclude: &[u8], name: &[u8]) -> Result<Vec<u8>, AllocError>
-    ensures { IfOk result (λ path. path.items ≡ beside exclude.now name.now) }
+/// A name, where it counts.
+fn name_if(counts: bool, name: Vec<u8>) -> Option<Vec<u8>>
+    ensures { option_map vec_items result ≡ path_if counts name.items }
 {
-    let size = exclude.len().saturating_sub(EXCLUDE_SIZE);
-    let mut path = Vec::from_slice(alloc, &exclude[..size])?;
-    path.extend_from_slice(name)?;
-    Ok(path)
-}
-
-/// The name of the file for this work tree alone, where it counts.
-fn if_own(
-    alloc: Global,
-    counts: bool,
-    current: &[u8],
-    top: &Option<Vec<u8>>,
-    folders: &Folders<Vec<u8>>,
-    exclude: &[u8],
-) -> Result<Option<Vec<u8>>, AllocError>
-    ensures { IfOk result (λ name. option_map vec_items name ≡ path_if counts (worktree_name current.now (option_map vec_items top.now) (folders_with vec_items folders.now) exclude.now)) }
-{
-    if !counts {
-        return Ok(None);
-    }
-    if folders.git_folder.as_slice() == folders.common_folder.as_slice() {
-        return Ok(Some(beside(alloc, exclude, b"config.worktree")?));
-    }
-    let mut name = folder_there(alloc, current, top, &folders.git_folder)?;
-    name.extend_from_slice(b"/config.worktree")?;
-    Ok(Some(name))
-}
-
-/// A folder that is told from the current one, from the top to which Git goes.
-fn folder_there(
-    alloc: Global,
-    current: &[u8],
-    top: &Option<Vec<u8>>,
-    folder: &[u8],
-) -> Result<Vec<u8>, AllocError>
-    ensures { IfOk result (λ path. path.items ≡ folder_there current.now (option_map vec_items top.now) folder.now) }
-{
-    match top {
-        Some(_top) => told_from(alloc, current, folder),
-        None => Vec::from_slice(alloc, folder),
-    }
+    if counts { Some(name) } else { None }
 }

@@ -3,10 +3,11 @@ ghost use Rattle.std.specs.Prelude.{◌≡◌, IfOk, map, option_map};
 ghost use Rattle.std.specs.Option.{option_copied};
 ghost use Rattle.std.specs.Vec.{vec_items};
 ghost use Rattle.core_settings.specs.Views.{source_with};
+ghost use Rattle.git_repository.specs.Environments.{environment_with};
 ghost use Rattle.git_repository.specs.Naming.{lies_below};
 ghost use Rattle.git_repository.specs.Search.{folder_of};
 ghost use Rattle.opened_repository.specs.Answers.{Tells, is};
-ghost use Rattle.opened_repository.specs.Opening.{first_relative, folder_checked, is_elsewhere, is_relative, outer_listed, relatives_checked, shown, stands_for, top_above, work_place};
+ghost use Rattle.opened_repository.specs.Opening.{first_relative, folder_checked, is_elsewhere, is_relative, outer_listed, relatives_checked, shown, stands_for, top_above, words_there, work_place};
 ghost use Rattle.opened_repository.specs.Results.{said_of};
 
 use crate::fault::{OpenFault, RepositoryFault};
@@ -14,7 +15,7 @@ use crate::inside::told_from;
 use crate::told::Told;
 use crate::trusted::outer_sources;
 use core_settings::ConfigSource;
-use git_repository::FileSystem;
+use git_repository::{Environment, FileSystem};
 use std::alloc::{AllocError, Global};
 
 /// The top of the work tree, where the current folder lies below it: Git goes there.
@@ -61,6 +62,19 @@ pub(crate) fn work_place<'a>(current: &'a [u8], top: &'a Option<Vec<u8>>) -> &'a
     match top {
         Some(top) => top,
         None => current,
+    }
+}
+
+/// What counts there of the environment: without a top above, the current folder is told as the top.
+pub(crate) fn words_there<'a>(told: &Told<'a>, top: &Option<Vec<u8>>) -> Environment<&'a [u8]>
+    ensures { environment_with (λ b. b.now) result ≡ words_there (said_of told.now) (option_map vec_items top.now) }
+{
+    match top {
+        Some(_top) => told.environment,
+        None => Environment {
+            work_tree: Some(told.current),
+            ..told.environment
+        },
     }
 }
 

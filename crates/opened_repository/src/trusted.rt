@@ -219,6 +219,7 @@ fn setting_of(wrong: Wrong) -> Option<SafeSetting>
         | Wrong::NotNamed
         | Wrong::CommonFolder
         | Wrong::LeadsNowhere
+        | Wrong::NotEntered
         | Wrong::Border => None,
     }
 }

@@ -1,12 +1,11 @@
 -- The stages, one behind the other.
-use Rattle.std.proofs.Common.{◌∙◌, ℕ, List, Option, Ok, Err, ap, codes, option_map, subst}
+use Rattle.std.proofs.Common.{ℕ, List, Option, Ok, Err, option_map, refl, subst}
 use Rattle.std.specs.Vec.{vec_items}
 use Rattle.git_repository.specs.Answers.{found_with}
 use Rattle.git_repository.specs.Folders.{folders_with, settings_with}
 use Rattle.opened_repository.specs.Alone.{OwnSettings}
 use Rattle.opened_repository.specs.Answers.{Tells}
-use Rattle.opened_repository.specs.Opening.{path_if}
-use Rattle.opened_repository.specs.Places.{ExcludeThere, PlaceIn, beside, place_of, worktree_name}
+use Rattle.opened_repository.specs.Places.{ConfigThere, PlaceIn, WorktreeConfigThere, place_of}
 use Rattle.opened_repository.specs.Readings.{known_of}
 use Rattle.opened_repository.specs.Results.{said_of}
 use Rattle.opened_repository.proofs.lemmas.Located.{place_is}
@@ -48,34 +47,44 @@ returns-in_err-known g c =
     let left3 = step known Whole (option_map vec_items c.in_ok-top.top) left2 c.in_ok-top.ensures in
     stop known Whole place_of known_of c.in_err-known.field-0.0 c.from_residual-in_err-known.result left3 c.from_residual-in_err-known.ensures.1 c.in_err-known.ensures
 
-pub returns-in_err-exclude : goal.returns-in_err-exclude
-returns-in_err-exclude g c =
+pub returns-in_err-config : goal.returns-in_err-config
+returns-in_err-config g c =
+    let tree = g.S.FileSystem.tree c.args.source.now in let known = g.S.FileSystem.is_known c.args.source.now in let Shows = g.S.ConfigFiles.shows c.args.source.now in let said = said_of c.args.told.now in
+    let found = found_with vec_items c.args.found.now in let own = settings_with vec_items c.in_ok-own.own in
+    let Whole = PlaceIn tree Shows said found in
+    let left0 = all known Whole in
+    let left1 = step known Whole (folders_with vec_items c.in_ok-folders.folders) left0 c.in_ok-folders.ensures in
+    let left2 = step known Whole own left1 (λ k. c.in_ok-own.ensures tt) in
+    let left3 = step known Whole (option_map vec_items c.in_ok-top.top) left2 c.in_ok-top.ensures in
+    let left4 = step known Whole (known_of c.in_ok-known.known) left3 c.in_ok-known.ensures in
+    stop known Whole place_of bytes c.in_err-config.field-0.0 c.from_residual-in_err-config.result left4 c.from_residual-in_err-config.ensures.1
+    (subst (λ (t : Option (List ℕ)). Tells known bytes (Err c.in_err-config.field-0.0) (ConfigThere tree Shows said found own t)) c.in_ok-top-2.ensures c.in_err-config.ensures)
+
+pub returns-in_err-work_tree : goal.returns-in_err-work_tree
+returns-in_err-work_tree g c =
+    let tree = g.S.FileSystem.tree c.args.source.now in let known = g.S.FileSystem.is_known c.args.source.now in let Shows = g.S.ConfigFiles.shows c.args.source.now in let said = said_of c.args.told.now in
+    let found = found_with vec_items c.args.found.now in let own = settings_with vec_items c.in_ok-own.own in
+    let Whole = PlaceIn tree Shows said found in
+    let left0 = all known Whole in
+    let left1 = step known Whole (folders_with vec_items c.in_ok-folders.folders) left0 c.in_ok-folders.ensures in
+    let left2 = step known Whole own left1 (λ k. c.in_ok-own.ensures tt) in
+    let left3 = step known Whole (option_map vec_items c.in_ok-top.top) left2 c.in_ok-top.ensures in
+    let left4 = step known Whole (known_of c.in_ok-known.known) left3 c.in_ok-known.ensures in
+    let left5 = step known Whole c.in_ok-config.config.items left4 (λ k. subst (λ (t : Option (List ℕ)). ConfigThere tree Shows said found own t (Ok c.in_ok-config.config.items)) c.in_ok-top-2.ensures (c.in_ok-config.ensures k)) in
+    stop known Whole place_of bytes c.in_err-work_tree.field-0.0 c.from_residual-in_err-work_tree.result left5 c.from_residual-in_err-work_tree.ensures.1
+    (subst (λ (t : Option (List ℕ)). Tells known bytes (Err c.in_err-work_tree.field-0.0) (WorktreeConfigThere tree Shows said found own t)) c.in_ok-top-2.ensures c.in_err-work_tree.ensures)
+
+pub returns : goal.returns
+returns g c =
     let tree = g.S.FileSystem.tree c.args.source.now in let known = g.S.FileSystem.is_known c.args.source.now in let Shows = g.S.ConfigFiles.shows c.args.source.now in let said = said_of c.args.told.now in
     let found = found_with vec_items c.args.found.now in let own = settings_with vec_items c.in_ok-own.own in let is = known_of c.in_ok-known.known in
+    let config = c.in_ok-config.config.items in let work_tree = c.in_ok-work_tree.work_tree.items in
     let Whole = PlaceIn tree Shows said found in
     let left0 = all known Whole in
     let left1 = step known Whole (folders_with vec_items c.in_ok-folders.folders) left0 c.in_ok-folders.ensures in
     let left2 = step known Whole own left1 (λ k. c.in_ok-own.ensures tt) in
     let left3 = step known Whole (option_map vec_items c.in_ok-top.top) left2 c.in_ok-top.ensures in
     let left4 = step known Whole is left3 c.in_ok-known.ensures in
-    stop known Whole place_of bytes c.in_err-exclude.field-0.0 c.from_residual-in_err-exclude.result left4 c.from_residual-in_err-exclude.ensures.1
-    (subst (λ (t : Option (List ℕ)). Tells known bytes (Err c.in_err-exclude.field-0.0) (ExcludeThere tree Shows said found own t)) c.in_ok-top-2.ensures c.in_err-exclude.ensures)
-
-pub returns : goal.returns
-returns g c =
-    let tree = g.S.FileSystem.tree c.args.source.now in let known = g.S.FileSystem.is_known c.args.source.now in let Shows = g.S.ConfigFiles.shows c.args.source.now in let said = said_of c.args.told.now in
-    let found = found_with vec_items c.args.found.now in let own = settings_with vec_items c.in_ok-own.own in let is = known_of c.in_ok-known.known in
-    let folders = folders_with vec_items c.in_ok-folders.folders in let exclude = c.in_ok-exclude.exclude.items in
-    let Whole = PlaceIn tree Shows said found in
-    let left0 = all known Whole in
-    let left1 = step known Whole folders left0 c.in_ok-folders.ensures in
-    let left2 = step known Whole own left1 (λ k. c.in_ok-own.ensures tt) in
-    let left3 = step known Whole (option_map vec_items c.in_ok-top.top) left2 c.in_ok-top.ensures in
-    let left4 = step known Whole is left3 c.in_ok-known.ensures in
-    let left5 = step known Whole exclude left4 (λ k. subst (λ (t : Option (List ℕ)). ExcludeThere tree Shows said found own t (Ok exclude)) c.in_ok-top-2.ensures (c.in_ok-exclude.ensures k)) in
-    let config = c.in_ok-beside.ensures ∙ ap (λ (e : List ℕ). beside e (codes "config")) c.deref.ensures.value in
-    let worktree =
-    c.in_ok-if_own.ensures
-    ∙ ap (λ (e : List ℕ). path_if own.has_worktree_config (worktree_name said.current (option_map vec_items c.in_ok-top-2.top) folders e)) c.deref-2.ensures.value
-    ∙ ap (λ (t : Option (List ℕ)). path_if own.has_worktree_config (worktree_name said.current t folders exclude)) c.in_ok-top-2.ensures in
-    λ k. left5 _ k (place_is is _ _ _ _ _ _ c.in_ok-top-2.ensures config worktree)
+    let left5 = step known Whole config left4 (λ k. subst (λ (t : Option (List ℕ)). ConfigThere tree Shows said found own t (Ok config)) c.in_ok-top-2.ensures (c.in_ok-config.ensures k)) in
+    let left6 = step known Whole work_tree left5 (λ k. subst (λ (t : Option (List ℕ)). WorktreeConfigThere tree Shows said found own t (Ok work_tree)) c.in_ok-top-2.ensures (c.in_ok-work_tree.ensures k)) in
+    λ k. left6 _ k (place_is is _ _ _ _ _ _ c.in_ok-top-2.ensures refl c.name_if.ensures)
