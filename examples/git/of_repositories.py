@@ -29,24 +29,17 @@ OUTSIDE = [b"../../../../../../x", b"/", b"", b"../../x", b"l/x"]
 SPELT = [b":x", b"::x", b":()x", b":", b":/", b":/x", b"://:x", b":(top)x", b":(,top)d/x", b":/d/x", b":/k*/x", b":/a*", b":(top)./x", b":a:b", b":$x", b":/d/"]
 UNSPELT = [b":!x", b":^x", b":-x", b":/~", b":(top", b":(x)x", b":(exclude)x", b":(glob)x", b":(icase,top)x", b":(literal)x", b":(attr:a)x", b":(Top)x"]
 # kinds of differences that the documents name: the first in "From Git" of docs/GLOBTREE.md
-NESTED, MESSAGES, BARE, UNKNOWN = "`.git`", "messages", "no work tree", "another's folder"
+MESSAGES, BARE, UNKNOWN = "messages", "no work tree", "another's folder"
 NAMED = kinds_in("GLOBTREE.md")
 OF_CONFIG, OF_STATUS = "`config`", "`status`"
 NO_OBJECT = re.compile(rb"fatal: (bad object HEAD|unable to read [0-9a-f]+)\n")
-ORIGIN = re.compile(rb"file:\"?[^\t\0]*/")
-# and those that "From Git" of docs/REPOSITORIES.md has: what tells a path otherwise, by the variables, links and texts of a repository
-TOLD = {
-    "a slash behind GIT_DIR": lambda made, question: made.git_dir().endswith(b"/"),
-    "`.git` as a link": lambda made, question: any(os.path.basename(link) == b".git" for link in made.links),
-}
-# and what isn't read, by the fault that names it
+# and that of docs/REPOSITORIES.md has: what isn't read, by the fault that names it
 UNREAD = {
     "relative files of the environment": b"is a relative path of a file of configuration",
     "a relative GIT_COMMON_DIR": b"GIT_COMMON_DIR is a relative path",
     "a reference that may lead on": b"no condition 'onbranch' can be answered",
 }
 UNKNOWN_FOLDER = re.compile(rb"fatal: failed to expand user dir in: '%\(prefix\)/[^\n]*\n")
-OF_FORMAT = re.compile(rb"repo version|unknown repository extension")
 WARNINGS = re.compile(rb"(warning: [^\n]*\n)+")
 BARE_WITH_WORK_TREE = b"warning: core.bare and core.worktree do not make sense\n"
 RELATIVE_CONDITION = b"error: relative config include conditionals must come from files\n"
@@ -109,14 +102,6 @@ def fault(told):
 
 def is_answer(told):
     return told.status < 2
-
-
-def is_nested(expected, found):
-    """Whether both list the same, but for folders that globtree takes for repositories, where Git lists what is in them."""
-    one, other = (set(re.split(rb"[\0\n]", told.output)) - {b""} for told in (expected, found))
-    folders = {name for name in other - one if name.endswith(b"/")}
-    below = {name for name in one if any(folder == b"./" or name.startswith(folder) for folder in folders)}
-    return expected.status == found.status == 0 and one - below == other - folders
 
 
 class Comparison:
@@ -209,8 +194,6 @@ class Comparison:
             return BARE
         if UNKNOWN_FOLDER.fullmatch(found.errors) and expected.errors != found.errors:
             return UNKNOWN
-        if command in LISTINGS and NESTED in NAMED and not found.is_as(expected) and is_nested(expected, found):
-            return NESTED
         if found.is_as(expected):
             return None
         if command == "config" and OF_CONFIG in NAMED and self.is_shown_otherwise(expected, found):
@@ -219,20 +202,15 @@ class Comparison:
             return OF_STATUS
         if (RELATIVE_CONDITION in expected.errors or expected.errors == BARE_WITH_WORK_TREE) and found.is_as(expected._replace(errors=found.errors)):
             return MESSAGES
-        unread = next((kind for kind, words in UNREAD.items() if words in fault(found)), None)
-        return unread or next((kind for kind, holds in TOLD.items() if holds(self.pair.made, question)), None)
+        return next((kind for kind, words in UNREAD.items() if words in fault(found)), None)
 
     def is_shown_otherwise(self, expected, found):
         """Whether `config` answers otherwise as "From Git" says."""
         if WARNINGS.fullmatch(expected.errors) and found.is_as(expected._replace(errors=found.errors)):
             return True
         is_fault = not is_answer(expected) and not is_answer(found) and not found.output
-        if expected.status == found.status and ORIGIN.sub(b"file:", expected.output) == ORIGIN.sub(b"file:", found.output):
-            return True
         one, other = (re.sub(rb"'[^'\n]*'", b"", text) for text in (fault(found), expected.errors))
-        is_unread = WARNINGS.fullmatch(expected.errors) and one and one in other
-        is_unentered = expected.errors.startswith(b"fatal: cannot chdir to")
-        return is_fault or is_unread or is_unentered or OF_FORMAT.search(found.errors) or b"/." in self.pair.made.variables.get(b"GIT_CONFIG_SYSTEM", b"")
+        return is_fault or WARNINGS.fullmatch(expected.errors) and one and one in other
 
     # ---- texts of faults
 

@@ -89,11 +89,6 @@ class Repository(Shapes, Settings, Faults, Indexes):
                 text = self.writer.text(entries)
                 self.files[path] = self.texts[path](text) if path in self.texts else text
 
-    def git_dir(self):
-        """What the words or the environment tell of the git folder."""
-        at = self.options.index(b"--git-dir") + 1 if b"--git-dir" in self.options else None
-        return self.options[at] if at else self.variables.get(b"GIT_DIR", b"")
-
     def placed(self, room, text):
         return text.replace(b"@", room)
 
