@@ -44,7 +44,6 @@ WARNINGS = re.compile(rb"(warning: [^\n]*\n)+")
 BARE_WITH_WORK_TREE = b"warning: core.bare and core.worktree do not make sense\n"
 RELATIVE_CONDITION = b"error: relative config include conditionals must come from files\n"
 NO_WORK_TREE = b"fatal: this operation must be run in a work tree\n"
-LISTINGS = ("files", "status")
 FILES_OF_GIT = ["ls-files", "-co", "--exclude-standard"]
 
 Question = collections.namedtuple("Question", "folder words asked")
