@@ -40,7 +40,7 @@ UNREAD = {
     "a reference that may lead on": b"no condition 'onbranch' can be answered",
 }
 UNKNOWN_FOLDER = re.compile(rb"fatal: failed to expand user dir in: '%\(prefix\)/[^\n]*\n")
-WARNINGS = re.compile(rb"(warning: [^\n]*\n)+")
+WARNINGS = re.compile(rb"(warning: [^\n]*\n(\t[^\n]*\n)*)+")
 BARE_WITH_WORK_TREE = b"warning: core.bare and core.worktree do not make sense\n"
 RELATIVE_CONDITION = b"error: relative config include conditionals must come from files\n"
 NO_WORK_TREE = b"fatal: this operation must be run in a work tree\n"
@@ -189,7 +189,7 @@ class Comparison:
     def named_kind(self, question, expected, found):
         """What the documents call a difference, or None."""
         command = question.words[0]
-        if command == "check-attr" and found.errors == NO_WORK_TREE and expected.errors != found.errors:
+        if command in ("check-attr", "files") and found.errors == NO_WORK_TREE and expected.errors != found.errors:
             return BARE
         if UNKNOWN_FOLDER.fullmatch(found.errors) and expected.errors != found.errors:
             return UNKNOWN
