@@ -38,6 +38,7 @@ pub mod RunLemmas
 pub mod SourceLemmas
 pub mod StackLemmas
 pub mod StartLemmas
+pub mod TellingLemmas
 pub mod TopLemmas
 pub mod TrackedLemmas
 pub mod VisitLemmas

@@ -14,16 +14,15 @@ use Rattle.tree_commands.specs.declared.files.choosing.Folders.{Folders}
 use Rattle.tree_commands.specs.declared.files.choosing.Folders.TheVariants.{Entered, EnteredUnlessFilled, NamedIfEmpty, NamedIfFilled}
 use Rattle.tree_commands.specs.declared.files.pending.Pending.{Pending}
 use Rattle.tree_commands.specs.FileTrees.{FileTree}
-use Rattle.tree_commands.specs.Files.{AsksSearches, Basis, HasListed, HasListedBy, IsAllIgnored, IsFilled, IsFilledBy, IsIgnoredAt, IsListedBy, IsMet, IsMetUnless, IsReplaced, IsSearched, IsTold, IsToldAsListed, IsToldBeside, IsToldInPlace, Terms, begins, entering, lies, never, search_of}
-use Rattle.tree_commands.specs.Private.Filling.{IsToTell, IsUnfilled, MaySearch, OfStanding, StepsOnce, Tells}
-use Rattle.tree_commands.specs.Private.Listing.{Among, FlagsFolder, IsFree, IsIgnoredNext, IsLevel, IsMarked, IsToList, MayVisit, Stands, Visits, path_of}
+use Rattle.tree_commands.specs.Files.{AsksSearches, Basis, HasListed, HasListedBy, IsAllIgnored, IsFilled, IsFilledBy, IsIgnoredAt, IsMet, IsMetUnless, IsReplaced, IsSearched, IsTold, IsToldAsListed, IsToldBeside, IsToldInPlace, Terms, begins, entering, lies, never, search_of}
+use Rattle.tree_commands.specs.Private.Filling.{MaySearch, OfStanding, Tells}
+use Rattle.tree_commands.specs.Private.Listing.{Among, FlagsFolder, IsFree, IsIgnoredNext, IsLevel, IsMarked, MayVisit, Stands, Visits, path_of}
 use Rattle.tree_commands.specs.Private.UnderWay.{Beginning, IsHalfway, IsUnderWay, IsWriting, OfKnown, WritesAll}
 use Rattle.tree_commands.proofs.lemmas.AmongLemmas.{among_cases, among_last, among_left, of_all}
 use Rattle.tree_commands.proofs.lemmas.LevelLemmas.{next_ignored}
 use Rattle.tree_commands.proofs.lemmas.ListingRuns.{all_is_written, asked_is_met, told_is_met, writes_on}
 use Rattle.tree_commands.proofs.lemmas.PathLemmas.{one_folder, some_append, start_ends, start_marked}
 use Rattle.tree_commands.proofs.lemmas.SourceLemmas.{gives_further}
-use Rattle.tree_commands.proofs.lemmas.VisitLemmas.{enters_weaker}
 
 -- ---- where a search begins
 
@@ -431,61 +430,14 @@ asks_two Known Now terms other lists more place chosen old middle new stays as_t
     gives_further (IsAsked Known terms lists place) (IsAskedBy Now other more place chosen) (IsAsked Known terms lists place) old middle new (λ folder asked. asked)
     (λ folder asked. λ tree known basis same stands. (chosen, standing_as Known Now terms other lists more place (λ basis tree. IsMet (entering chosen basis) tree (path_of place) (start_of folder)) stays as_terms as_lists asked tree known basis same stands)) one two
 
--- ---- whether a path is told
-
--- the path of a folder that is listed ends in a slash
-listed_ends : (terms : Terms) (tree : FileTree) (Ignores : List ℕ → Bool → Type 0) (path : List ℕ) → IsListedBy terms tree Ignores path → (folder : Folder) → path ≡ start_of folder → EndsInSlash path
-listed_ends terms tree Ignores path (inl file) folder is = subst EndsInSlash (sym is) (start_ends folder (λ none. file.some (is ∙ none)))
-listed_ends terms tree Ignores path (inr at) folder is = record { front = at.folder; joined = at.start ∙ start_marked at.folder (let shut = at.shut in shut.below) }
-
-module _ (Known : FileTree → Type 0) (terms : Terms) (next : Pending) (lists new_lists : List (EntryList (Unit {0}))) (old new : List Pending) (path : List ℕ) (it : IsToList Known terms next lists new_lists old new path) where
-  -- what is listed is told, where folders are told otherwise
-  pub told_unasked : terms.folders ≢ NamedIfFilled → IsToTell Known terms next lists new_lists old new path
-  told_unasked other = record { listed = it; filled = λ asks. absurd (other asks) }
-
-  -- and so is the path of a file
-  pub told_file : ¬ EndsInSlash path → IsToTell Known terms next lists new_lists old new path
-  told_file whole = record {
-    listed = it;
-    filled = λ asks folder is tree known basis same stands. absurd (whole (listed_ends terms tree (IsIgnoredNext terms lists next) path (it.listed tree known) folder (it.same ∙ is)));
-  }
-
-  module _ (Now : FileTree → Type 0) (stays : (tree : FileTree) → Known tree → Now tree) (place : Pending) (same_path : path_of place ≡ path_of next) (count : place.list_count ≡ next.list_count) (below : place.is_below ≡ next.is_below)
-      (other : Terms) (as_terms : other ≡ terms) (more : List (EntryList (Unit {0}))) (as_lists : more ≡ lists) where
-    -- what is said of the place is said of the path
-    at_next : (Holds : Basis → FileTree → Type 0) → OfStanding Now other more place Holds → OfStanding Known terms lists next Holds
-    at_next Holds holds tree known basis same stands =
-        standing_as Known Now terms other lists more place Holds stays as_terms as_lists holds tree known basis same (stands_as basis tree lists next place same_path count below stands)
-
-    -- and so is that of a folder that is filled
-    pub told_filled : (last_lists : List (EntryList (Unit {0}))) (last : List Pending) → last_lists ≡ new_lists → last ≡ new → SaysFilled Now other more place true → IsToTell Known terms next lists last_lists old last path
-    told_filled last_lists last held kept says = record {
-      listed = record { same = it.same; lists = held ∙ it.lists; pending = kept ∙ it.pending; listed = it.listed };
-      filled = λ asks folder is. at_next (λ basis tree. IsFilled basis tree folder) (λ tree known basis same stands. let it = says tree known basis same stands folder (same_path ∙ is) in it.0 refl);
-    }
-
-    -- but not of one that isn't
-    pub untold : (last_lists : List (EntryList (Unit {0}))) (last : List Pending) → last_lists ≡ new_lists → last ≡ new → terms.folders ≡ NamedIfFilled → EndsInSlash (path_of next) → path_of next ≢ slash ∷ [] → SaysFilled Now other more place false → IsUnfilled Known terms next lists last_lists old last
-    untold last_lists last held kept asks ends whole says =
-        let start : path_of next ≡ start_of ends.front = ends.joined ∙ sym (start_marked ends.front (λ none. whole (ends.joined ∙ ap (λ f. f ++ slash ∷ []) none))) in
-        record {
-          listed = record { same = refl; lists = held ∙ it.lists; pending = kept ∙ it.pending; listed = λ tree known. subst (IsListedBy terms tree (IsIgnoredNext terms lists next)) it.same (it.listed tree known) };
-          asks = asks;
-          folder = ends.front;
-          start = start;
-          unfilled = at_next (λ basis tree. ¬ IsFilled basis tree ends.front) (λ tree known basis same stands filled. let it = says tree known basis same stands ends.front (same_path ∙ start) in false≢true (it.1 filled));
-        }
-
-    -- the folders that are searched
-    pub searches : terms.folders ≡ NamedIfFilled → (first middle last : Folder → Type 0) → GivesOnly (λ folder. path_of next ≡ start_of folder) first middle → GivesOnly (IsAsked Now other more place) middle last
-        → GivesOnly (λ folder. (path_of next ≡ start_of folder) ⊎ OfStanding Known terms lists next (λ basis tree. IsSearched basis tree (path_of next) folder)) first last
-    searches asks first middle last one two =
-        gives_further (λ folder. path_of next ≡ start_of folder) (IsAsked Now other more place) (λ folder. (path_of next ≡ start_of folder) ⊎ OfStanding Known terms lists next (λ basis tree. IsSearched basis tree (path_of next) folder))
-        first middle last (λ folder is. inl is)
-        (λ folder asked. inr (at_next (λ basis tree. IsSearched basis tree (path_of next) folder) (λ tree known basis same stands.
-        let it = asked tree known basis same stands in
-        record { asks = inl (ap (λ (t : Terms). t.folders) (same ∙ as_terms) ∙ asks); chosen = it.0; met = subst (λ p. IsMet (entering it.0 basis) tree p (start_of folder)) same_path it.1 })))
-        one two
+-- and those folders are searched
+pub asked_searched : (Known : FileTree → Type 0) (terms : Terms) (lists : List (EntryList (Unit {0}))) (place : Pending) → AsksSearches terms.folders → (old new : Folder → Type 0) → GivesOnly (IsAsked Known terms lists place) old new
+    → GivesOnly (λ folder. OfStanding Known terms lists place (λ basis tree. IsSearched basis tree (path_of place) folder)) old new
+asked_searched Known terms lists place asks old new asked folder given = ⊎_elim
+    (λ (before : old folder). inl before)
+    (λ (here : IsAsked Known terms lists place folder). inr (λ tree known basis same stands.
+    let it = here tree known basis same stands in record { asks = subst (λ (t : Terms). AsksSearches t.folders) (sym same) asks; chosen = it.0; met = it.1 }))
+    (asked folder given)
 
 -- ---- whether a folder is replaced by its name
 
@@ -512,66 +464,3 @@ module _ (Known : FileTree → Type 0) (terms : Terms) (lists : List (EntryList 
         let it = filled tree known basis same stands folder is in
         let here = subst (IsFree basis.terms) (one_folder at folder (sym start ∙ is)) (subst (λ (t : Terms). IsFree t at) (sym same) free) in
         ((λ yes. record { asks = ap (λ (t : Terms). t.folders) same ∙ asks; below = here.0; free = here.1; filled = it.0 yes }), λ replaced. it.1 replaced.filled)
-
--- ---- a step of a listing
-
-module _ (Known Now : FileTree → Type 0) (stays : (tree : FileTree) → Known tree → Now tree) (terms : Terms) (next : Pending) (lists new_lists : List (EntryList (Unit {0}))) (old new : List Pending) where
-  to_list_weaker : (path : List ℕ) → IsToList Now terms next lists new_lists old new path → IsToList Known terms next lists new_lists old new path
-  to_list_weaker path it = record { same = it.same; lists = it.lists; pending = it.pending; listed = λ tree known. it.listed tree (stays tree known) }
-
-  -- what is known after a call is known of what was known before it
-  pub tells_weaker : (told : Option (List ℕ)) → Tells Now terms next lists new_lists old new told → Tells Known terms next lists new_lists old new told
-  tells_weaker (Some path) it = record { listed = to_list_weaker path it.listed; filled = λ asks folder is tree known. it.filled asks folder is tree (stays tree known) }
-  tells_weaker None (inl it) = inl (record { listed = to_list_weaker (path_of next) it.listed; asks = it.asks; folder = it.folder; start = it.start; unfilled = λ tree known. it.unfilled tree (stays tree known) })
-  tells_weaker None (inr (inl it)) = inr (inl (record {
-    folder = it.folder;
-    start = it.start;
-    is_ignored = it.is_ignored;
-    flag = it.flag;
-    may = λ tree known. it.may tree (stays tree known);
-    enters = enters_weaker Now Known stays terms it.folder next.list_count it.is_ignored lists new_lists old new it.enters;
-  }))
-  tells_weaker None (inr (inr it)) = inr (inr (record { lists = it.lists; pending = it.pending; ends = λ tree known. it.ends tree (stays tree known); unlisted = λ tree known. it.unlisted tree (stays tree known) }))
-
-module _ (Known Now : FileTree → Type 0) (stays : (tree : FileTree) → Known tree → Now tree) (terms : Terms) (next : Pending) (lists new_lists : List (EntryList (Unit {0}))) (old new : List Pending) (told : Option (List ℕ)) where
-  pub once_weaker : StepsOnce Now terms next lists new_lists old new told → StepsOnce Known terms next lists new_lists old new told
-  once_weaker (inl it) = inl (record {
-    lists = it.lists;
-    pending = it.pending;
-    folder = it.folder;
-    start = it.start;
-    replaced = λ tree known. it.replaced tree (stays tree known);
-    told_if = it.told_if;
-  })
-  once_weaker (inr it) = inr (record { tells = tells_weaker Known Now stays terms next lists new_lists old new told it.tells; unreplaced = λ tree known. it.unreplaced tree (stays tree known) })
-
-pub searched_as : (Known : FileTree → Type 0) (terms : Terms) (lists more : List (EntryList (Unit {0}))) (next : Pending) → more ≡ lists → (old new : Folder → Type 0) → GivesOnly (λ folder. OfStanding Known terms more next (λ basis tree. IsSearched basis tree (path_of next) folder)) old new
-    → GivesOnly (λ folder. (path_of next ≡ start_of folder) ⊎ OfStanding Known terms lists next (λ basis tree. IsSearched basis tree (path_of next) folder)) old new
-searched_as Known terms lists more next as_lists old new asked folder given = ⊎_elim
-    (λ (before : old folder). inl before)
-    (λ (here : OfStanding Known terms more next (λ basis tree. IsSearched basis tree (path_of next) folder)).
-    inr (inr (standing_as Known Known terms terms lists more next (λ basis tree. IsSearched basis tree (path_of next) folder) (λ tree known. known) refl as_lists here)))
-    (asked folder given)
-
-pub searched_then : (Known Now : FileTree → Type 0) (terms other : Terms) (lists more : List (EntryList (Unit {0}))) (next : Pending) → ((tree : FileTree) → Known tree → Now tree) → other ≡ terms → more ≡ lists → (old middle new : Folder → Type 0)
-    → GivesOnly (λ folder. (path_of next ≡ start_of folder) ⊎ OfStanding Known terms lists next (λ basis tree. IsSearched basis tree (path_of next) folder)) old middle
-    → GivesOnly (λ folder. (path_of next ≡ start_of folder) ⊎ OfStanding Now other more next (λ basis tree. IsSearched basis tree (path_of next) folder)) middle new
-    → GivesOnly (λ folder. (path_of next ≡ start_of folder) ⊎ OfStanding Known terms lists next (λ basis tree. IsSearched basis tree (path_of next) folder)) old new
-searched_then Known Now terms other lists more next stays as_terms as_lists old middle new one two =
-    gives_further (λ folder. (path_of next ≡ start_of folder) ⊎ OfStanding Known terms lists next (λ basis tree. IsSearched basis tree (path_of next) folder))
-    (λ folder. (path_of next ≡ start_of folder) ⊎ OfStanding Now other more next (λ basis tree. IsSearched basis tree (path_of next) folder))
-    (λ folder. (path_of next ≡ start_of folder) ⊎ OfStanding Known terms lists next (λ basis tree. IsSearched basis tree (path_of next) folder)) old middle new (λ folder led. led)
-    (λ folder which. ⊎_elim
-    (λ (is : path_of next ≡ start_of folder). inl is)
-    (λ (here : OfStanding Now other more next (λ basis tree. IsSearched basis tree (path_of next) folder)).
-    inr (standing_as Known Now terms other lists more next (λ basis tree. IsSearched basis tree (path_of next) folder) stays as_terms as_lists here))
-    which)
-    one two
-
-pub asked_searched : (Known : FileTree → Type 0) (terms : Terms) (lists : List (EntryList (Unit {0}))) (place : Pending) → AsksSearches terms.folders → (old new : Folder → Type 0) → GivesOnly (IsAsked Known terms lists place) old new
-    → GivesOnly (λ folder. OfStanding Known terms lists place (λ basis tree. IsSearched basis tree (path_of place) folder)) old new
-asked_searched Known terms lists place asks old new asked folder given = ⊎_elim
-    (λ (before : old folder). inl before)
-    (λ (here : IsAsked Known terms lists place folder). inr (λ tree known basis same stands.
-    let it = here tree known basis same stands in record { asks = subst (λ (t : Terms). AsksSearches t.folders) (sym same) asks; chosen = it.0; met = it.1 }))
-    (asked folder given)
