@@ -35,6 +35,7 @@ pub mod PathLemmas
 pub mod PieceLemmas
 pub mod PuttingLemmas
 pub mod RunLemmas
+pub mod SearchLemmas
 pub mod SourceLemmas
 pub mod StackLemmas
 pub mod StartLemmas

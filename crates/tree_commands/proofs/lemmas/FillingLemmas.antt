@@ -3,7 +3,7 @@ use Rattle.std.proofs.Common.{◌≡◌, ◌≢◌, ◌⊎◌, inl, inr, ⊎_eli
 use Rattle.std.specs.Prelude.{◌↔◌, IsTrue, Option, None, Some, is_some, not, option_map}
 use Rattle.std.specs.List.{flat_map}
 use Rattle.std.proofs.lemmas.Bool.{false≢true}
-use Rattle.std.proofs.lemmas.List.{length-take-le, take-append-le, take-take, take_all}
+use Rattle.std.proofs.lemmas.List.{length-take-le, take-append-le, take-take}
 use Rattle.gix_glob.specs.declared.pattern.Case.{Case}
 use Rattle.gix_glob.specs.Bytes.{EndsInSlash, slash}
 use Rattle.gix_glob.specs.EntryLists.{EntryList}
@@ -272,38 +272,6 @@ module _ (basis : Basis) (tree : FileTree) (folder : Folder) where
   filled_wholly Unignored is filled = absurd (cc)
   filled_wholly Ignored is filled = filled.1
 
--- ---- a search from a path at which a listing stands
-
--- the terms of the search
-abbrev pub searching : Folders → Chosen → Terms → Terms
-searching folders chosen terms = record { case = terms.case; chosen = chosen; folders = folders; tracked = terms.tracked }
-
-module _ (Known : FileTree → Type 0) (terms : Terms) (lists : List (EntryList (Unit {0}))) (place next : Pending) (path : path_of next ≡ path_of place) (count : next.list_count ≡ place.list_count) (below : next.is_below ≡ place.is_below)
-    (folders : Folders) (chosen : Chosen) (may : MaySearch terms lists place folders chosen) where
-  abbrev begun : Beginning
-  begun = record { pending = next ∷ []; lists = lists }
-
-  -- what follows wherever it began follows here
-  search_here : (Holds : Basis → FileTree → List ℕ → Type 0) → OfKnown Known (searching folders chosen terms) begun Holds → OfStanding Known terms lists place (λ basis tree. Holds (search_of folders chosen basis) tree (path_of place))
-  search_here Holds holds tree known basis same stands =
-      subst (Holds (search_of folders chosen basis) tree) path
-      (holds tree known (search_of folders chosen basis) (ap (searching folders chosen) same) (path_of next) (search_halfway next lists (search_of folders chosen basis) tree (stands_as (search_of folders chosen basis) tree lists place next path count below (may tree basis same stands))))
-
-  pub search_says : ¬ AsksSearches folders → (is_any : Bool) → OfKnown Known (searching folders chosen terms) begun (λ basis tree start. IsTrue is_any ↔ ((found : List ℕ) × IsMet basis tree start found × IsTold basis tree found))
-      → OfStanding Known terms lists place (λ basis tree. (folder : Folder) → path_of place ≡ start_of folder → IsTrue is_any ↔ HasListedBy folders chosen basis tree folder)
-  search_says plain is_any says tree known basis same stands folder is =
-      let here = search_here (λ basis tree start. IsTrue is_any ↔ ((found : List ℕ) × IsMet basis tree start found × IsTold basis tree found)) says tree known basis same stands in
-      let has = has_found folders plain chosen basis tree folder (path_of place) is in
-      ((λ yes. has.0 (here.0 yes)), (λ listed. here.1 (has.1 listed)))
-
-  pub search_led : (folder : Folder) → OfKnown Known (searching folders chosen terms) begun (λ basis tree start. IsMet basis tree start (start_of folder))
-      → OfStanding Known terms lists place (λ basis tree. IsMet (search_of folders chosen basis) tree (path_of place) (start_of folder))
-  search_led folder = search_here (λ basis tree start. IsMet basis tree start (start_of folder))
-
--- lists that were kept are the same, cut to as many as they were
-pub kept_whole : (count : ℕ) (first lists : List (EntryList (Unit {0}))) → count ≡ length first → take count lists ≡ take count first → take count lists ≡ first
-kept_whole count first lists is same = same ∙ take_all count first (omega (arith, is))
-
 -- ---- a folder that is told only if it is filled
 
 -- a path that ends in a slash is a folder's below the top
@@ -327,17 +295,6 @@ module _ (basis : Basis) (tree : FileTree) (folder : Folder) (chosen : Chosen) (
 pub stands_ignored : (basis : Basis) (tree : FileTree) (lists : List (EntryList (Unit {0}))) (place : Pending) → Stands basis tree lists place → basis.terms.chosen ≡ Ignored → (folder : Folder) → path_of place ≡ start_of folder → folder ≢ [] → ¬ EndsInSlash folder
     → IsIgnoredNext basis.terms lists place folder true ↔ IsIgnoredAt basis tree folder true
 stands_ignored basis tree lists place stands told folder is some unended = next_ignored basis tree lists place stands told folder true (some, unended, is ∙ start_marked folder some)
-
--- ---- one path pending
-
-abbrev pub begun_with : List Pending → List (EntryList (Unit {0})) → Beginning
-begun_with pending lists = record { pending = pending; lists = lists }
-
-pub same_beginning : (pending others : List Pending) (lists more : List (EntryList (Unit {0}))) → pending ≡ others → lists ≡ more → begun_with pending lists ≡ begun_with others more
-same_beginning pending others lists more one two = ap (λ (ps : List Pending). begun_with ps lists) one ∙ ap (λ (ls : List (EntryList (Unit {0}))). begun_with others ls) two
-
-pub one_kept : (next : Pending) (count : ℕ) → count ≤ next.list_count → (other : Pending) → Among (next ∷ []) other → count ≤ other.list_count
-one_kept next count few other among = ⊎_elim (λ (is : next ≡ other). subst (λ (n : Pending). count ≤ n.list_count) is few) (λ (never : ⊥). absurd never) among
 
 -- ---- what is known where a listing stands
 
