@@ -11,7 +11,7 @@ use Rattle.glob_trees.specs.Ways.{Folder, GivesOnly, start_of}
 use Rattle.tree_commands.specs.declared.files.choosing.Chosen.{Chosen}
 use Rattle.tree_commands.specs.declared.files.choosing.Chosen.TheVariants.{All, Ignored, Unignored}
 use Rattle.tree_commands.specs.declared.files.choosing.Folders.{Folders}
-use Rattle.tree_commands.specs.declared.files.choosing.Folders.TheVariants.{Entered, EnteredUnlessFilled, NamedIfEmpty, NamedIfFilled}
+use Rattle.tree_commands.specs.declared.files.choosing.Folders.TheVariants.{EnteredUnlessFilled, NamedIfEmpty, NamedIfFilled}
 use Rattle.tree_commands.specs.declared.files.pending.Pending.{Pending}
 use Rattle.tree_commands.specs.FileTrees.{FileTree}
 use Rattle.tree_commands.specs.Files.{AsksSearches, Basis, HasListed, HasListedBy, IsAllIgnored, IsFilled, IsFilledBy, IsIgnoredAt, IsMet, IsMetUnless, IsReplaced, IsSearched, IsTold, IsToldAsListed, IsToldBeside, IsToldInPlace, Terms, begins, entering, lies, never, search_of}
@@ -26,11 +26,6 @@ use Rattle.tree_commands.proofs.lemmas.SourceLemmas.{gives_further}
 
 -- ---- where a search begins
 
-pub entered_is_plain : ¬ AsksSearches Entered
-entered_is_plain (inl is) = absurd (cc)
-entered_is_plain (inr (inl is)) = absurd (cc)
-entered_is_plain (inr (inr is)) = absurd (cc)
-
 pub empty_is_plain : ¬ AsksSearches NamedIfEmpty
 empty_is_plain (inl is) = absurd (cc)
 empty_is_plain (inr (inl is)) = absurd (cc)
@@ -41,22 +36,8 @@ met_where : (basis : Basis) (tree : FileTree) (More Less : Folder → Type 0) �
 met_where basis tree More Less fewer begins = begins
 met_where basis tree More Less fewer (lies {folder} {found} met may kept entry) = lies (met_where basis tree More Less fewer met) may (λ less. kept (fewer folder less)) entry
 
--- the lists decide about the same for another listing
-level_of_search : (chosen other : Chosen) (folders : Folders) (basis : Basis) (tree : FileTree) (lists : List (EntryList (Unit {0}))) (is_below : Bool) (path : List ℕ) → IsLevel chosen basis tree lists is_below path → IsLevel chosen (search_of folders other basis) tree lists is_below path
-level_of_search All other folders basis tree lists is_below path level = tt
-level_of_search Unignored other folders basis tree lists is_below path level = level
-level_of_search Ignored other folders basis tree lists is_below path level = level
-
 module _ (terms : Terms) (lists : List (EntryList (Unit {0}))) (next : Pending) (folders : Folders) where
-  -- a search of the paths that are chosen stands where the listing does
-  pub may_search_chosen : MaySearch terms lists next folders terms.chosen
-  may_search_chosen tree basis same stands = record {
-    top = stands.top;
-    level = λ path is_dir marked. level_of_search terms.chosen terms.chosen folders basis tree (take next.list_count lists) next.is_below path
-        (subst (λ (t : Terms). IsLevel t.chosen basis tree (take next.list_count lists) next.is_below path) same (stands.level path is_dir marked));
-  }
-
-  -- and where those are the ignored ones, so does a search of the others outside of ignored folders
+  -- where ignored paths are chosen, a search of the others stands where the listing does, outside of ignored folders
   pub may_search_others : terms.chosen ≡ Ignored → next.is_below ≡ false → MaySearch terms lists next folders Unignored
   may_search_others told outside tree basis same stands = record {
     top = stands.top;
@@ -104,16 +85,6 @@ mark_line path = 0 ∷ []
 module _ (Known : FileTree → Type 0) (terms : Terms) (beginning : Beginning) where
   abbrev pub IsSearching : List Pending → List (EntryList (Unit {0})) → Type 0
   IsSearching pending lists = IsWriting mark_line Known terms beginning (Some []) (Some []) [] pending lists
-
-  pub search_starts : IsUnderWay terms.case [] beginning.pending beginning.lists → IsSearching beginning.pending beginning.lists
-  search_starts under = record {
-    listed = [];
-    under_way = under;
-    written = [];
-    appended = refl;
-    joined = refl;
-    halfway = λ tree known basis same start halfway. halfway;
-  }
 
   -- nothing is listed in the end
   nothing_listed : (listed : List (List ℕ)) → flat_map mark_line listed ≡ [] → (path : List ℕ) → ¬ Among listed path
@@ -256,12 +227,6 @@ module _ (basis : Basis) (tree : FileTree) (folder : Folder) where
   filled_has Unignored filled = filled
   filled_has Ignored filled = filled.0
 
-  -- something is, and nothing else counts
-  pub filled_alone : (chosen : Chosen) → chosen ≢ Ignored → HasListed chosen basis tree folder → IsFilledBy chosen basis tree folder
-  filled_alone All other has = has
-  filled_alone Unignored other has = has
-  filled_alone Ignored other has = absurd (other refl)
-
   pub filled_ignored : (chosen : Chosen) → chosen ≡ Ignored → HasListed chosen basis tree folder → IsIgnoredAt basis tree folder true ⊎ (¬ HasListed Unignored basis tree folder) → IsFilledBy chosen basis tree folder
   filled_ignored All is has wholly = absurd (cc)
   filled_ignored Unignored is has wholly = absurd (cc)
@@ -281,9 +246,6 @@ ends_below path folder ends is none = some_append ends.front (slash ∷ []) (λ 
 module _ (basis : Basis) (tree : FileTree) (folder : Folder) (chosen : Chosen) (is : basis.terms.chosen ≡ chosen) where
   pub not_filled : ¬ HasListed chosen basis tree folder → ¬ IsFilled basis tree folder
   not_filled none filled = none (filled_has basis tree folder chosen (subst (λ (c : Chosen). IsFilledBy c basis tree folder) is filled))
-
-  pub filled_by_one : chosen ≢ Ignored → HasListed chosen basis tree folder → IsFilled basis tree folder
-  filled_by_one other has = subst (λ (c : Chosen). IsFilledBy c basis tree folder) (sym is) (filled_alone basis tree folder chosen other has)
 
   pub filled_by_all : chosen ≡ Ignored → HasListed chosen basis tree folder → IsIgnoredAt basis tree folder true ⊎ (¬ HasListed Unignored basis tree folder) → IsFilled basis tree folder
   filled_by_all told has wholly = subst (λ (c : Chosen). IsFilledBy c basis tree folder) (sym is) (filled_ignored basis tree folder chosen told has wholly)
@@ -320,11 +282,6 @@ module _ (Known : FileTree → Type 0) (terms : Terms) (lists : List (EntryList 
         let it = says tree known basis same stands folder is in
         let no : ¬ IsFilled basis tree folder = not_filled basis tree folder terms.chosen (ap (λ (t : Terms). t.chosen) same) (λ listed. false≢true (sym none ∙ it.1 listed)) in
         ((λ yes. absurd (false≢true yes)), λ filled. absurd (no filled))
-
-    pub says_filled : has ≡ true → terms.chosen ≢ Ignored → SaysFilled true
-    says_filled some other tree known basis same stands folder is =
-        let it = says tree known basis same stands folder is in
-        ((λ yes. filled_by_one basis tree folder terms.chosen (ap (λ (t : Terms). t.chosen) same) other (it.0 some)), λ filled. refl)
 
     module _ (may : MayVisit terms.case (path_of place)) (ends : EndsInSlash (path_of place)) (some : has ≡ true) (told : terms.chosen ≡ Ignored) where
       -- whether the folder is ignored, by what is known of the path
@@ -380,12 +337,6 @@ module _ (Known : FileTree → Type 0) (terms : Terms) (lists : List (EntryList 
 
   pub asks_one : (chosen : Chosen) (old new : Folder → Type 0) → GivesOnly (IsAskedBy chosen) old new → GivesOnly IsAsked old new
   asks_one chosen old new asked folder given = ⊎_elim (λ (before : old folder). inl before) (λ (here : IsAskedBy chosen folder). inr (λ tree known basis same stands. (chosen, here tree known basis same stands))) (asked folder given)
-
-pub asks_two : (Known Now : FileTree → Type 0) (terms other : Terms) (lists more : List (EntryList (Unit {0}))) (place : Pending) (chosen : Chosen) (old middle new : Folder → Type 0) → ((tree : FileTree) → Known tree → Now tree) → other ≡ terms → more ≡ lists
-    → GivesOnly (IsAsked Known terms lists place) old middle → GivesOnly (IsAskedBy Now other more place chosen) middle new → GivesOnly (IsAsked Known terms lists place) old new
-asks_two Known Now terms other lists more place chosen old middle new stays as_terms as_lists one two =
-    gives_further (IsAsked Known terms lists place) (IsAskedBy Now other more place chosen) (IsAsked Known terms lists place) old middle new (λ folder asked. asked)
-    (λ folder asked. λ tree known basis same stands. (chosen, standing_as Known Now terms other lists more place (λ basis tree. IsMet (entering chosen basis) tree (path_of place) (start_of folder)) stays as_terms as_lists asked tree known basis same stands)) one two
 
 -- and those folders are searched
 pub asked_searched : (Known : FileTree → Type 0) (terms : Terms) (lists : List (EntryList (Unit {0}))) (place : Pending) → AsksSearches terms.folders → (old new : Folder → Type 0) → GivesOnly (IsAsked Known terms lists place) old new
