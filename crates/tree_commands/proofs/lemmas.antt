@@ -35,9 +35,11 @@ pub mod PathLemmas
 pub mod PieceLemmas
 pub mod PuttingLemmas
 pub mod RunLemmas
+pub mod SearchLemmas
 pub mod SourceLemmas
 pub mod StackLemmas
 pub mod StartLemmas
+pub mod TellingLemmas
 pub mod TopLemmas
 pub mod TrackedLemmas
 pub mod VisitLemmas

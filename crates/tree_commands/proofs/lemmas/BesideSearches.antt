@@ -1,6 +1,6 @@
 -- Searches that say whether all is ignored in a folder.
-use Rattle.std.proofs.Common.{◌≡◌, ◌≢◌, ◌⊎◌, inl, inr, ⊎_elim, ℕ, Bool, true, false, List, [], refl, sym, ap, subst, ◌∙◌}
-use Rattle.std.specs.Prelude.{◌↔◌, IsTrue, Some, not}
+use Rattle.std.proofs.Common.{◌≡◌, ◌≢◌, inl, inr, ⊎_elim, ℕ, Bool, true, false, List, [], refl, sym, ap, subst, ◌∙◌}
+use Rattle.std.specs.Prelude.{◌↔◌, IsTrue, not}
 use Rattle.std.proofs.lemmas.Bool.{false≢true}
 use Rattle.gix_glob.specs.EntryLists.{EntryList}
 use Rattle.glob_trees.specs.Ways.{Folder, GivesOnly, start_of}
@@ -11,11 +11,9 @@ use Rattle.tree_commands.specs.declared.files.choosing.Folders.TheVariants.{Ente
 use Rattle.tree_commands.specs.declared.files.pending.Pending.{Pending}
 use Rattle.tree_commands.specs.FileTrees.{FileTree}
 use Rattle.tree_commands.specs.Files.{Basis, HasListedBy, IsAllIgnored, IsEmpty, IsEntryOf, IsIgnoredAt, IsMet, IsSearched, IsShut, ShutsItself, Terms, begins, entering, lies, search_of}
-use Rattle.tree_commands.specs.Private.Filling.{EntersBeside, IsNamedBeside, MayBeAllIgnored, OfStanding}
-use Rattle.tree_commands.specs.Private.Listing.{Enters, IsIgnoredNext, MayVisit, Stands, path_of}
+use Rattle.tree_commands.specs.Private.Filling.{MayBeAllIgnored, OfStanding}
+use Rattle.tree_commands.specs.Private.Listing.{IsIgnoredNext, MayVisit, Stands, path_of}
 use Rattle.tree_commands.proofs.lemmas.FillingLemmas.{stands_ignored}
-use Rattle.tree_commands.proofs.lemmas.PathLemmas.{one_folder}
-use Rattle.tree_commands.proofs.lemmas.VisitLemmas.{enters_weaker}
 
 -- ---- what is met by a search is met by one that goes into all folders
 
@@ -124,31 +122,6 @@ module _ (Known : FileTree → Type 0) (terms : Terms) (lists : List (EntryList 
         not_by : (b : Bool) → ¬ IsTrue b → IsTrue (not b)
         not_by true out = absurd (out refl)
         not_by false out = refl
-
--- ---- a folder was entered, and is told
-
-module _ (Known Now : FileTree → Type 0) (stays : (tree : FileTree) → Known tree → Now tree) (terms other : Terms) (as_terms : other ≡ terms) (next : Pending) (lists more new_lists : List (EntryList (Unit {0}))) (as_lists : more ≡ lists) (old middle new : List Pending) (as_pending : middle ≡ old)
-    (it : EntersBeside Now other next more new_lists middle new) where
-  abbrev entered_here : EntersBeside Known terms next lists new_lists old new
-  entered_here = record {
-    folder = it.folder;
-    start = it.start;
-    enters = enters_weaker Now Known stays terms it.folder next.list_count false lists new_lists old new
-        (subst (λ (t : Terms). Enters Now t it.folder next.list_count false lists new_lists old new) as_terms
-        (subst (λ (ls : List (EntryList (Unit {0}))). Enters Now other it.folder next.list_count false ls new_lists old new) as_lists
-        (subst (λ (ps : List Pending). Enters Now other it.folder next.list_count false more new_lists ps new) as_pending it.enters)));
-  }
-
-  pub named_beside : (folder : Folder) → path_of next ≡ start_of folder → MayBeAllIgnored terms lists next folder → OfStanding Known terms lists next (λ basis tree. IsAllIgnored basis tree folder)
-      → IsNamedBeside Known terms next lists new_lists old new (Some (path_of next))
-  named_beside folder start may ignored =
-      let one : folder ≡ it.folder = one_folder folder it.folder (sym start ∙ it.start) in
-      record {
-        name = refl;
-        entered = entered_here;
-        may = subst (MayBeAllIgnored terms lists next) one may;
-        ignored = subst (λ f. OfStanding Known terms lists next (λ basis tree. IsAllIgnored basis tree f)) one ignored;
-      }
 
 -- the folders that a search asks for are searched
 pub asked_beside : (Known : FileTree → Type 0) (terms : Terms) (lists : List (EntryList (Unit {0}))) (place : Pending) (folders : Folders) (chosen : Chosen) → terms.folders ≡ NamedIfAllIgnored → (old new : Folder → Type 0)

@@ -3,7 +3,7 @@ use Rattle.std.proofs.Common.{◌≡◌, ◌≢◌, ◌⊎◌, inl, inr, ⊎_eli
 use Rattle.std.specs.Prelude.{◌↔◌, IsTrue, Option, None, Some, is_some, not, option_map}
 use Rattle.std.specs.List.{flat_map}
 use Rattle.std.proofs.lemmas.Bool.{false≢true}
-use Rattle.std.proofs.lemmas.List.{length-take-le, take-append-le, take-take, take_all}
+use Rattle.std.proofs.lemmas.List.{length-take-le, take-append-le, take-take}
 use Rattle.gix_glob.specs.declared.pattern.Case.{Case}
 use Rattle.gix_glob.specs.Bytes.{EndsInSlash, slash}
 use Rattle.gix_glob.specs.EntryLists.{EntryList}
@@ -11,26 +11,20 @@ use Rattle.glob_trees.specs.Ways.{Folder, GivesOnly, start_of}
 use Rattle.tree_commands.specs.declared.files.choosing.Chosen.{Chosen}
 use Rattle.tree_commands.specs.declared.files.choosing.Chosen.TheVariants.{All, Ignored, Unignored}
 use Rattle.tree_commands.specs.declared.files.choosing.Folders.{Folders}
-use Rattle.tree_commands.specs.declared.files.choosing.Folders.TheVariants.{Entered, EnteredUnlessFilled, NamedIfEmpty, NamedIfFilled}
+use Rattle.tree_commands.specs.declared.files.choosing.Folders.TheVariants.{EnteredUnlessFilled, NamedIfEmpty, NamedIfFilled}
 use Rattle.tree_commands.specs.declared.files.pending.Pending.{Pending}
 use Rattle.tree_commands.specs.FileTrees.{FileTree}
-use Rattle.tree_commands.specs.Files.{AsksSearches, Basis, HasListed, HasListedBy, IsAllIgnored, IsFilled, IsFilledBy, IsIgnoredAt, IsListedBy, IsMet, IsMetUnless, IsReplaced, IsSearched, IsTold, IsToldAsListed, IsToldBeside, IsToldInPlace, Terms, begins, entering, lies, never, search_of}
-use Rattle.tree_commands.specs.Private.Filling.{IsToTell, IsUnfilled, MaySearch, OfStanding, StepsOnce, Tells}
-use Rattle.tree_commands.specs.Private.Listing.{Among, FlagsFolder, IsFree, IsIgnoredNext, IsLevel, IsMarked, IsToList, MayVisit, Stands, Visits, path_of}
+use Rattle.tree_commands.specs.Files.{AsksSearches, Basis, HasListed, HasListedBy, IsAllIgnored, IsFilled, IsFilledBy, IsIgnoredAt, IsMet, IsMetUnless, IsReplaced, IsSearched, IsTold, IsToldAsListed, IsToldBeside, IsToldInPlace, Terms, begins, entering, lies, never, search_of}
+use Rattle.tree_commands.specs.Private.Filling.{MaySearch, OfStanding, Tells}
+use Rattle.tree_commands.specs.Private.Listing.{Among, FlagsFolder, IsFree, IsIgnoredNext, IsLevel, IsMarked, MayVisit, Stands, Visits, path_of}
 use Rattle.tree_commands.specs.Private.UnderWay.{Beginning, IsHalfway, IsUnderWay, IsWriting, OfKnown, WritesAll}
 use Rattle.tree_commands.proofs.lemmas.AmongLemmas.{among_cases, among_last, among_left, of_all}
 use Rattle.tree_commands.proofs.lemmas.LevelLemmas.{next_ignored}
 use Rattle.tree_commands.proofs.lemmas.ListingRuns.{all_is_written, asked_is_met, told_is_met, writes_on}
 use Rattle.tree_commands.proofs.lemmas.PathLemmas.{one_folder, some_append, start_ends, start_marked}
 use Rattle.tree_commands.proofs.lemmas.SourceLemmas.{gives_further}
-use Rattle.tree_commands.proofs.lemmas.VisitLemmas.{enters_weaker}
 
 -- ---- where a search begins
-
-pub entered_is_plain : ¬ AsksSearches Entered
-entered_is_plain (inl is) = absurd (cc)
-entered_is_plain (inr (inl is)) = absurd (cc)
-entered_is_plain (inr (inr is)) = absurd (cc)
 
 pub empty_is_plain : ¬ AsksSearches NamedIfEmpty
 empty_is_plain (inl is) = absurd (cc)
@@ -42,22 +36,8 @@ met_where : (basis : Basis) (tree : FileTree) (More Less : Folder → Type 0) �
 met_where basis tree More Less fewer begins = begins
 met_where basis tree More Less fewer (lies {folder} {found} met may kept entry) = lies (met_where basis tree More Less fewer met) may (λ less. kept (fewer folder less)) entry
 
--- the lists decide about the same for another listing
-level_of_search : (chosen other : Chosen) (folders : Folders) (basis : Basis) (tree : FileTree) (lists : List (EntryList (Unit {0}))) (is_below : Bool) (path : List ℕ) → IsLevel chosen basis tree lists is_below path → IsLevel chosen (search_of folders other basis) tree lists is_below path
-level_of_search All other folders basis tree lists is_below path level = tt
-level_of_search Unignored other folders basis tree lists is_below path level = level
-level_of_search Ignored other folders basis tree lists is_below path level = level
-
 module _ (terms : Terms) (lists : List (EntryList (Unit {0}))) (next : Pending) (folders : Folders) where
-  -- a search of the paths that are chosen stands where the listing does
-  pub may_search_chosen : MaySearch terms lists next folders terms.chosen
-  may_search_chosen tree basis same stands = record {
-    top = stands.top;
-    level = λ path is_dir marked. level_of_search terms.chosen terms.chosen folders basis tree (take next.list_count lists) next.is_below path
-        (subst (λ (t : Terms). IsLevel t.chosen basis tree (take next.list_count lists) next.is_below path) same (stands.level path is_dir marked));
-  }
-
-  -- and where those are the ignored ones, so does a search of the others outside of ignored folders
+  -- where ignored paths are chosen, a search of the others stands where the listing does, outside of ignored folders
   pub may_search_others : terms.chosen ≡ Ignored → next.is_below ≡ false → MaySearch terms lists next folders Unignored
   may_search_others told outside tree basis same stands = record {
     top = stands.top;
@@ -105,16 +85,6 @@ mark_line path = 0 ∷ []
 module _ (Known : FileTree → Type 0) (terms : Terms) (beginning : Beginning) where
   abbrev pub IsSearching : List Pending → List (EntryList (Unit {0})) → Type 0
   IsSearching pending lists = IsWriting mark_line Known terms beginning (Some []) (Some []) [] pending lists
-
-  pub search_starts : IsUnderWay terms.case [] beginning.pending beginning.lists → IsSearching beginning.pending beginning.lists
-  search_starts under = record {
-    listed = [];
-    under_way = under;
-    written = [];
-    appended = refl;
-    joined = refl;
-    halfway = λ tree known basis same start halfway. halfway;
-  }
 
   -- nothing is listed in the end
   nothing_listed : (listed : List (List ℕ)) → flat_map mark_line listed ≡ [] → (path : List ℕ) → ¬ Among listed path
@@ -257,12 +227,6 @@ module _ (basis : Basis) (tree : FileTree) (folder : Folder) where
   filled_has Unignored filled = filled
   filled_has Ignored filled = filled.0
 
-  -- something is, and nothing else counts
-  pub filled_alone : (chosen : Chosen) → chosen ≢ Ignored → HasListed chosen basis tree folder → IsFilledBy chosen basis tree folder
-  filled_alone All other has = has
-  filled_alone Unignored other has = has
-  filled_alone Ignored other has = absurd (other refl)
-
   pub filled_ignored : (chosen : Chosen) → chosen ≡ Ignored → HasListed chosen basis tree folder → IsIgnoredAt basis tree folder true ⊎ (¬ HasListed Unignored basis tree folder) → IsFilledBy chosen basis tree folder
   filled_ignored All is has wholly = absurd (cc)
   filled_ignored Unignored is has wholly = absurd (cc)
@@ -272,38 +236,6 @@ module _ (basis : Basis) (tree : FileTree) (folder : Folder) where
   filled_wholly All is filled = absurd (cc)
   filled_wholly Unignored is filled = absurd (cc)
   filled_wholly Ignored is filled = filled.1
-
--- ---- a search from a path at which a listing stands
-
--- the terms of the search
-abbrev pub searching : Folders → Chosen → Terms → Terms
-searching folders chosen terms = record { case = terms.case; chosen = chosen; folders = folders; tracked = terms.tracked }
-
-module _ (Known : FileTree → Type 0) (terms : Terms) (lists : List (EntryList (Unit {0}))) (place next : Pending) (path : path_of next ≡ path_of place) (count : next.list_count ≡ place.list_count) (below : next.is_below ≡ place.is_below)
-    (folders : Folders) (chosen : Chosen) (may : MaySearch terms lists place folders chosen) where
-  abbrev begun : Beginning
-  begun = record { pending = next ∷ []; lists = lists }
-
-  -- what follows wherever it began follows here
-  search_here : (Holds : Basis → FileTree → List ℕ → Type 0) → OfKnown Known (searching folders chosen terms) begun Holds → OfStanding Known terms lists place (λ basis tree. Holds (search_of folders chosen basis) tree (path_of place))
-  search_here Holds holds tree known basis same stands =
-      subst (Holds (search_of folders chosen basis) tree) path
-      (holds tree known (search_of folders chosen basis) (ap (searching folders chosen) same) (path_of next) (search_halfway next lists (search_of folders chosen basis) tree (stands_as (search_of folders chosen basis) tree lists place next path count below (may tree basis same stands))))
-
-  pub search_says : ¬ AsksSearches folders → (is_any : Bool) → OfKnown Known (searching folders chosen terms) begun (λ basis tree start. IsTrue is_any ↔ ((found : List ℕ) × IsMet basis tree start found × IsTold basis tree found))
-      → OfStanding Known terms lists place (λ basis tree. (folder : Folder) → path_of place ≡ start_of folder → IsTrue is_any ↔ HasListedBy folders chosen basis tree folder)
-  search_says plain is_any says tree known basis same stands folder is =
-      let here = search_here (λ basis tree start. IsTrue is_any ↔ ((found : List ℕ) × IsMet basis tree start found × IsTold basis tree found)) says tree known basis same stands in
-      let has = has_found folders plain chosen basis tree folder (path_of place) is in
-      ((λ yes. has.0 (here.0 yes)), (λ listed. here.1 (has.1 listed)))
-
-  pub search_led : (folder : Folder) → OfKnown Known (searching folders chosen terms) begun (λ basis tree start. IsMet basis tree start (start_of folder))
-      → OfStanding Known terms lists place (λ basis tree. IsMet (search_of folders chosen basis) tree (path_of place) (start_of folder))
-  search_led folder = search_here (λ basis tree start. IsMet basis tree start (start_of folder))
-
--- lists that were kept are the same, cut to as many as they were
-pub kept_whole : (count : ℕ) (first lists : List (EntryList (Unit {0}))) → count ≡ length first → take count lists ≡ take count first → take count lists ≡ first
-kept_whole count first lists is same = same ∙ take_all count first (omega (arith, is))
 
 -- ---- a folder that is told only if it is filled
 
@@ -315,9 +247,6 @@ module _ (basis : Basis) (tree : FileTree) (folder : Folder) (chosen : Chosen) (
   pub not_filled : ¬ HasListed chosen basis tree folder → ¬ IsFilled basis tree folder
   not_filled none filled = none (filled_has basis tree folder chosen (subst (λ (c : Chosen). IsFilledBy c basis tree folder) is filled))
 
-  pub filled_by_one : chosen ≢ Ignored → HasListed chosen basis tree folder → IsFilled basis tree folder
-  filled_by_one other has = subst (λ (c : Chosen). IsFilledBy c basis tree folder) (sym is) (filled_alone basis tree folder chosen other has)
-
   pub filled_by_all : chosen ≡ Ignored → HasListed chosen basis tree folder → IsIgnoredAt basis tree folder true ⊎ (¬ HasListed Unignored basis tree folder) → IsFilled basis tree folder
   filled_by_all told has wholly = subst (λ (c : Chosen). IsFilledBy c basis tree folder) (sym is) (filled_ignored basis tree folder chosen told has wholly)
 
@@ -328,17 +257,6 @@ module _ (basis : Basis) (tree : FileTree) (folder : Folder) (chosen : Chosen) (
 pub stands_ignored : (basis : Basis) (tree : FileTree) (lists : List (EntryList (Unit {0}))) (place : Pending) → Stands basis tree lists place → basis.terms.chosen ≡ Ignored → (folder : Folder) → path_of place ≡ start_of folder → folder ≢ [] → ¬ EndsInSlash folder
     → IsIgnoredNext basis.terms lists place folder true ↔ IsIgnoredAt basis tree folder true
 stands_ignored basis tree lists place stands told folder is some unended = next_ignored basis tree lists place stands told folder true (some, unended, is ∙ start_marked folder some)
-
--- ---- one path pending
-
-abbrev pub begun_with : List Pending → List (EntryList (Unit {0})) → Beginning
-begun_with pending lists = record { pending = pending; lists = lists }
-
-pub same_beginning : (pending others : List Pending) (lists more : List (EntryList (Unit {0}))) → pending ≡ others → lists ≡ more → begun_with pending lists ≡ begun_with others more
-same_beginning pending others lists more one two = ap (λ (ps : List Pending). begun_with ps lists) one ∙ ap (λ (ls : List (EntryList (Unit {0}))). begun_with others ls) two
-
-pub one_kept : (next : Pending) (count : ℕ) → count ≤ next.list_count → (other : Pending) → Among (next ∷ []) other → count ≤ other.list_count
-one_kept next count few other among = ⊎_elim (λ (is : next ≡ other). subst (λ (n : Pending). count ≤ n.list_count) is few) (λ (never : ⊥). absurd never) among
 
 -- ---- what is known where a listing stands
 
@@ -364,11 +282,6 @@ module _ (Known : FileTree → Type 0) (terms : Terms) (lists : List (EntryList 
         let it = says tree known basis same stands folder is in
         let no : ¬ IsFilled basis tree folder = not_filled basis tree folder terms.chosen (ap (λ (t : Terms). t.chosen) same) (λ listed. false≢true (sym none ∙ it.1 listed)) in
         ((λ yes. absurd (false≢true yes)), λ filled. absurd (no filled))
-
-    pub says_filled : has ≡ true → terms.chosen ≢ Ignored → SaysFilled true
-    says_filled some other tree known basis same stands folder is =
-        let it = says tree known basis same stands folder is in
-        ((λ yes. filled_by_one basis tree folder terms.chosen (ap (λ (t : Terms). t.chosen) same) other (it.0 some)), λ filled. refl)
 
     module _ (may : MayVisit terms.case (path_of place)) (ends : EndsInSlash (path_of place)) (some : has ≡ true) (told : terms.chosen ≡ Ignored) where
       -- whether the folder is ignored, by what is known of the path
@@ -425,67 +338,14 @@ module _ (Known : FileTree → Type 0) (terms : Terms) (lists : List (EntryList 
   pub asks_one : (chosen : Chosen) (old new : Folder → Type 0) → GivesOnly (IsAskedBy chosen) old new → GivesOnly IsAsked old new
   asks_one chosen old new asked folder given = ⊎_elim (λ (before : old folder). inl before) (λ (here : IsAskedBy chosen folder). inr (λ tree known basis same stands. (chosen, here tree known basis same stands))) (asked folder given)
 
-pub asks_two : (Known Now : FileTree → Type 0) (terms other : Terms) (lists more : List (EntryList (Unit {0}))) (place : Pending) (chosen : Chosen) (old middle new : Folder → Type 0) → ((tree : FileTree) → Known tree → Now tree) → other ≡ terms → more ≡ lists
-    → GivesOnly (IsAsked Known terms lists place) old middle → GivesOnly (IsAskedBy Now other more place chosen) middle new → GivesOnly (IsAsked Known terms lists place) old new
-asks_two Known Now terms other lists more place chosen old middle new stays as_terms as_lists one two =
-    gives_further (IsAsked Known terms lists place) (IsAskedBy Now other more place chosen) (IsAsked Known terms lists place) old middle new (λ folder asked. asked)
-    (λ folder asked. λ tree known basis same stands. (chosen, standing_as Known Now terms other lists more place (λ basis tree. IsMet (entering chosen basis) tree (path_of place) (start_of folder)) stays as_terms as_lists asked tree known basis same stands)) one two
-
--- ---- whether a path is told
-
--- the path of a folder that is listed ends in a slash
-listed_ends : (terms : Terms) (tree : FileTree) (Ignores : List ℕ → Bool → Type 0) (path : List ℕ) → IsListedBy terms tree Ignores path → (folder : Folder) → path ≡ start_of folder → EndsInSlash path
-listed_ends terms tree Ignores path (inl file) folder is = subst EndsInSlash (sym is) (start_ends folder (λ none. file.some (is ∙ none)))
-listed_ends terms tree Ignores path (inr at) folder is = record { front = at.folder; joined = at.start ∙ start_marked at.folder (let shut = at.shut in shut.below) }
-
-module _ (Known : FileTree → Type 0) (terms : Terms) (next : Pending) (lists new_lists : List (EntryList (Unit {0}))) (old new : List Pending) (path : List ℕ) (it : IsToList Known terms next lists new_lists old new path) where
-  -- what is listed is told, where folders are told otherwise
-  pub told_unasked : terms.folders ≢ NamedIfFilled → IsToTell Known terms next lists new_lists old new path
-  told_unasked other = record { listed = it; filled = λ asks. absurd (other asks) }
-
-  -- and so is the path of a file
-  pub told_file : ¬ EndsInSlash path → IsToTell Known terms next lists new_lists old new path
-  told_file whole = record {
-    listed = it;
-    filled = λ asks folder is tree known basis same stands. absurd (whole (listed_ends terms tree (IsIgnoredNext terms lists next) path (it.listed tree known) folder (it.same ∙ is)));
-  }
-
-  module _ (Now : FileTree → Type 0) (stays : (tree : FileTree) → Known tree → Now tree) (place : Pending) (same_path : path_of place ≡ path_of next) (count : place.list_count ≡ next.list_count) (below : place.is_below ≡ next.is_below)
-      (other : Terms) (as_terms : other ≡ terms) (more : List (EntryList (Unit {0}))) (as_lists : more ≡ lists) where
-    -- what is said of the place is said of the path
-    at_next : (Holds : Basis → FileTree → Type 0) → OfStanding Now other more place Holds → OfStanding Known terms lists next Holds
-    at_next Holds holds tree known basis same stands =
-        standing_as Known Now terms other lists more place Holds stays as_terms as_lists holds tree known basis same (stands_as basis tree lists next place same_path count below stands)
-
-    -- and so is that of a folder that is filled
-    pub told_filled : (last_lists : List (EntryList (Unit {0}))) (last : List Pending) → last_lists ≡ new_lists → last ≡ new → SaysFilled Now other more place true → IsToTell Known terms next lists last_lists old last path
-    told_filled last_lists last held kept says = record {
-      listed = record { same = it.same; lists = held ∙ it.lists; pending = kept ∙ it.pending; listed = it.listed };
-      filled = λ asks folder is. at_next (λ basis tree. IsFilled basis tree folder) (λ tree known basis same stands. let it = says tree known basis same stands folder (same_path ∙ is) in it.0 refl);
-    }
-
-    -- but not of one that isn't
-    pub untold : (last_lists : List (EntryList (Unit {0}))) (last : List Pending) → last_lists ≡ new_lists → last ≡ new → terms.folders ≡ NamedIfFilled → EndsInSlash (path_of next) → path_of next ≢ slash ∷ [] → SaysFilled Now other more place false → IsUnfilled Known terms next lists last_lists old last
-    untold last_lists last held kept asks ends whole says =
-        let start : path_of next ≡ start_of ends.front = ends.joined ∙ sym (start_marked ends.front (λ none. whole (ends.joined ∙ ap (λ f. f ++ slash ∷ []) none))) in
-        record {
-          listed = record { same = refl; lists = held ∙ it.lists; pending = kept ∙ it.pending; listed = λ tree known. subst (IsListedBy terms tree (IsIgnoredNext terms lists next)) it.same (it.listed tree known) };
-          asks = asks;
-          folder = ends.front;
-          start = start;
-          unfilled = at_next (λ basis tree. ¬ IsFilled basis tree ends.front) (λ tree known basis same stands filled. let it = says tree known basis same stands ends.front (same_path ∙ start) in false≢true (it.1 filled));
-        }
-
-    -- the folders that are searched
-    pub searches : terms.folders ≡ NamedIfFilled → (first middle last : Folder → Type 0) → GivesOnly (λ folder. path_of next ≡ start_of folder) first middle → GivesOnly (IsAsked Now other more place) middle last
-        → GivesOnly (λ folder. (path_of next ≡ start_of folder) ⊎ OfStanding Known terms lists next (λ basis tree. IsSearched basis tree (path_of next) folder)) first last
-    searches asks first middle last one two =
-        gives_further (λ folder. path_of next ≡ start_of folder) (IsAsked Now other more place) (λ folder. (path_of next ≡ start_of folder) ⊎ OfStanding Known terms lists next (λ basis tree. IsSearched basis tree (path_of next) folder))
-        first middle last (λ folder is. inl is)
-        (λ folder asked. inr (at_next (λ basis tree. IsSearched basis tree (path_of next) folder) (λ tree known basis same stands.
-        let it = asked tree known basis same stands in
-        record { asks = inl (ap (λ (t : Terms). t.folders) (same ∙ as_terms) ∙ asks); chosen = it.0; met = subst (λ p. IsMet (entering it.0 basis) tree p (start_of folder)) same_path it.1 })))
-        one two
+-- and those folders are searched
+pub asked_searched : (Known : FileTree → Type 0) (terms : Terms) (lists : List (EntryList (Unit {0}))) (place : Pending) → AsksSearches terms.folders → (old new : Folder → Type 0) → GivesOnly (IsAsked Known terms lists place) old new
+    → GivesOnly (λ folder. OfStanding Known terms lists place (λ basis tree. IsSearched basis tree (path_of place) folder)) old new
+asked_searched Known terms lists place asks old new asked folder given = ⊎_elim
+    (λ (before : old folder). inl before)
+    (λ (here : IsAsked Known terms lists place folder). inr (λ tree known basis same stands.
+    let it = here tree known basis same stands in record { asks = subst (λ (t : Terms). AsksSearches t.folders) (sym same) asks; chosen = it.0; met = it.1 }))
+    (asked folder given)
 
 -- ---- whether a folder is replaced by its name
 
@@ -512,66 +372,3 @@ module _ (Known : FileTree → Type 0) (terms : Terms) (lists : List (EntryList 
         let it = filled tree known basis same stands folder is in
         let here = subst (IsFree basis.terms) (one_folder at folder (sym start ∙ is)) (subst (λ (t : Terms). IsFree t at) (sym same) free) in
         ((λ yes. record { asks = ap (λ (t : Terms). t.folders) same ∙ asks; below = here.0; free = here.1; filled = it.0 yes }), λ replaced. it.1 replaced.filled)
-
--- ---- a step of a listing
-
-module _ (Known Now : FileTree → Type 0) (stays : (tree : FileTree) → Known tree → Now tree) (terms : Terms) (next : Pending) (lists new_lists : List (EntryList (Unit {0}))) (old new : List Pending) where
-  to_list_weaker : (path : List ℕ) → IsToList Now terms next lists new_lists old new path → IsToList Known terms next lists new_lists old new path
-  to_list_weaker path it = record { same = it.same; lists = it.lists; pending = it.pending; listed = λ tree known. it.listed tree (stays tree known) }
-
-  -- what is known after a call is known of what was known before it
-  pub tells_weaker : (told : Option (List ℕ)) → Tells Now terms next lists new_lists old new told → Tells Known terms next lists new_lists old new told
-  tells_weaker (Some path) it = record { listed = to_list_weaker path it.listed; filled = λ asks folder is tree known. it.filled asks folder is tree (stays tree known) }
-  tells_weaker None (inl it) = inl (record { listed = to_list_weaker (path_of next) it.listed; asks = it.asks; folder = it.folder; start = it.start; unfilled = λ tree known. it.unfilled tree (stays tree known) })
-  tells_weaker None (inr (inl it)) = inr (inl (record {
-    folder = it.folder;
-    start = it.start;
-    is_ignored = it.is_ignored;
-    flag = it.flag;
-    may = λ tree known. it.may tree (stays tree known);
-    enters = enters_weaker Now Known stays terms it.folder next.list_count it.is_ignored lists new_lists old new it.enters;
-  }))
-  tells_weaker None (inr (inr it)) = inr (inr (record { lists = it.lists; pending = it.pending; ends = λ tree known. it.ends tree (stays tree known); unlisted = λ tree known. it.unlisted tree (stays tree known) }))
-
-module _ (Known Now : FileTree → Type 0) (stays : (tree : FileTree) → Known tree → Now tree) (terms : Terms) (next : Pending) (lists new_lists : List (EntryList (Unit {0}))) (old new : List Pending) (told : Option (List ℕ)) where
-  pub once_weaker : StepsOnce Now terms next lists new_lists old new told → StepsOnce Known terms next lists new_lists old new told
-  once_weaker (inl it) = inl (record {
-    lists = it.lists;
-    pending = it.pending;
-    folder = it.folder;
-    start = it.start;
-    replaced = λ tree known. it.replaced tree (stays tree known);
-    told_if = it.told_if;
-  })
-  once_weaker (inr it) = inr (record { tells = tells_weaker Known Now stays terms next lists new_lists old new told it.tells; unreplaced = λ tree known. it.unreplaced tree (stays tree known) })
-
-pub searched_as : (Known : FileTree → Type 0) (terms : Terms) (lists more : List (EntryList (Unit {0}))) (next : Pending) → more ≡ lists → (old new : Folder → Type 0) → GivesOnly (λ folder. OfStanding Known terms more next (λ basis tree. IsSearched basis tree (path_of next) folder)) old new
-    → GivesOnly (λ folder. (path_of next ≡ start_of folder) ⊎ OfStanding Known terms lists next (λ basis tree. IsSearched basis tree (path_of next) folder)) old new
-searched_as Known terms lists more next as_lists old new asked folder given = ⊎_elim
-    (λ (before : old folder). inl before)
-    (λ (here : OfStanding Known terms more next (λ basis tree. IsSearched basis tree (path_of next) folder)).
-    inr (inr (standing_as Known Known terms terms lists more next (λ basis tree. IsSearched basis tree (path_of next) folder) (λ tree known. known) refl as_lists here)))
-    (asked folder given)
-
-pub searched_then : (Known Now : FileTree → Type 0) (terms other : Terms) (lists more : List (EntryList (Unit {0}))) (next : Pending) → ((tree : FileTree) → Known tree → Now tree) → other ≡ terms → more ≡ lists → (old middle new : Folder → Type 0)
-    → GivesOnly (λ folder. (path_of next ≡ start_of folder) ⊎ OfStanding Known terms lists next (λ basis tree. IsSearched basis tree (path_of next) folder)) old middle
-    → GivesOnly (λ folder. (path_of next ≡ start_of folder) ⊎ OfStanding Now other more next (λ basis tree. IsSearched basis tree (path_of next) folder)) middle new
-    → GivesOnly (λ folder. (path_of next ≡ start_of folder) ⊎ OfStanding Known terms lists next (λ basis tree. IsSearched basis tree (path_of next) folder)) old new
-searched_then Known Now terms other lists more next stays as_terms as_lists old middle new one two =
-    gives_further (λ folder. (path_of next ≡ start_of folder) ⊎ OfStanding Known terms lists next (λ basis tree. IsSearched basis tree (path_of next) folder))
-    (λ folder. (path_of next ≡ start_of folder) ⊎ OfStanding Now other more next (λ basis tree. IsSearched basis tree (path_of next) folder))
-    (λ folder. (path_of next ≡ start_of folder) ⊎ OfStanding Known terms lists next (λ basis tree. IsSearched basis tree (path_of next) folder)) old middle new (λ folder led. led)
-    (λ folder which. ⊎_elim
-    (λ (is : path_of next ≡ start_of folder). inl is)
-    (λ (here : OfStanding Now other more next (λ basis tree. IsSearched basis tree (path_of next) folder)).
-    inr (standing_as Known Now terms other lists more next (λ basis tree. IsSearched basis tree (path_of next) folder) stays as_terms as_lists here))
-    which)
-    one two
-
-pub asked_searched : (Known : FileTree → Type 0) (terms : Terms) (lists : List (EntryList (Unit {0}))) (place : Pending) → AsksSearches terms.folders → (old new : Folder → Type 0) → GivesOnly (IsAsked Known terms lists place) old new
-    → GivesOnly (λ folder. OfStanding Known terms lists place (λ basis tree. IsSearched basis tree (path_of place) folder)) old new
-asked_searched Known terms lists place asks old new asked folder given = ⊎_elim
-    (λ (before : old folder). inl before)
-    (λ (here : IsAsked Known terms lists place folder). inr (λ tree known basis same stands.
-    let it = here tree known basis same stands in record { asks = subst (λ (t : Terms). AsksSearches t.folders) (sym same) asks; chosen = it.0; met = it.1 }))
-    (asked folder given)

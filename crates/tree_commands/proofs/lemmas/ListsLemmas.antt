@@ -80,3 +80,10 @@ seen_taken n lists = take-map (entry_list_of (λ _. tt)) n lists
 
 pub seen_length : {T X : Type 0} (lists : List (patterns.List T X)) → length (seen_lists lists) ≡ length lists
 seen_length lists = length-map lists (entry_list_of (λ _. tt))
+
+-- lists that were cut are seen cut, and lists that are seen alike are as many
+pub seen_cut : {T X : Type 0} (n : ℕ) (lists cut : List (patterns.List T X)) → cut ≡ take n lists → seen_lists cut ≡ take n (seen_lists lists)
+seen_cut n lists cut is = ap seen_lists is ∙ sym (seen_taken n lists)
+
+pub seen_as_many : {T X : Type 0} (lists more : List (patterns.List T X)) → seen_lists more ≡ seen_lists lists → length lists ≡ length more
+seen_as_many lists more same = sym (seen_length lists) ∙ sym (ap length same) ∙ seen_length more

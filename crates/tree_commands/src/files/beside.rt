@@ -38,10 +38,28 @@ impl<'a> Lister<'a> {
         ensures begun { IfErr result (λ fault. is_of_start fault ≡ false) }
     {
         self.on_way.lists.truncate(next.list_count);
+        self.tell_at(source, next)
+    }
+
+    /// Takes the next step, where no lists are left but those of the folders on the way to the path.
+    fn tell_at<S: FileSource>(
+        &mut self,
+        source: &mut S,
+        next: Pending,
+    ) -> Result<Option<Vec<u8>>, FilesFault<S::Fault>>
+        requires folders { BasesAreFolders (seen_lists self.old.on_way.lists.items) }
+        requires may { MayVisit self.old.on_way.terms.case next.path.items }
+        requires count { next.list_count ≡ length self.old.on_way.lists.items }
+        ensures steps { IfOk result (λ told. Steps (S.shows source.old) (terms_of self.old.on_way.terms) next (seen_lists self.old.on_way.lists.items) (seen_lists self.new.on_way.lists.items) self.old.pending.items self.new.pending.items (option_map vec_items told)) }
+        ensures terms { self.new.on_way.terms ≡ self.old.on_way.terms }
+        ensures folders { OnOk result (BasesAreFolders (seen_lists self.new.on_way.lists.items)) }
+        ensures stays { StaysKnown S.shows source.old source.new }
+        ensures asks { GivesOnly (λ folder. (next.path.items ≡ start_of folder) ⊎ OfStanding (S.shows source.old) (terms_of self.old.on_way.terms) (seen_lists self.old.on_way.lists.items) next (λ basis tree. IsSearched basis tree next.path.items folder)) (S.asked source.old) (S.asked source.new) }
+        ensures begun { IfErr result (λ fault. is_of_start fault ≡ false) }
+    {
         let is_all_ignored = self.is_all_ignored(source, &next)?;
         if !is_all_ignored {
-            let told = self.tell_once(source, next)?;
-            return Ok(told);
+            return self.tell_once(source, next);
         }
         self.enter_beside(source, &next)?;
         Ok(Some(next.path))

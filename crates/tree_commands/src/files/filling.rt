@@ -1,5 +1,5 @@
 //! Folders that are told only if they are filled: listings from there that go into all folders, and end at the first path.
-ghost use Rattle.std.specs.Prelude.{◌≡◌, ◌≢◌, ◌↔◌, ◌≤◌, ◌⊎◌, ◌∷◌, [], ℕ, List, false, length, take, IfErr, IfOk, IsTrue, OnOk, option_map};
+ghost use Rattle.std.specs.Prelude.{◌≡◌, ◌≢◌, ◌↔◌, ◌≤◌, ◌⊎◌, ◌∷◌, [], ℕ, List, false, length, IfErr, IfOk, IsTrue, OnOk, option_map};
 ghost use Rattle.std.specs.Vec.{vec_items};
 ghost use Rattle.git_index.specs.Entries.{IsTracked};
 ghost use Rattle.gix_glob.specs.Bytes.{EndsInSlash, slash};
@@ -16,7 +16,7 @@ ghost use Rattle.tree_commands.specs.Private.UnderWay.{IsUnderWay, OfKnown, begi
 use crate::files::choosing::{Chosen, Folders};
 use crate::files::entries::ListsOnWay;
 use crate::files::fault::FilesFault;
-use crate::files::lister::{Lister, folder_at, is_free, is_ignored_folder};
+use crate::files::lister::{Lister, folder_at, is_free, is_ignored_folder, only_if};
 use crate::files::pending::Pending;
 use crate::files::source::FileSource;
 use crate::files::start::ends_in_slash;
@@ -35,24 +35,20 @@ impl<'a> Lister<'a> {
     ) -> Result<Option<Vec<u8>>, FilesFault<S::Fault>>
         requires folders { BasesAreFolders (seen_lists self.old.on_way.lists.items) }
         requires may { MayVisit self.old.on_way.terms.case next.path.items }
-        requires count { next.list_count ≤ length self.old.on_way.lists.items }
-        ensures steps { IfOk result (λ told. StepsOnce (S.shows source.old) (terms_of self.old.on_way.terms) next (take next.list_count (seen_lists self.old.on_way.lists.items)) (seen_lists self.new.on_way.lists.items) self.old.pending.items self.new.pending.items (option_map vec_items told)) }
+        requires count { next.list_count ≡ length self.old.on_way.lists.items }
+        ensures steps { IfOk result (λ told. StepsOnce (S.shows source.old) (terms_of self.old.on_way.terms) next (seen_lists self.old.on_way.lists.items) (seen_lists self.new.on_way.lists.items) self.old.pending.items self.new.pending.items (option_map vec_items told)) }
         ensures terms { self.new.on_way.terms ≡ self.old.on_way.terms }
         ensures folders { OnOk result (BasesAreFolders (seen_lists self.new.on_way.lists.items)) }
         ensures stays { StaysKnown S.shows source.old source.new }
-        ensures asks { GivesOnly (λ folder. (next.path.items ≡ start_of folder) ⊎ OfStanding (S.shows source.old) (terms_of self.old.on_way.terms) (take next.list_count (seen_lists self.old.on_way.lists.items)) next (λ basis tree. IsSearched basis tree next.path.items folder)) (S.asked source.old) (S.asked source.new) }
+        ensures asks { GivesOnly (λ folder. (next.path.items ≡ start_of folder) ⊎ OfStanding (S.shows source.old) (terms_of self.old.on_way.terms) (seen_lists self.old.on_way.lists.items) next (λ basis tree. IsSearched basis tree next.path.items folder)) (S.asked source.old) (S.asked source.new) }
         ensures begun { IfErr result (λ fault. is_of_start fault ≡ false) }
     {
-        self.on_way.lists.truncate(next.list_count);
         let is_replaced = self.is_replaced(source, &next)?;
         if !is_replaced {
-            let told = self.tell_visited(source, next)?;
-            return Ok(told);
+            return self.tell_visited(source, next);
         }
-        if has_tracked_name(&self.on_way.terms, &next.path) {
-            return Ok(None);
-        }
-        Ok(Some(next.path))
+        let is_told = !has_tracked_name(&self.on_way.terms, &next.path);
+        Ok(only_if(is_told, next.path))
     }
 
     /// Whether the folder is replaced by its name at whose path a listing stands.
@@ -94,15 +90,14 @@ impl<'a> Lister<'a> {
     ) -> Result<Option<Vec<u8>>, FilesFault<S::Fault>>
         requires folders { BasesAreFolders (seen_lists self.old.on_way.lists.items) }
         requires may { MayVisit self.old.on_way.terms.case next.path.items }
-        requires count { next.list_count ≤ length self.old.on_way.lists.items }
-        ensures tells { IfOk result (λ told. Tells (S.shows source.old) (terms_of self.old.on_way.terms) next (take next.list_count (seen_lists self.old.on_way.lists.items)) (seen_lists self.new.on_way.lists.items) self.old.pending.items self.new.pending.items (option_map vec_items told)) }
+        requires count { next.list_count ≡ length self.old.on_way.lists.items }
+        ensures tells { IfOk result (λ told. Tells (S.shows source.old) (terms_of self.old.on_way.terms) next (seen_lists self.old.on_way.lists.items) (seen_lists self.new.on_way.lists.items) self.old.pending.items self.new.pending.items (option_map vec_items told)) }
         ensures terms { self.new.on_way.terms ≡ self.old.on_way.terms }
         ensures folders { OnOk result (BasesAreFolders (seen_lists self.new.on_way.lists.items)) }
         ensures stays { StaysKnown S.shows source.old source.new }
-        ensures asks { GivesOnly (λ folder. (next.path.items ≡ start_of folder) ⊎ OfStanding (S.shows source.old) (terms_of self.old.on_way.terms) (take next.list_count (seen_lists self.old.on_way.lists.items)) next (λ basis tree. IsSearched basis tree next.path.items folder)) (S.asked source.old) (S.asked source.new) }
+        ensures asks { GivesOnly (λ folder. (next.path.items ≡ start_of folder) ⊎ OfStanding (S.shows source.old) (terms_of self.old.on_way.terms) (seen_lists self.old.on_way.lists.items) next (λ basis tree. IsSearched basis tree next.path.items folder)) (S.asked source.old) (S.asked source.new) }
         ensures begun { IfErr result (λ fault. is_of_start fault ≡ false) }
     {
-        self.on_way.lists.truncate(next.list_count);
         let (list_count, is_below) = (next.list_count, next.is_below);
         let Some(path) = self.visit(source, next)? else {
             return Ok(None);
@@ -116,10 +111,7 @@ impl<'a> Lister<'a> {
             is_below,
         };
         let is_filled = self.is_filled(source, &place)?;
-        if is_filled {
-            return Ok(Some(place.path));
-        }
-        Ok(None)
+        Ok(only_if(is_filled, place.path))
     }
 
     /// Whether a folder is filled.

@@ -129,7 +129,7 @@ impl<'a> Lister<'a> {
 }
 
 /// The path, if it is listed.
-fn only_if(is_listed: bool, path: Vec<u8>) -> Option<Vec<u8>>
+pub(crate) fn only_if(is_listed: bool, path: Vec<u8>) -> Option<Vec<u8>>
     ensures { option_map vec_items result ≡ if_listed is_listed path.items }
 {
     if is_listed {

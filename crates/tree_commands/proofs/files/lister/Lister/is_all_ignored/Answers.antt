@@ -2,51 +2,34 @@ use Rattle.std.proofs.Common.{sym, ◌∙◌}
 use Rattle.std.proofs.lemmas.Bool.{false≢true}
 use Rattle.tree_commands.specs.declared.files.choosing.Chosen.TheVariants.{Unignored}
 use Rattle.tree_commands.specs.declared.files.choosing.Folders.TheVariants.{NamedIfEmpty}
-use Rattle.tree_commands.specs.Private.Listing.{seen_lists, terms_of}
 use Rattle.tree_commands.proofs.lemmas.BesideSearches.{asked_beside, outside, says_other, says_searched}
 use Rattle.tree_commands.proofs.lemmas.FillingLemmas.{empty_is_plain, may_search_others}
 use Rattle.tree_commands.proofs.files.lister.Lister.is_all_ignored.Goals as goal
 
 pub returns-then-not-may_be_all_ignored-clause-ignored : goal.returns-then-not-may_be_all_ignored-clause-ignored
 returns-then-not-may_be_all_ignored-clause-ignored g c =
-    let known = g.S.FileSource.shows c.args.source.now in
-    let terms = terms_of c.args.self.now.on_way.terms in
-    let lists = seen_lists c.args.self.now.on_way.lists.items in
-    let place = c.args.place.now in
-    says_other known terms lists place c.requires.may (λ folder is may. (let it = c.may_be_all_ignored.ensures.each folder is in false≢true (sym c.if-not-may_be_all_ignored.true ∙ it.1 may)))
+    says_other _ _ _ _ c.requires.may (λ folder is may. (let it = c.may_be_all_ignored.ensures.each folder is in false≢true (sym c.if-not-may_be_all_ignored.true ∙ it.1 may)))
 
 pub has_listed-requires-clause-standing : goal.has_listed-requires-clause-standing
 has_listed-requires-clause-standing g c =
-    let known = g.S.FileSource.shows c.args.source.now in
-    let terms = terms_of c.args.self.now.on_way.terms in
-    let lists = seen_lists c.args.self.now.on_way.lists.items in
-    let place = c.args.place.now in
     let some = c.may_be_all_ignored.ensures.some c.if-not-may_be_all_ignored.false in
     let each = c.may_be_all_ignored.ensures.each some.0 some.1 in
     let may = each.0 c.if-not-may_be_all_ignored.false in
-    may_search_others terms lists place NamedIfEmpty may.asks.1 (outside terms lists place some.0 may)
+    may_search_others _ _ _ NamedIfEmpty may.asks.1 (outside _ _ _ some.0 may)
 
 pub has_listed-requires-clause-plain : goal.has_listed-requires-clause-plain
 has_listed-requires-clause-plain g c = empty_is_plain
 
 pub returns-in_err-has_other-clause-asks : goal.returns-in_err-has_other-clause-asks
 returns-in_err-has_other-clause-asks g c =
-    let known = g.S.FileSource.shows c.args.source.now in
-    let terms = terms_of c.args.self.now.on_way.terms in
-    let lists = seen_lists c.args.self.now.on_way.lists.items in
-    let place = c.args.place.now in
     let some = c.may_be_all_ignored.ensures.some c.if-not-may_be_all_ignored.false in
     let each = c.may_be_all_ignored.ensures.each some.0 some.1 in
     let may = each.0 c.if-not-may_be_all_ignored.false in
-    asked_beside known terms lists place NamedIfEmpty Unignored may.asks.0 (g.S.FileSource.asked c.args.source.now) (g.S.FileSource.asked c.has_listed.new.source) c.has_listed.ensures.asks
+    asked_beside _ _ _ _ NamedIfEmpty Unignored may.asks.0 _ _ c.has_listed.ensures.asks
 
 pub returns-clause-ignored : goal.returns-clause-ignored
 returns-clause-ignored g c =
-    let known = g.S.FileSource.shows c.args.source.now in
-    let terms = terms_of c.args.self.now.on_way.terms in
-    let lists = seen_lists c.args.self.now.on_way.lists.items in
-    let place = c.args.place.now in
-    says_searched known terms lists place c.requires.may (λ folder is. (let each = c.may_be_all_ignored.ensures.each folder is in each.0 c.if-not-may_be_all_ignored.false)) c.in_ok-has_other.has_other c.in_ok-has_other.ensures.any
+    says_searched _ _ _ _ c.requires.may (λ folder is. (let each = c.may_be_all_ignored.ensures.each folder is in each.0 c.if-not-may_be_all_ignored.false)) c.in_ok-has_other.has_other c.in_ok-has_other.ensures.any
 
 pub returns-clause-may : goal.returns-clause-may
 returns-clause-may g c =
@@ -57,11 +40,7 @@ returns-clause-may g c =
 
 pub returns-clause-asks : goal.returns-clause-asks
 returns-clause-asks g c =
-    let known = g.S.FileSource.shows c.args.source.now in
-    let terms = terms_of c.args.self.now.on_way.terms in
-    let lists = seen_lists c.args.self.now.on_way.lists.items in
-    let place = c.args.place.now in
     let some = c.may_be_all_ignored.ensures.some c.if-not-may_be_all_ignored.false in
     let each = c.may_be_all_ignored.ensures.each some.0 some.1 in
     let may = each.0 c.if-not-may_be_all_ignored.false in
-    asked_beside known terms lists place NamedIfEmpty Unignored may.asks.0 (g.S.FileSource.asked c.args.source.now) (g.S.FileSource.asked c.has_listed.new.source) c.has_listed.ensures.asks
+    asked_beside _ _ _ _ NamedIfEmpty Unignored may.asks.0 _ _ c.has_listed.ensures.asks
