@@ -1,6 +1,5 @@
 use Rattle.std.proofs.Common.{◌≡◌, ◌≤◌, [], ap, subst, ◌∙◌, arith}
 use Rattle.std.proofs.lemmas.List.{nil_from_length}
-use Rattle.tree_commands.specs.declared.files.terms.Terms as held
 use Rattle.tree_commands.specs.Private.Listing.{terms_of}
 use Rattle.tree_commands.proofs.lemmas.ListingLemmas.{count_next, may_next}
 use Rattle.tree_commands.proofs.lemmas.ListsLemmas.{seen_length}

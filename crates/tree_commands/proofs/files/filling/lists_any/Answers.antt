@@ -1,9 +1,8 @@
-use Rattle.std.proofs.Common.{◌≡◌, ◌≤◌, ℕ, [], true, false, refl, sym, subst, ◌∙◌, arith}
+use Rattle.std.proofs.Common.{◌≡◌, ◌≤◌, ℕ, [], refl, sym, subst, ◌∙◌, arith}
 use Rattle.std.specs.Prelude.{List, Option}
 use Rattle.std.specs.Vec.{vec_items}
 use Rattle.std.proofs.lemmas.Bool.{false≢true}
 use Rattle.std.proofs.lemmas.List.{nil_from_length}
-use Rattle.tree_commands.specs.declared.files.terms.Terms as held
 use Rattle.tree_commands.specs.Private.Listing.{Visits, seen_lists, terms_of}
 use Rattle.tree_commands.proofs.lemmas.FillingLemmas.{found_by_some, kept_by_visit, none_by_none, search_asks, search_ends, search_finds, search_goes_on}
 use Rattle.tree_commands.proofs.lemmas.ListingLemmas.{count_next, may_next}

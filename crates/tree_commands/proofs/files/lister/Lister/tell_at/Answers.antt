@@ -48,5 +48,8 @@ returns-clause-steps g c =
     named_beside c.is_all_ignored.ensures.stays (ap terms_of c.is_all_ignored.ensures.terms) c.in_ok-is_all_ignored.ensures.lists (ap (λ ps. ps.items) c.is_all_ignored.ensures.pending) c.args.next
     c.in_ok-is_all_ignored.ensures.ignored c.if-not-is_all_ignored.false (c.in_ok-is_all_ignored.ensures.may c.if-not-is_all_ignored.false) c.in_ok-enter_beside.ensures.enters
 
+pub returns-clause-stays : goal.returns-clause-stays
+returns-clause-stays g c = λ tree known. c.enter_beside.ensures.stays tree (c.is_all_ignored.ensures.stays tree known)
+
 pub returns-clause-asks : goal.returns-clause-asks
 returns-clause-asks g c = asked_and_entered c.is_all_ignored.ensures.asks c.enter_beside.ensures.asks
