@@ -1,5 +1,5 @@
 //! What a configuration asks of the files of the operating system.
-ghost use Rattle.std.specs.Prelude.{◌≡◌, ◌+◌, ◌<◌, ◌≤◌, None, Some};
+ghost use Rattle.std.specs.Prelude.{◌≡◌, ◌+◌, ◌-◌, ◌<◌, ◌≤◌, None, Some};
 
 use crate::disk_files::DiskFiles;
 use crate::fault::{ConfigFileFault, WrongFile};
@@ -12,8 +12,8 @@ use std::io;
 use std::io::ErrorKind;
 use std::rt::Files;
 
-/// A file has so many bytes at most: 100 MiB.
-const MOST_BYTES: usize = 100 << 20;
+/// The files that are given have so many bytes in all at most, since each entry of one takes memory: 16 MiB.
+pub(crate) const MOST_BYTES: usize = 16 << 20;
 
 /// So many files are given at most: files that include one another could ask for very many.
 const MOST_FILES: usize = 10_000;
@@ -30,14 +30,16 @@ impl<'a, R: Files> ConfigFiles for DiskFiles<'a, R> {
         let Ok(name) = str::from_utf8(path) else {
             return wrong(alloc, WrongFile::Unnamed, path);
         };
-        let bytes = match read_front(self.rt, alloc, name, MOST_BYTES + 1) {
-            Ok(bytes) if bytes.len() > MOST_BYTES => return wrong(alloc, WrongFile::TooLarge, path),
+        let bytes = match read_front(self.rt, alloc, name, self.left.get().saturating_add(1)) {
             Ok(bytes) => bytes,
             Err(Unread::Folder) => return wrong(alloc, WrongFile::Folder, path),
             Err(Unread::Device | Unread::Waiting) => return wrong(alloc, WrongFile::NoFile, path),
             Err(Unread::Replaced) => return wrong(alloc, WrongFile::Replaced, path),
             Err(Unread::System(error)) => return refused(alloc, &error, path),
         };
+        if !take(&self.left, bytes.len()) {
+            return wrong(alloc, WrongFile::TooLarge, path);
+        }
         match self.real_path(path)? {
             Some(real_path) => Ok(Some(FoundFile { bytes, real_path })),
             // (it was removed since)
@@ -65,6 +67,23 @@ fn one_more(asked: usize) -> Option<usize>
     } else {
         None
     }
+}
+
+/// Takes the bytes of a file from those that may be given. It answers whether so many are left.
+fn take(left: &Cell<usize>, count: usize) -> bool {
+    let Some(rest) = left_behind(left.get(), count) else {
+        return false;
+    };
+    left.set(rest);
+    true
+}
+
+/// How many bytes are left behind so many; `None` where that is too many.
+fn left_behind(left: usize, count: usize) -> Option<usize>
+    ensures few { count ≤ left → result ≡ Some (left - count) }
+    ensures many { left < count → result ≡ None }
+{
+    left.checked_sub(count)
 }
 
 /// The answer for a file that the system refuses, or that isn't there.

@@ -1,6 +1,7 @@
 //! The files of the operating system, and what the search for a repository asks of them.
 ghost use Rattle.git_repository.specs.FileTree.{unknown_tree};
 
+use crate::config_files::MOST_BYTES;
 use crate::reading::{Unread, answered, read_front};
 use crate::real_path::real_path;
 use crate::user::User;
@@ -14,8 +15,8 @@ use std::os::unix::fs::MetadataExt;
 use std::rt::Files;
 
 /// The files of the operating system. What can't be looked at isn't there. The kit opens a file only by a text, so what has a path that is
-/// no UTF-8 isn't there, either. Of a configuration so many files are given at most, since files that include one another could ask for
-/// very many: 10,000.
+/// no UTF-8 isn't there, either. Of a configuration 10,000 files of 16 MiB in all are given at most, since files that include one another
+/// could ask for very many.
 #[derive(Drop)]
 pub struct DiskFiles<'a, R> {
     pub(crate) rt: &'a R,
@@ -23,6 +24,8 @@ pub struct DiskFiles<'a, R> {
     user: User,
     /// How many files of a configuration were asked for.
     pub(crate) asked: Cell<usize>,
+    /// How many bytes of such files may still be given.
+    pub(crate) left: Cell<usize>,
 }
 
 impl<'a, R> DiskFiles<'a, R> {
@@ -33,6 +36,7 @@ impl<'a, R> DiskFiles<'a, R> {
             alloc,
             user,
             asked: Cell::new(0),
+            left: Cell::new(MOST_BYTES),
         }
     }
 }

@@ -15,7 +15,7 @@ pub enum WrongFile {
     NoFile,
     /// Another file took its place while it was opened.
     Replaced,
-    /// It has more than 100 MiB.
+    /// With it the files of the configuration have more than 16 MiB.
     TooLarge,
     /// The system's words, as `Permission denied`.
     Refused(String),
@@ -67,7 +67,7 @@ fn words_of(wrong: &WrongFile) -> &str {
         WrongFile::Folder => "Is a directory",
         WrongFile::NoFile => "it is no regular file",
         WrongFile::Replaced => "another file took its place",
-        WrongFile::TooLarge => "it has more than 100 MiB",
+        WrongFile::TooLarge => "with it the configuration has more than 16 MiB",
         WrongFile::Refused(text) => text.as_str(),
         WrongFile::Unnamed => "its name is no UTF-8",
     }

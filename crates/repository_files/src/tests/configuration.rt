@@ -12,7 +12,7 @@ pub(super) const GROUP: Group = Group {
     name: "configuration",
     things: &[
         ("file", Made::File("[a]")),
-        ("large", Made::Bytes((100 << 20) + 1)),
+        ("large", Made::Bytes((16 << 20) + 1)),
         ("to", Made::Link("file")),
         ("nowhere", Made::Link("missing")),
         ("null", Made::Link("/dev/null")),
@@ -38,7 +38,7 @@ pub(super) const GROUP: Group = Group {
         (
             b"TOP/large",
             Asked::Config,
-            "unable to access 'TOP/large': it has more than 100 MiB",
+            "unable to access 'TOP/large': with it the configuration has more than 16 MiB",
         ),
         (
             b"/dev/zero",
