@@ -10,9 +10,10 @@ use crate::check_ignore::bytes_of;
 use crate::moving::current_folder;
 use crate::places::from_root;
 use anyhow::{Context, Result, bail};
+use core_settings::Pair;
 use git_config::{Config, Surroundings, boolean};
 use git_repository::Environment;
-use opened_repository::{OpenFault, Opened, Told, config_place, open, read_config};
+use opened_repository::{ConfigPlace, OpenFault, Opened, Told, config_place, open, read_config};
 use repository_files::{
     ConfigFileFault, ConfigurationVariables, DiskFiles, RepositoryVariables, User,
 };
@@ -65,6 +66,42 @@ impl Asked {
         }
         Ok(environment)
     }
+
+    /// The pairs of the environment, and the words behind `-c`.
+    fn entries<'t>(&'t self, alloc: Global, options: Options<'t>) -> Result<Entries<'t>> {
+        Ok(Entries {
+            pairs: self.configuration.pairs(alloc)?,
+            words: bytes_of(alloc, &values_of(alloc, options.words, "-c")?)?,
+        })
+    }
+
+    /// What is told of a process whose current folder this is.
+    fn told<'t>(
+        &'t self,
+        options: Options<'t>,
+        current: &'t [u8],
+        entries: &'t Entries<'_>,
+        purpose: Purpose,
+    ) -> Result<Told<'t>> {
+        Ok(Told {
+            current,
+            pwd: self.variables.pwd.as_deref(),
+            environment: self.environment(options)?,
+            places: self.configuration.places(),
+            pairs: &entries.pairs,
+            words: &entries.words,
+            around: &self.around,
+            needs_work_tree: purpose != Purpose::Index,
+            for_status: purpose == Purpose::Status,
+        })
+    }
+}
+
+/// The entries that count behind those of files, which `Told` borrows.
+#[derive(Drop)]
+struct Entries<'a> {
+    pairs: Vec<Pair<&'a [u8]>>,
+    words: Vec<&'a [u8]>,
 }
 
 /// Opens the repository of the current folder, whose path this is, by the variables of the environment and the words.
@@ -77,20 +114,8 @@ pub(crate) fn open_here<R: Files + Env>(
 ) -> Result<Opened<Vec<u8>, Config>> {
     let files = DiskFiles::new(rt, alloc, User::of_process(rt, alloc)?);
     let asked = Asked::read(rt, alloc, &files)?;
-    let pairs = asked.configuration.pairs(alloc)?;
-    let words = bytes_of(alloc, &values_of(alloc, options.words, "-c")?)?;
-    let environment = asked.environment(options)?;
-    let told = Told {
-        current,
-        pwd: asked.variables.pwd.as_deref(),
-        environment,
-        places: asked.configuration.places(),
-        pairs: &pairs,
-        words: &words,
-        around: &asked.around,
-        needs_work_tree: purpose != Purpose::Index,
-        for_status: purpose == Purpose::Status,
-    };
+    let entries = asked.entries(alloc, options)?;
+    let told = asked.told(options, current, &entries, purpose)?;
     with_fault_told(open(alloc, &files, &told))
 }
 
@@ -104,26 +129,20 @@ pub(crate) fn config_here<R: Files + Env + AllocGlobal>(
     let current = from_root(alloc, &current_folder(rt, alloc)?)?;
     let files = DiskFiles::new(rt, alloc, User::of_process(rt, alloc)?);
     let asked = Asked::read(rt, alloc, &files)?;
-    let pairs = asked.configuration.pairs(alloc)?;
-    let words = bytes_of(alloc, &values_of(alloc, options.words, "-c")?)?;
-    let environment = asked.environment(options)?;
-    let told = Told {
-        current: &current,
-        pwd: asked.variables.pwd.as_deref(),
-        environment,
-        places: asked.configuration.places(),
-        pairs: &pairs,
-        words: &words,
-        around: &asked.around,
-        needs_work_tree: false,
-        for_status: false,
-    };
+    let entries = asked.entries(alloc, options)?;
+    let told = asked.told(options, &current, &entries, Purpose::Index)?;
     let place = with_fault_told(config_place(alloc, &files, &told))?;
+    go_to_place(rt, alloc, &place)?;
+    with_fault_told(read_config(alloc, &files, &told, &place))
+}
+
+/// Goes to the folder that the files of a configuration are told from.
+fn go_to_place<R: Files + Env>(rt: &R, alloc: Global, place: &ConfigPlace) -> Result<()> {
     if let Some(top) = &place.top {
         let top = path_text(alloc, top)?;
         env::set_current_dir(rt, top.as_str()).context("the top of the work tree")?;
     }
-    with_fault_told(read_config(alloc, &files, &told, &place))
+    Ok(())
 }
 
 /// What an opening answers, with its fault as it is told.
