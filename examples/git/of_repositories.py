@@ -29,9 +29,9 @@ OUTSIDE = [b"../../../../../../x", b"/", b"", b"../../x", b"l/x"]
 SPELT = [b":x", b"::x", b":()x", b":", b":/", b":/x", b"://:x", b":(top)x", b":(,top)d/x", b":/d/x", b":/k*/x", b":/a*", b":(top)./x", b":a:b", b":$x", b":/d/"]
 UNSPELT = [b":!x", b":^x", b":-x", b":/~", b":(top", b":(x)x", b":(exclude)x", b":(glob)x", b":(icase,top)x", b":(literal)x", b":(attr:a)x", b":(Top)x"]
 # kinds of differences that the documents name: the first in "From Git" of docs/GLOBTREE.md
-MESSAGES, BARE, UNKNOWN = "messages", "no work tree", "another's folder"
+MESSAGES, BARE, UNKNOWN, CRASH, LOCK, FORMAT = "messages", "no work tree", "another's folder", "Git crashes", "Git's lock file", "an unknown format"
 NAMED = kinds_in("GLOBTREE.md")
-OF_CONFIG, OF_STATUS = "`config`", "`status`"
+OF_CONFIG, OF_FILES, OF_STATUS = "`config`", "`files`", "`status`"
 NO_OBJECT = re.compile(rb"fatal: (bad object HEAD|unable to read [0-9a-f]+)\n")
 # and that of docs/REPOSITORIES.md has: what isn't read, by the fault that names it
 UNREAD = {
@@ -42,6 +42,9 @@ UNREAD = {
 UNKNOWN_FOLDER = re.compile(rb"fatal: failed to expand user dir in: '%\(prefix\)/[^\n]*\n")
 WARNINGS = re.compile(rb"(warning: [^\n]*\n(\t[^\n]*\n)*)+")
 BARE_WITH_WORK_TREE = b"warning: core.bare and core.worktree do not make sense\n"
+LOCK_FILE = re.compile(rb"[^\0\n]*/index\.lock\"?[\0\n]")
+NO_EXCLUDES = re.compile(rb"^cannot use .* as an exclude file$")
+IGNORED_FOLDER = b"warning: ignoring git dir "
 RELATIVE_CONDITION = b"error: relative config include conditionals must come from files\n"
 NO_WORK_TREE = b"fatal: this operation must be run in a work tree\n"
 FILES_OF_GIT = ["ls-files", "-co", "--exclude-standard"]
@@ -195,6 +198,14 @@ class Comparison:
             return UNKNOWN
         if found.is_as(expected):
             return None
+        if expected.status < 0:
+            return CRASH
+        if found.is_as(expected._replace(output=LOCK_FILE.sub(b"", expected.output))):
+            return LOCK
+        if command == "files" and OF_FILES in NAMED and self.is_listed_otherwise(question, expected, found):
+            return OF_FILES
+        if command == "config" and IGNORED_FOLDER in expected.errors and is_answer(found):
+            return FORMAT
         if command == "config" and OF_CONFIG in NAMED and self.is_shown_otherwise(expected, found):
             return OF_CONFIG
         if command == "status" and OF_STATUS in NAMED and NO_OBJECT.search(expected.errors):
@@ -202,6 +213,12 @@ class Comparison:
         if (RELATIVE_CONDITION in expected.errors or expected.errors == BARE_WITH_WORK_TREE) and found.is_as(expected._replace(errors=found.errors)):
             return MESSAGES
         return next((kind for kind, words in UNREAD.items() if words in fault(found)), None)
+
+    def is_listed_otherwise(self, question, expected, found):
+        """Whether `files` ends with a fault, where Git answers, as "From Git" says."""
+        counts = "--exclude-standard" in question.words or set(question.words) <= {"files", "-z"}
+        is_unread = not counts and NO_EXCLUDES.search(fault(found))
+        return is_answer(expected) and (is_unread or fault(found).startswith(b"the top "))
 
     def is_shown_otherwise(self, expected, found):
         """Whether `config` answers otherwise as "From Git" says."""
