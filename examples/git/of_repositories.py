@@ -29,7 +29,8 @@ OUTSIDE = [b"../../../../../../x", b"/", b"", b"../../x", b"l/x"]
 SPELT = [b":x", b"::x", b":()x", b":", b":/", b":/x", b"://:x", b":(top)x", b":(,top)d/x", b":/d/x", b":/k*/x", b":/a*", b":(top)./x", b":a:b", b":$x", b":/d/"]
 UNSPELT = [b":!x", b":^x", b":-x", b":/~", b":(top", b":(x)x", b":(exclude)x", b":(glob)x", b":(icase,top)x", b":(literal)x", b":(attr:a)x", b":(Top)x"]
 # kinds of differences that the documents name: the first in "From Git" of docs/GLOBTREE.md
-MESSAGES, BARE, UNKNOWN, CRASH, LOCK, FORMAT = "messages", "no work tree", "another's folder", "Git crashes", "Git's lock file", "an unknown format"
+MESSAGES, BARE, UNKNOWN, CRASH = "messages", "no work tree", "another's folder", "Git crashes"
+LOCK, FORMAT, CHECKSUM = "Git's lock file", "an unknown format", "a wrong checksum"
 NAMED = kinds_in("GLOBTREE.md")
 OF_CONFIG, OF_FILES, OF_STATUS = "`config`", "`files`", "`status`"
 NO_OBJECT = re.compile(rb"fatal: (bad object HEAD|unable to read [0-9a-f]+)\n")
@@ -42,7 +43,7 @@ UNREAD = {
 UNKNOWN_FOLDER = re.compile(rb"fatal: failed to expand user dir in: '%\(prefix\)/[^\n]*\n")
 WARNINGS = re.compile(rb"(warning: [^\n]*\n(\t[^\n]*\n)*)+")
 BARE_WITH_WORK_TREE = b"warning: core.bare and core.worktree do not make sense\n"
-LOCK_FILE = re.compile(rb"[^\0\n]*/index\.lock\"?[\0\n]")
+LOCK_FILE = re.compile(rb"[^\0\n]*index\.lock\"?[\0\n]")
 NO_EXCLUDES = re.compile(rb"^cannot use .* as an exclude file$")
 IGNORED_FOLDER = b"warning: ignoring git dir "
 RELATIVE_CONDITION = b"error: relative config include conditionals must come from files\n"
@@ -200,6 +201,8 @@ class Comparison:
             return None
         if expected.status < 0:
             return CRASH
+        if fault(found).endswith(b": bad index file checksum"):
+            return CHECKSUM
         if found.is_as(expected._replace(output=LOCK_FILE.sub(b"", expected.output))):
             return LOCK
         if command == "files" and OF_FILES in NAMED and self.is_listed_otherwise(question, expected, found):
