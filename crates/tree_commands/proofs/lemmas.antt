@@ -41,5 +41,4 @@ pub mod StackLemmas
 pub mod StartLemmas
 pub mod TellingLemmas
 pub mod TopLemmas
-pub mod TrackedLemmas
 pub mod VisitLemmas

@@ -17,6 +17,3 @@ last_value-is key settings front s is =
     ap (λ l. last_or None (map (λ (s : Seen). s.entry.value) l)) is
     ∙ ap (λ l. last_or None l) (values-append front s)
     ∙ last_or-append None (map (λ (s : Seen). s.entry.value) front) s.entry.value
-
-pub last_value-none : (key : List ℕ) (settings : List Seen) → settings_of key settings ≡ [] → last_value key settings ≡ None
-last_value-none key settings is = ap (λ l. last_or None (map (λ (s : Seen). s.entry.value) l)) is

@@ -1,8 +1,8 @@
 -- What the lists of a call begin with, as they are gone through.
-use Rattle.std.proofs.Common.{◌≡◌, ℕ, ◌+◌, ◌<◌, ◌≤◌, List, [], ◌∷◌, ◌++◌, length, take, drop, get_or, refl, sym, ap, ◌∙◌, slice_index_or, append-nil, length-drop, take-append-drop, drop_of_length-le, arith}
+use Rattle.std.proofs.Common.{◌≡◌, ℕ, ◌+◌, ◌<◌, ◌≤◌, List, [], ◌∷◌, ◌++◌, length, take, drop, get_or, refl, sym, ap, ◌∙◌, slice_index_or, length-drop, take-append-drop, arith}
 use Rattle.std.specs.List.{flat_map}
 use Rattle.std.proofs.lemmas.Grind.{flat_map-append}
-use Rattle.std.proofs.lemmas.List.{get_or-drop, take_more}
+use Rattle.std.proofs.lemmas.List.{get_or-drop}
 
 -- what is not empty begins with something
 pub begins_so : {Y : Type 0} (ys : List Y) (d : Y) → 1 ≤ length ys → (rest : List Y) × (ys ≡ get_or ys 0 d ∷ rest)
@@ -22,17 +22,7 @@ module _ {X Y : Type 0} (f : X → List Y) where
         ∙ (flat_map-append f (take i xs) (drop i xs)
         ∙ ap (λ (l : List Y). l ++ flat_map f (drop i xs)) before)
 
-    pub nothing_given : length xs ≤ i → flat_map f xs ≡ []
-    nothing_given all = left_gives ∙ ap (flat_map f) (drop_of_length-le xs all)
-
     module _ (d : X) (within : i < length xs) where
-      pub nothing_more : f (slice_index_or xs i d) ≡ [] → flat_map f (take (i + 1) xs) ≡ []
-      nothing_more none =
-          ap (flat_map f) (take_more xs i d within)
-          ∙ (flat_map-append f (take i xs) (slice_index_or xs i d ∷ [])
-          ∙ (ap (λ (l : List Y). l ++ flat_map f (slice_index_or xs i d ∷ [])) before
-          ∙ (append-nil (f (slice_index_or xs i d)) ∙ none)))
-
       pub first_given : (y : Y) (ys : List Y) → f (slice_index_or xs i d) ≡ y ∷ ys → (rest : List Y) × (flat_map f xs ≡ y ∷ rest)
       first_given y ys gives =
           let same : i + 0 ≡ i = omega arith in

@@ -41,10 +41,6 @@ quoted_from-unit (b ∷ bytes) byte more is =
     ∙ sym (ap (λ n. option_map (with_front (byte ∷ [])) (quoted_from 0 (drop n (b ∷ bytes)))) place))
     (cases_Bool (b == quote))
 
-pub unit_at-some : (bytes : List ℕ) (unit : ℕ × ℕ) → unit_at bytes ≡ Some unit → 1 ≤ length bytes
-unit_at-some [] unit is = absurd (cc)
-unit_at-some (b ∷ bytes) unit is = omega arith
-
 -- its spelling is a part of the bytes
 one_more : (letter : Option ℕ) (byte more : ℕ) → option_map {U = ℕ × ℕ} (λ b. (b, 1)) letter ≡ Some (byte, more) → 1 ≡ more
 one_more None byte more is = absurd (cc)

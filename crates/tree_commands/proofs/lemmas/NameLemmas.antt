@@ -1,5 +1,5 @@
 -- Whether a name is among names that are gone through.
-use Rattle.std.proofs.Common.{◌≡◌, ◌⊎◌, ◌↔◌, ⊎_elim, inl, inr, ℕ, zero, suc, Bool, true, false, ◌||◌, List, [], ◌∷◌, IsTrue, refl, sym, subst, ◌∙◌, arith}
+use Rattle.std.proofs.Common.{◌≡◌, ◌⊎◌, ◌↔◌, ⊎_elim, inl, inr, ℕ, zero, suc, Bool, true, ◌||◌, List, [], ◌∷◌, IsTrue, refl, sym, subst, ◌∙◌, arith}
 use Rattle.std.specs.List.{Contains}
 use Rattle.std.specs.Str.{bytes_eq}
 use Rattle.std.proofs.lemmas.Bool.{or_cases, or_left, or_right}
@@ -24,12 +24,6 @@ is_later name wanted rest (k, inside, is) = (suc k, omega (arith, inside), is)
 -- ---- along the names
 
 module _ (wanted : List ℕ) where
-  pub met_at_first : (all : List (List ℕ)) → IsMetOrLeft wanted false all all
-  met_at_first all = (⊎_elim (λ (is : IsTrue false). absurd (cc)) (λ among. among), inr)
-
-  pub met_at_last : (is_met : Bool) (all : List (List ℕ)) → IsMetOrLeft wanted is_met [] all → IsTrue is_met ↔ Contains all wanted
-  met_at_last is_met all so_far = (λ is. so_far.0 (inl is), λ among. ⊎_elim (λ is. is) (λ none. absurd (omega (arith, none.1))) (so_far.1 among))
-
   pub met_next : (is_met is : Bool) (name : List ℕ) (left rest all : List (List ℕ)) → left ≡ name ∷ rest → IsTrue is ↔ (name ≡ wanted) → IsMetOrLeft wanted is_met left all → IsMetOrLeft wanted (is_met || is) rest all
   met_next is_met is name left rest all first same so_far = (
     ⊎_elim

@@ -8,7 +8,6 @@ use Rattle.gix_glob.specs.Entries.{Entry}
 use Rattle.gix_glob.specs.EntryLists.{EntryList}
 use Rattle.gix_glob.specs.Patterns.{looks_at_name}
 use Rattle.gix_glob.specs.Stripping.{RestOf, folding_by}
-use Rattle.gix_glob.proofs.lemmas.Rests.{Rest-front}
 use Rattle.glob_lists.specs.declared.rules.Rules.{Rules}
 use Rattle.glob_lists.specs.Deciding.{AnswersFor}
 use Rattle.glob_lists.proofs.lemmas.Deciding.LastNumbers.{NoneFrom, NoneFrom-all, NoneFrom-last, NoneFrom-less}
@@ -29,16 +28,9 @@ rest_is_none : (case : Case) (base : Option (List ℕ)) (rest : List ℕ) → Re
 rest_is_none case None rest left = left
 rest_is_none case (Some base) rest left = none_of_no_bytes rest (omega (arith, ap length left.joined, length-append left.front rest))
 
-base_is_of_all : (case : Case) (base : Option (List ℕ)) (rest : List ℕ) → RestOf case base [] rest → IsOfAll base
-base_is_of_all case None rest left = tt
-base_is_of_all case (Some base) rest left = none_of_no_bytes base (omega (arith, ap length left.joined, length-append left.front rest, Rest-front case base [] rest left))
-
 -- ---- one pattern, and one list from its end
 
 module _ {V : Type 0} (list : EntryList V) (rules : Rules) where
-  pub for_top-of_all : (m : ℕ) → AnswersForTop list rules m → IsOfAll list.base
-  for_top-of_all m h = base_is_of_all rules.case list.base h.answers.answers.rest h.answers.answers.left
-
   module _ (m : ℕ) (entry : Entry V) (here : slice_get list.entries m ≡ Some entry) where
     pub for_top-yes : IsOfAll list.base → IsTrue (looks_at_name entry.mode) × AnswersFor entry.text entry.mode [] false rules → AnswersForTop list rules m
     for_top-yes all h = record {

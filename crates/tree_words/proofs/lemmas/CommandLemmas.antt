@@ -1,5 +1,5 @@
 -- The word of a command, and words that ask for none.
-use Rattle.std.proofs.Common.{◌≡◌, ◌⊎◌, inl, inr, ℕ, Bool, true, false, ◌||◌, List, [], ◌∷◌, drop, get_or, map, None, Some, Option, codes, string_bytes, refl, sym, ap, subst, ◌∙◌}
+use Rattle.std.proofs.Common.{◌≡◌, ◌⊎◌, inl, inr, ℕ, Bool, true, ◌||◌, List, [], ◌∷◌, drop, get_or, map, None, Some, Option, codes, string_bytes, refl, sym, ap, subst, ◌∙◌}
 use Rattle.std.specs.Str.{bytes_eq}
 use Rattle.std.proofs.lemmas.Bool.{false≢true}
 use Rattle.tree_words.specs.CheckAttr as check_attr
@@ -127,21 +127,6 @@ module _ (words rest : List (List ℕ)) (unasked : (name : CommandName) → ¬ A
       by_command (inl none) (command.Files flags folder) is =
           none_some _ flags none (ap (flags_among files.with_name files.with_letter files.none) (rest_is _ rest _ is.0 is.1) ∙ is.2)
       by_command (inr more) (command.Files flags folder) is = more folder.now (subst (λ ws. IsOnly ws (codes ".") folder.now) (sym (rest_is _ rest _ is.0 is.1)) is.3)
-
-  -- another word
-  pub no_command : (word : List ℕ) → words ≡ word ∷ rest → (bytes_eq word (codes "--help") || bytes_eq word (codes "-h")) ≡ false → bytes_eq word (codes "--version") ≡ false → bytes_eq word (codes "check-ignore") ≡ false → bytes_eq word (codes "check-attr") ≡ false
-      → bytes_eq word (codes "config") ≡ false → bytes_eq word (codes "status") ≡ false → bytes_eq word (codes "files") ≡ false → (asked : Command) → ¬ IsCommand words asked
-  no_command word are help version ignore attr config_word status_word listing asked is = by_command asked (subst (λ ws. IsCommand ws asked) are is)
-    where
-      by_command : (asked : Command) → ¬ IsCommand (word ∷ rest) asked
-      by_command (command.Help None) is = false≢true (sym help ∙ named word rest (command.Help None) is)
-      by_command (command.Help (Some name)) is = unasked name (subst (λ ws. AsksHelp ws name) (sym are) is)
-      by_command command.Version is = false≢true (sym version ∙ named word rest command.Version is)
-      by_command (command.CheckIgnore flags behind) is = false≢true (sym ignore ∙ named word rest (command.CheckIgnore flags behind) is)
-      by_command (command.CheckAttr flags behind) is = false≢true (sym attr ∙ named word rest (command.CheckAttr flags behind) is)
-      by_command (command.Config flags behind) is = false≢true (sym config_word ∙ named word rest (command.Config flags behind) is)
-      by_command (command.Status flags behind) is = false≢true (sym status_word ∙ named word rest (command.Status flags behind) is)
-      by_command (command.Files flags folder) is = false≢true (sym listing ∙ named word rest (command.Files flags folder) is)
 
 -- a command's word is no option
 pub is_behind_options : (words : List (List ℕ)) (asked : Command) → IsCommand words asked → IsBehind words

@@ -118,16 +118,9 @@ pub record AreOperands (words left found : List (List ℕ)) (before : Option ℕ
 abbrev pub words_of : Operands → List (List ℕ)
 words_of operands = map (λ (word : Bor (List ℕ)). word.now) operands.words.items
 
-plus_none : (o : Option ℕ) → o ≡ option_map (λ n. 0 + n) o
-plus_none None = refl
-plus_none (Some n) = ap Some (omega arith)
-
 plus_more : (k m : ℕ) (o : Option ℕ) → m ≡ k + 1 → option_map (λ n. k + n) (option_map (λ n. 1 + n) o) ≡ option_map (λ n. m + n) o
 plus_more k m None is = refl
 plus_more k m (Some n) is = ap Some (omega (arith, is))
-
-pub no_operands_yet : (words : List (List ℕ)) → AreOperands words words [] None
-no_operands_yet words = record { all = refl; dashes = plus_none (dashes_at words) }
 
 pub all_operands : (words found : List (List ℕ)) (before : Option ℕ) → AreOperands words [] found before → (found ≡ operands_among words) × (before ≡ dashes_at words)
 all_operands words found None h = (sym (h.all ∙ append-nil found), sym h.dashes)

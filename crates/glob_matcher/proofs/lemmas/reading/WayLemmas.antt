@@ -6,17 +6,8 @@ use Rattle.glob_matcher.specs.declared.wildmatch.mode.Mode.{Mode}
 use Rattle.glob_matcher.specs.declared.wildmatch.way.Folding.{Folding}
 use Rattle.glob_matcher.specs.declared.wildmatch.way.Folding.TheVariants.{Off, Both, Exact}
 use Rattle.glob_matcher.specs.declared.wildmatch.way.Way.{Way}
-use Rattle.glob_matcher.specs.Bytes.{folding, folds, is_dead, is_exact, is_on, is_path, slash, way_with}
+use Rattle.glob_matcher.specs.Bytes.{folding, folds, is_dead, is_exact, is_on, slash, way_with}
 use Rattle.glob_matcher.specs.Ways.{way_of}
-
--- a way has the bit and the folding that it is made of
-pub is_path_with : (path : Bool) (how : Folding) → is_path (way_with path how) ≡ path
-is_path_with false Off = refl
-is_path_with true Off = refl
-is_path_with false Both = refl
-is_path_with true Both = refl
-is_path_with false Exact = refl
-is_path_with true Exact = refl
 
 pub folding_with : (path : Bool) (how : Folding) → folding (way_with path how) ≡ how
 folding_with false Off = refl
