@@ -1,5 +1,5 @@
 -- Paths without `.`, `..` and slashes in a row, by their text alone: links aren't followed.
-use Rattle.std.specs.Prelude.{ℕ, ◌-◌, ◌==◌, ◌||◌, Bool, false, nat_eq, if◌then◌else◌, List, [], ◌∷◌, ◌++◌, length, take, codes, Option, Some, None, option_and_then}
+use Rattle.std.specs.Prelude.{ℕ, ◌+◌, ◌-◌, ◌==◌, ◌||◌, Bool, false, nat_eq, if◌then◌else◌, List, [], ◌∷◌, ◌++◌, length, take, drop, slice_index_or, codes, Option, Some, None, option_and_then}
 use Rattle.std.specs.List.{flat_map, slice_split, starts_with}
 use Rattle.std.specs.Str.{bytes_eq}
 use Rattle.git_config.specs.Paths.{is_slash}
@@ -35,9 +35,17 @@ spelled is_folder names = let text = flat_map (λ name. name ++ codes "/") names
 abbrev pub root_of : List ℕ → List ℕ
 root_of path = if starts_with nat_eq path (codes "/") then codes "/" else []
 
--- one whose parts lead above its front is as it is told
+-- What is left of a text whose parts lead above its front: Git writes each name over the text that it reads. `rest` is the text from
+-- where the next name goes, and a name that is left again stands before it.
+abbrev pub overwritten : List ℕ → List (List ℕ) → List (List ℕ) → List ℕ
+overwritten rest names [] = rest
+overwritten rest names (part ∷ parts) =
+    if stays part then overwritten rest names parts
+    else (if goes_up part then elim (above names) [ None ↦ rest | Some upper ↦ overwritten ((slice_index_or names (length names - 1) [] ++ codes "/") ++ rest) upper parts ]
+    else overwritten (drop (length part + 1) rest) (names ++ part ∷ []) parts)
+
 abbrev pub normal_by : List ℕ → List (List ℕ) → Option (List (List ℕ)) → List ℕ
-normal_by path parts None = path
+normal_by path parts None = root_of path ++ overwritten (drop (length (root_of path)) path) [] parts
 normal_by path parts (Some names) = root_of path ++ spelled (ends_in_folder false parts) names
 
 abbrev pub normal_path : List ℕ → List ℕ

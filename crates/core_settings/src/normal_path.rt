@@ -1,23 +1,31 @@
 //! Paths without `.`, `..` and slashes in a row, by their text alone.
-ghost use Rattle.std.specs.Prelude.{◌≡◌, ◌++◌, ◌∷◌, ℕ, List, [], IfOk, MatchBool, MatchOption, None, Some, codes, false, map};
+ghost use Rattle.std.specs.Prelude.{◌≡◌, ◌+◌, ◌++◌, ◌∷◌, ℕ, List, [], IfOk, MatchBool, MatchOption, None, Some, codes, drop, false, length, map};
 ghost use Rattle.std.specs.List.{flat_map, slice_split};
 ghost use Rattle.git_config.specs.Paths.{is_slash};
-ghost use Rattle.core_settings.specs.NormalPaths.{ends_in_folder, goes_up, normal_path, root_of, spelled, stays, step, walk};
+ghost use Rattle.core_settings.specs.NormalPaths.{ends_in_folder, goes_up, normal_path, overwritten, root_of, spelled, stays, step, walk};
 
 use std::alloc::{AllocError, Global};
 
-/// A path without `.`, `..` and slashes in a row; links aren't followed. One that leads above its front is as it is told.
+/// A path without `.`, `..` and slashes in a row; links aren't followed. One that leads above its front is as Git leaves it.
 pub(crate) fn normal_path(alloc: Global, path: &[u8]) -> Result<Vec<u8>, AllocError>
     ensures { IfOk result (λ normal. normal.items ≡ normal_path path.now) }
 {
     let parts = parts_of(alloc, path)?;
-    let Some(names) = walk(alloc, &parts)? else {
-        return Vec::from_slice(alloc, path);
+    let root = root_of(path);
+    let behind = match walk(alloc, &parts)? {
+        Some(names) => spelled(alloc, ends_in_folder(&parts), &names)?,
+        None => overwritten(alloc, &path[root.len()..], &parts)?,
     };
-    let mut normal = Vec::from_slice(alloc, root_of(path))?;
-    let spelled = spelled(alloc, ends_in_folder(&parts), &names)?;
-    normal.extend_from_slice(&spelled)?;
-    Ok(normal)
+    joined(alloc, root, &behind)
+}
+
+/// Two texts, one behind the other.
+fn joined(alloc: Global, front: &[u8], behind: &[u8]) -> Result<Vec<u8>, AllocError>
+    ensures { IfOk result (λ text. text.items ≡ front.now ++ behind.now) }
+{
+    let mut text = Vec::from_slice(alloc, front)?;
+    text.extend_from_slice(behind)?;
+    Ok(text)
 }
 
 /// What stands between the slashes.
@@ -63,6 +71,40 @@ fn step<'a>(names: &mut Vec<&'a [u8]>, part: &'a [u8]) -> Result<bool, AllocErro
     }
     names.push(part)?;
     Ok(true)
+}
+
+/// What is left of a text whose parts lead above its front, once Git has written over it.
+fn overwritten(alloc: Global, text: &[u8], parts: &[&[u8]]) -> Result<Vec<u8>, AllocError>
+    ensures { IfOk result (λ left. left.items ≡ overwritten text.now [] (map (λ part. part.now) parts.now)) }
+{
+    let mut names: Vec<&[u8]> = Vec::new(alloc);
+    let mut rest = Vec::from_slice(alloc, text)?;
+    for part in parts {
+        if stays(part) {
+            continue;
+        }
+        if !goes_up(part) {
+            rest = Vec::from_slice(alloc, behind(&rest, part))?;
+            names.push(part)?;
+            continue;
+        }
+        let Some(name) = names.pop() else {
+            return Ok(rest);
+        };
+        let name = joined(alloc, name, b"/")?;
+        rest = joined(alloc, &name, &rest)?;
+    }
+    Ok(rest)
+}
+
+/// What follows in a text where a name and a slash are written over it.
+fn behind<'a>(text: &'a [u8], name: &[u8]) -> &'a [u8]
+    ensures { result.now ≡ drop (length name.now + 1) text.now }
+{
+    match text.get(name.len()..) {
+        Some([_, rest @ ..]) => rest,
+        _ => b"",
+    }
 }
 
 /// Whether a part leads nowhere else.

@@ -1,5 +1,5 @@
 -- Which file an entry includes.
-use Rattle.std.specs.Prelude.{◌≡◌, ◌⊎◌, ℕ, ◌-◌, Bool, true, false, not, nat_eq, if◌then◌else◌, List, [], ◌++◌, take, drop, length, option_map, find, Option, Some, None, Result, Ok, Err, Any, IsSomeAnd, IsTrue, MatchOption, codes}
+use Rattle.std.specs.Prelude.{◌≡◌, ◌⊎◌, ℕ, ◌-◌, Bool, true, false, not, nat_eq, if◌then◌else◌, List, [], ◌++◌, take, drop, length, slice_get, option_map, find, Option, Some, None, Result, Ok, Err, Any, IsSomeAnd, IsTrue, MatchOption, codes}
 use Rattle.std.specs.List.{ends_with, starts_with, suffix_len}
 use Rattle.std.specs.Option.{unwrap_or}
 use Rattle.std.specs.Str.{bytes_eq}
@@ -57,13 +57,16 @@ folder_pattern around real told =
     if starts_with nat_eq pattern (codes "./") then option_map (λ path. (folder_of path, drop 1 (below (drop 1 pattern)))) real
     else Some ([], below (if is_absolute pattern then pattern else codes "**/" ++ pattern))
 
-abbrev pub MatchesFolder : Bool → List ℕ × List ℕ → List ℕ → Type 0
-MatchesFolder fold split path =
-    IsTrue (if fold then same_letters (take (length split.0) path) split.0 else bytes_eq (take (length split.0) path) split.0)
-    × Splits (drop (length split.0) path) split.1 (record { 0 = if fold then 3 else 1 })
+abbrev pub HasFront : Bool → List ℕ → List ℕ → Type 0
+HasFront fold front path = IsTrue (if fold then same_letters (take (length front) path) front else bytes_eq (take (length front) path) front)
 
+abbrev pub MatchesFolder : Bool → List ℕ × List ℕ → List ℕ → Type 0
+MatchesFolder fold split path = HasFront fold split.0 path × Splits (drop (length split.0) path) split.1 (record { 0 = if fold then 3 else 1 })
+
+-- A path of the git folder matches. The first, which has no links, has to begin so in any case.
 abbrev pub InFolder : Surroundings → Option (List ℕ) → Bool → List ℕ → Type 0
-InFolder around real fold told = IsSomeAnd (folder_pattern around real told) (λ split. Any (λ path. MatchesFolder fold split path.items) around.git_folders.items)
+InFolder around real fold told = IsSomeAnd (folder_pattern around real told) (λ split.
+    IsSomeAnd (slice_get around.git_folders.items 0) (λ first. HasFront fold split.0 first.items) × Any (λ path. MatchesFolder fold split path.items) around.git_folders.items)
 
 -- a URL of a remote; each, where they aren't known yet
 abbrev pub HasUrl : Surroundings → List ℕ → Type 0

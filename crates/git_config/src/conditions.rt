@@ -1,10 +1,8 @@
 //! The conditions of includes: where the git folder is, which branch is checked out, and which URLs remotes have.
-ghost use Rattle.std.specs.Prelude.{◌≡◌, ◌↔◌, ◌++◌, Any, IfOk, IsTrue, List, Some, ℕ, if◌then◌else◌, option_map, MatchOption, take, drop, length, codes};
+ghost use Rattle.std.specs.Prelude.{◌≡◌, ◌↔◌, ◌++◌, Any, IfOk, IsSomeAnd, IsTrue, List, Some, ℕ, if◌then◌else◌, option_map, MatchOption, slice_get, drop, codes};
 ghost use Rattle.std.specs.Option.{option_copied};
-ghost use Rattle.std.specs.Str.{bytes_eq};
 ghost use Rattle.glob_matcher.specs.Matching.{Splits};
-ghost use Rattle.git_config.specs.Includes.{HasUrl, Holds, InFolder, MatchesFolder, below, folder_pattern};
-ghost use Rattle.git_config.specs.Numbers.{same_letters};
+ghost use Rattle.git_config.specs.Includes.{HasFront, HasUrl, Holds, InFolder, MatchesFolder, below, folder_pattern};
 ghost use Rattle.git_config.specs.Private.Places.{pattern_of, rooted};
 ghost use Rattle.git_config.specs.Private.Scopes.{OnBranch};
 
@@ -91,12 +89,29 @@ fn in_folder(
     let Some(split) = folder_pattern(alloc, around, real, told)? else {
         return Ok(false);
     };
+    Ok(begins_so(around, &split.front, fold) && matches_one(around, &split, fold))
+}
+
+/// Whether the first path of the git folder, which has no links, begins with a front.
+fn begins_so(around: &Surroundings, front: &[u8], fold: bool) -> bool
+    ensures { IsTrue result ↔ IsSomeAnd (slice_get around.now.git_folders.items 0) (λ first. HasFront fold front.now first.items) }
+{
+    match around.git_folders.first() {
+        Some(path) => has_front(path, front, fold),
+        None => false,
+    }
+}
+
+/// Whether one of the paths of the git folder matches.
+fn matches_one(around: &Surroundings, split: &FolderPattern, fold: bool) -> bool
+    ensures { IsTrue result ↔ Any (λ path. MatchesFolder fold (split.now.front.items, split.now.pattern.items) path.items) around.now.git_folders.items }
+{
     for path in &around.git_folders {
-        if matches_folder(&split, path, fold) {
-            return Ok(true);
+        if matches_folder(split, path, fold) {
+            return true;
         }
     }
-    Ok(false)
+    false
 }
 
 /// A pattern, behind a front that counts as it stands.
@@ -180,15 +195,20 @@ fn matches_folder(split: &FolderPattern, path: &[u8], fold: bool) -> bool
     ensures { IsTrue result ↔ MatchesFolder fold (split.now.front.items, split.now.pattern.items) path.now }
 {
     let cut = split.front.len().min(path.len());
-    let (head, rest) = path.split_at(cut);
-    is_alike(head, &split.front, fold) && wildmatch(&split.pattern, rest, path_mode(fold))
+    let (_, rest) = path.split_at(cut);
+    has_front(path, &split.front, fold) && wildmatch(&split.pattern, rest, path_mode(fold))
 }
 
-/// Whether two texts are the same, but for the case of letters where that doesn't count.
-fn is_alike(a: &[u8], b: &[u8], fold: bool) -> bool
-    ensures { result ≡ (if fold then same_letters a.now b.now else bytes_eq a.now b.now) }
+/// Whether a path begins with a front; where `fold`, the case of letters doesn't count.
+fn has_front(path: &[u8], front: &[u8], fold: bool) -> bool
+    ensures { IsTrue result ↔ HasFront fold front.now path.now }
 {
-    if fold { same_letters(a, b) } else { a == b }
+    let (head, _) = path.split_at(front.len().min(path.len()));
+    if fold {
+        same_letters(head, front)
+    } else {
+        head == front
+    }
 }
 
 /// The mode of patterns of paths.

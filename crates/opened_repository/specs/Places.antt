@@ -29,10 +29,10 @@ pub record Place : Type 0 where
 abbrev pub place_of : ConfigPlace → Place
 place_of place = record { known = known_of place.known; top = option_map vec_items place.top; config = option_map vec_items place.config; work_tree = option_map vec_items place.work_tree }
 
--- ---- outside of a repository: none is found, or it may not be taken, or its format is unknown
+-- ---- outside of a repository: none is found, or it may not be taken; or its format is unknown, which Git sees once it has gone to its top
 
-abbrev pub outside : Place
-outside = record { known = nothing_known; top = None; config = None; work_tree = None }
+abbrev pub outside : Option (List ℕ) → Place
+outside top = record { known = nothing_known; top = top; config = None; work_tree = None }
 
 abbrev pub is_passed : Wrong → Bool
 is_passed NotNamed = true
@@ -44,13 +44,21 @@ is_passed _ = false
 abbrev pub is_outside : Fault → Bool
 is_outside (Find NotFound) = true
 is_outside (Find (At wrong path)) = is_passed wrong
-is_outside (Format fault) = true
 is_outside _ = false
 
-abbrev pub tells_outside : {F : Type 0} → OpenFault F → Bool
-tells_outside Memory = false
-tells_outside (File fault) = false
-tells_outside (Told fault) = is_outside (fault_of fault)
+abbrev pub is_format : Fault → Bool
+is_format (Format fault) = true
+is_format _ = false
+
+abbrev pub tells : {F : Type 0} → (Fault → Bool) → OpenFault F → Bool
+tells says Memory = false
+tells says (File fault) = false
+tells says (Told fault) = says (fault_of fault)
+
+-- in place of a fault of which this is said
+abbrev pub outside_if : (Fault → Bool) → Option (List ℕ) → Result Place Fault → Answer Place
+outside_if says top (Ok place) = is (Ok place)
+outside_if says top (Err fault) = is (if says fault then Ok (outside top) else Err fault)
 
 module _ (tree : FileTree) (Shows : Files) (said : Said) where
   -- ---- names of files, in the folder where Git works
@@ -81,16 +89,12 @@ module _ (tree : FileTree) (Shows : Files) (said : Said) where
   abbrev pub PlaceFound : Answer Place
   PlaceFound = do
     found ← FindsTrusted tree Shows said
-    PlaceIn found
-
-  abbrev pub PlaceIf : Result Place Fault → Answer Place
-  PlaceIf (Ok place) = is (Ok place)
-  PlaceIf (Err fault) = is (if is_outside fault then Ok outside else Err fault)
+    Asked (PlaceIn found) (outside_if is_format (top_above said.current (Some found.top)))
 
   abbrev pub Locates : Answer Place
   Locates = do
     _ ← Outer Shows said
-    Asked PlaceFound PlaceIf
+    Asked PlaceFound (outside_if is_outside None)
 
 -- what is read at a place
 abbrev pub ReadsPlace : Files → Said → Place → Answer (List Seen)

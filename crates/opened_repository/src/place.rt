@@ -1,12 +1,13 @@
 //! Where the configuration lies that counts in a current folder, in a repository or outside of one, and how Git names its files.
-ghost use Rattle.std.specs.Prelude.{◌≡◌, MatchResult, false, option_map, true};
+ghost use Rattle.std.specs.Prelude.{◌≡◌, None, option_map};
 ghost use Rattle.std.specs.Vec.{vec_items};
 ghost use Rattle.git_repository.specs.Answers.{found_with};
 ghost use Rattle.git_repository.specs.Folders.{settings_with};
 ghost use Rattle.core_settings.specs.Views.{seen_settings};
 ghost use Rattle.opened_repository.specs.Answers.{Tells, fault_of};
 ghost use Rattle.opened_repository.specs.Opening.{path_if};
-ghost use Rattle.opened_repository.specs.Places.{ConfigThere, Locates, PlaceFound, PlaceIn, ReadsPlace, WorktreeConfigThere, is_outside, is_passed, outside, place_of, tells_outside};
+ghost use Rattle.opened_repository.specs.Places.{ConfigThere, Locates, PlaceFound, PlaceIn, ReadsPlace, WorktreeConfigThere, is_format, is_outside, is_passed, outside, place_of, tells};
+ghost use Rattle.opened_repository.specs.Private.{Without};
 ghost use Rattle.opened_repository.specs.Results.{said_of};
 
 use crate::around::{KnownRepository, nothing_known};
@@ -15,7 +16,7 @@ use crate::inside::known_in;
 use crate::order::{folders, work_tree};
 use crate::own::{lent, read_own};
 use crate::reading::read;
-use crate::there::{top_above, words_there, work_place};
+use crate::there::{folder_above, top_above, words_there, work_place};
 use crate::told::Told;
 use crate::trusted::{find_trusted, read_outer};
 use core_settings::ConfigPlaces;
@@ -68,7 +69,11 @@ fn place_found<S: FileSystem + ConfigFiles>(
     ensures { Tells (S.is_known source.now) place_of result (PlaceFound (S.tree source.now) (S.shows source.now) (said_of told.now)) }
 {
     let found = find_trusted(alloc, source, told)?;
-    place_in(alloc, source, told, &found)
+    let top = folder_above(alloc, told.current, &found.top)?;
+    match place_in(alloc, source, told, &found) {
+        Ok(place) => Ok(place),
+        Err(fault) => place_without_format(alloc, top, fault),
+    }
 }
 
 /// The entries of the files and words of a place.
@@ -102,22 +107,53 @@ pub fn read_config<F: ConfigFiles>(
 
 /// The place without a repository, where this fault is one by which Git takes it for none.
 fn place_without<F: Drop>(alloc: Global, fault: OpenFault<F>) -> Result<ConfigPlace, OpenFault<F>>
-    ensures { MatchResult result (λ place. (place_of place ≡ outside) × (tells_outside fault ≡ true)) (λ other. (other ≡ fault) × (tells_outside fault ≡ false)) }
+    ensures { Without is_outside None fault result }
 {
     if tells_outside(&fault) {
-        return Ok(ConfigPlace {
-            known: nothing_known(alloc),
-            top: None,
-            config: None,
-            work_tree: None,
-        });
+        return Ok(outside(alloc, None));
     }
     Err(fault)
 }
 
+/// The same where this fault is that of its format. Git has gone to its top by then.
+fn place_without_format<F: Drop>(
+    alloc: Global,
+    top: Option<Vec<u8>>,
+    fault: OpenFault<F>,
+) -> Result<ConfigPlace, OpenFault<F>>
+    ensures { Without is_format (option_map vec_items top) fault result }
+{
+    if tells_format(&fault) {
+        return Ok(outside(alloc, top));
+    }
+    Err(fault)
+}
+
+/// The place without a repository, from which Git has gone to this top.
+fn outside(alloc: Global, top: Option<Vec<u8>>) -> ConfigPlace
+    ensures { place_of result ≡ outside (option_map vec_items top) }
+{
+    ConfigPlace {
+        known: nothing_known(alloc),
+        top,
+        config: None,
+        work_tree: None,
+    }
+}
+
+/// Whether a fault tells that the format isn't known.
+fn tells_format<F>(fault: &OpenFault<F>) -> bool
+    ensures { result ≡ tells is_format fault.now }
+{
+    match fault {
+        OpenFault::Told(RepositoryFault::Format(_)) => true,
+        _ => false,
+    }
+}
+
 /// Whether Git, where a command needs no repository, takes this fault for a sign that there is none.
 fn tells_outside<F>(fault: &OpenFault<F>) -> bool
-    ensures { result ≡ tells_outside fault.now }
+    ensures { result ≡ tells is_outside fault.now }
 {
     match fault {
         OpenFault::Memory | OpenFault::File(_) => false,
@@ -132,8 +168,8 @@ fn is_outside(fault: &RepositoryFault<Rc<Vec<u8>>, Vec<u8>>) -> bool
     match fault {
         RepositoryFault::Find(FindFault::NotFound) => true,
         RepositoryFault::Find(FindFault::At(wrong, _)) => is_passed(*wrong),
-        RepositoryFault::Format(_) => true,
         RepositoryFault::Find(FindFault::Memory)
+        | RepositoryFault::Format(_)
         | RepositoryFault::Setting(_)
         | RepositoryFault::Sources(_)
         | RepositoryFault::BareValue { .. }

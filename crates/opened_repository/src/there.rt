@@ -26,9 +26,20 @@ pub(crate) fn top_above(
 ) -> Result<Option<Vec<u8>>, AllocError>
     ensures { IfOk result (λ above. option_map vec_items above ≡ top_above current.now (option_map vec_items top.now)) }
 {
-    let Some(top) = top else {
-        return Ok(None);
-    };
+    match top {
+        Some(top) => folder_above(alloc, current, top),
+        None => Ok(None),
+    }
+}
+
+/// The same for a folder.
+pub(crate) fn folder_above(
+    alloc: Global,
+    current: &[u8],
+    top: &[u8],
+) -> Result<Option<Vec<u8>>, AllocError>
+    ensures { IfOk result (λ above. option_map vec_items above ≡ top_above current.now (Some top.now)) }
+{
     if lies_below(alloc, top, current)? {
         return Ok(Some(Vec::from_slice(alloc, top)?));
     }

@@ -4,7 +4,6 @@ use Rattle.std.specs.Prelude.{◌↔◌, Any, IfOk, IsTrue, MatchOption, codes, 
 use Rattle.std.specs.declared.alloc.AllocError.{AllocError}
 use Rattle.std.proofs.lemmas.Bool.{false≢true}
 use Rattle.std.proofs.lemmas.List.{append_cancel_left, take-append-drop}
-use Rattle.glob_matcher.specs.Matching.{Splits}
 use Rattle.git_config.specs.declared.surroundings.Surroundings.{Surroundings}
 use Rattle.git_config.specs.Includes.{HasUrl, Holds}
 use lib.Pointwise.{bytes_decides, pointwise}

@@ -1,8 +1,8 @@
 -- A place that was found, or none.
-use Rattle.std.proofs.Common.{Ok, refl, subst}
+use Rattle.std.proofs.Common.{None, Ok, refl, subst}
 use Rattle.core_settings.specs.Views.{seen_settings}
 use Rattle.opened_repository.specs.Answers.{Asked, Tells, is}
-use Rattle.opened_repository.specs.Places.{Locates, PlaceFound, PlaceIf, place_of}
+use Rattle.opened_repository.specs.Places.{Locates, PlaceFound, is_outside, outside_if, place_of}
 use Rattle.opened_repository.specs.Results.{said_of}
 use Rattle.opened_repository.proofs.lemmas.Located.{without}
 use Rattle.opened_repository.proofs.lemmas.Stages.{all, rest, step}
@@ -22,5 +22,5 @@ returns-in-Err g c =
     let Whole = Locates tree Shows said in
     let left = step known Whole (seen_settings c.in_ok-read_outer.field-0) (all known Whole) (λ k. c.in_ok-read_outer.ensures tt) in
     let told = subst (λ r. Tells known place_of r (PlaceFound tree Shows said)) c.in-Err.is c.place_found.ensures in
-    rest known Whole (Asked (PlaceFound tree Shows said) (PlaceIf tree Shows said)) place_of c.place_without.result left
-    (without known (PlaceFound tree Shows said) (PlaceIf tree Shows said) place_of c.in-Err.fault c.place_without.result (λ f out h. h) told c.place_without.ensures)
+    rest known Whole (Asked (PlaceFound tree Shows said) (outside_if is_outside None)) place_of c.place_without.result left
+    (without (PlaceFound tree Shows said) (outside_if is_outside None) is_outside None known place_of c.in-Err.fault c.place_without.result (λ f. refl) told c.place_without.ensures)

@@ -1,6 +1,6 @@
 use Rattle.std.proofs.Common.{◌≡◌, ℕ, ◌<◌, Vec, Global, slice_index_or}
 use Rattle.git_config.specs.Includes.{MatchesFolder}
-use Rattle.git_config.proofs.conditions.in_folder.Given as goal
+use Rattle.git_config.proofs.conditions.matches_one.Given as goal
 
 -- no path so far matches
 abbrev pub invariant-loop-path : goal.invariant-loop-path
