@@ -52,6 +52,8 @@ pub(crate) struct Ground {
     pub(crate) tree: WorkTree,
     /// The list of the file of excludes that an option names.
     pub(crate) named: Option<List<IgnoreLines>>,
+    /// Whether patterns count: else no file of excludes is read.
+    pub(crate) counts: bool,
 }
 
 /// Goes to the top of the work tree, and reads the files that count before those of all folders.
@@ -81,7 +83,11 @@ pub(crate) fn ground_of<R: Files + Env + AllocGlobal>(
     go_to_folders(rt, alloc, options)?;
     let named = excludes_by_option(rt, alloc, options)?;
     let tree = work_tree(rt, alloc, options, purpose)?;
-    Ok(Ground { tree, named })
+    Ok(Ground {
+        tree,
+        named,
+        counts: true,
+    })
 }
 
 /// Reads the files that count before those of all folders.
@@ -96,7 +102,11 @@ pub(crate) fn fronts_on<R: Files + Eprint>(
     ensures before { IfOk result (λ fronts. AreFronts (length fronts.lists.items) (map (entry_list_of (λ _. tt)) fronts.lists.items)) }
     ensures unread { IfOk result (λ fronts. index ≢ IndexUse.Paths → fronts.tracked ≡ []) }
 {
-    let Ground { tree, named } = ground;
+    let Ground {
+        tree,
+        named,
+        counts,
+    } = ground;
     let Taken { tracked, indexed } = take_from_index(rt, alloc, &tree.index, index)?;
     let WorkTree {
         standpoint,
@@ -107,9 +117,11 @@ pub(crate) fn fronts_on<R: Files + Eprint>(
         git_folder,
         ..
     } = tree;
-    let outer = outer_excludes(rt, alloc, named, file)?;
-    let own = excludes(rt, alloc, own_excludes)?;
-    let lists = both(alloc, outer, own)?;
+    let lists = if counts {
+        lists_of(rt, alloc, named, file, own_excludes)?
+    } else {
+        both(alloc, List::empty(alloc), List::empty(alloc))?
+    };
     Ok(Fronts {
         standpoint,
         lists,
@@ -133,6 +145,22 @@ fn excludes_by_option<R: Files>(
         Some(name) => Ok(Some(named_excludes(rt, alloc, name)?)),
         None => Ok(None),
     }
+}
+
+/// The lists of the files of excludes that count before those of all folders.
+fn lists_of<R: Files + Eprint>(
+    rt: &R,
+    alloc: Global,
+    named: Option<List<IgnoreLines>>,
+    file: Option<Vec<u8>>,
+    own: String,
+) -> Result<Vec<PreparedList<IgnoreLines>>>
+    requires { IfSome named (λ list. IsOfSomeFile (entry_list_of (λ _. tt) list)) }
+    ensures { IfOk result (λ lists. AreFronts (length lists.items) (map (entry_list_of (λ _. tt)) lists.items)) }
+{
+    let outer = outer_excludes(rt, alloc, named, file)?;
+    let own = excludes(rt, alloc, own)?;
+    Ok(both(alloc, outer, own)?)
 }
 
 /// The list that is named, or else that of the file of excludes for all repositories, where there is one.

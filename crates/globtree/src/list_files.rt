@@ -48,7 +48,7 @@ pub(crate) fn list_files<R: Files + Env + Clock + Eprint + AllocGlobal + Clone +
         list_index(rt, alloc, options, flags.nul, folder, output)?;
         return Ok(ANSWERED);
     }
-    let fronts = listing_fronts(rt, alloc, options, index_by(flags))?;
+    let fronts = listing_fronts(rt, alloc, options, flags)?;
     let status = list_found(
         rt,
         alloc,
@@ -65,17 +65,17 @@ pub(crate) fn list_files<R: Files + Env + Clock + Eprint + AllocGlobal + Clone +
 
 /// Whether nothing is listed but what the index has, whatever the patterns say: a work tree isn't needed then.
 fn lists_index(flags: FilesFlags) -> bool
-    ensures { result ≡ (flags.cached && not ((flags.others || flags.ignored) || flags.exclude_standard)) }
+    ensures { result ≡ (lists_tracked flags && not ((flags.others || flags.ignored) || flags.exclude_standard)) }
 {
-    flags.cached && !(flags.others || flags.ignored || flags.exclude_standard)
+    flags.lists_tracked() && !(flags.others || flags.ignored || flags.exclude_standard)
 }
 
-/// Goes to the top of the work tree, and reads the files that count before those of all folders, where files are listed.
+/// Goes to the top of the work tree, and reads the files that count before those of all folders, if patterns count.
 fn listing_fronts<R: Files + Env + Eprint + AllocGlobal>(
     rt: &R,
     alloc: Global,
     options: Options<'_>,
-    index: IndexUse,
+    flags: FilesFlags,
 ) -> Result<Fronts>
     ensures tracked { IfOk result (λ fronts. IsOfIndex fronts.tracked) }
     ensures before { IfOk result (λ fronts. AreFronts (length fronts.lists.items) (map (entry_list_of (λ _. tt)) fronts.lists.items)) }
@@ -84,7 +84,8 @@ fn listing_fronts<R: Files + Env + Eprint + AllocGlobal>(
     if let Some(file) = ground.tree.listing_excludes.take() {
         ground.tree.excludes = Some(file);
     }
-    fronts_on(rt, alloc, ground, index)
+    ground.counts = counts_patterns(flags);
+    fronts_on(rt, alloc, ground, index_by(flags))
 }
 
 /// Whether the patterns of the usual files count.

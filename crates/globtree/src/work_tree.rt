@@ -191,7 +191,7 @@ pub(crate) struct IndexPlace {
     pub(crate) index: IndexFile,
 }
 
-/// The index of the repository of the current folder, which may have no work tree. If it has one, its top becomes the current folder.
+/// The index of the repository of the current folder, which may have no work tree.
 pub(crate) fn index_place<R: Files + Env + AllocGlobal>(
     rt: &R,
     alloc: Global,
@@ -202,7 +202,7 @@ pub(crate) fn index_place<R: Files + Env + AllocGlobal>(
     let opened = open_here(rt, alloc, options, &current, Purpose::Index)?;
     let index = index_file_of(alloc, &current, &opened)?;
     let quoting = quoting_of(opened.core.quote_path);
-    let standpoint = standpoint_from(rt, alloc, &here, &current, opened.top.as_deref())?;
+    let standpoint = standpoint_below(alloc, &here, &current, opened.top.as_deref())?;
     Ok(IndexPlace {
         standpoint,
         quoting,
@@ -210,23 +210,22 @@ pub(crate) fn index_place<R: Files + Env + AllocGlobal>(
     })
 }
 
-/// Goes to the top of a work tree, which is told from the current folder. Paths are told from that folder then, where it lies in the work
-/// tree, and else from the top. Without a work tree nothing is gone to.
-fn standpoint_from<R: Files + Env + AllocGlobal>(
-    rt: &R,
+/// From where paths are told below the top of a work tree, which is told from the current folder: from this, where it lies in the work tree,
+/// and else from the top, which may be missing. Without a work tree they are told as they are.
+fn standpoint_below(
     alloc: Global,
     here: &[u8],
     current: &[u8],
     top: Option<&[u8]>,
-) -> Result<Standpoint>
+) -> Result<Standpoint, AllocError>
     ensures { IfOk result (λ standpoint. standpoint.is_inside ≡ true) }
 {
     let Some(top) = top else {
-        return Ok(standpoint_in(alloc, b"", Vec::new(alloc))?);
+        return standpoint_in(alloc, b"", Vec::new(alloc));
     };
-    let top = path_text(alloc, &told_from(alloc, current, top)?)?;
-    let top = go_to_top(rt, alloc, top.as_str())?;
-    Ok(standpoint_in(alloc, here, top)?)
+    let top = told_from(alloc, current, top)?;
+    let left = top.strip_prefix(b"/").unwrap_or(&top);
+    standpoint_in(alloc, here, Vec::from_slice(alloc, left)?)
 }
 
 /// Which names stand in quotes: all with bytes past ASCII, unless that is configured otherwise.

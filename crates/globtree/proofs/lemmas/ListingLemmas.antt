@@ -40,11 +40,18 @@ pub where_false : (A B : Type 0) (asked told : Bool) → told ≡ asked → told
 where_false A B false told is fails b = b
 where_false A B true told is fails b = absurd (false≢true (sym fails ∙ is))
 
--- where the index alone is listed, nothing else is asked for
-pub index_alone : (cached others ignored standard : Bool) → (cached && not ((others || ignored) || standard)) ≡ true
-    → (cached ≡ true) × (others ≡ false) × (ignored ≡ false)
+-- where the index alone is listed, no other files are
+pub index_alone : (tracked others ignored standard : Bool) → (tracked && not ((others || ignored) || standard)) ≡ true
+    → (tracked ≡ true) × (others ≡ false) × (ignored ≡ false)
 index_alone true false false false holds = (refl, refl, refl)
 index_alone true false false true holds = absurd (false≢true holds)
 index_alone true false true standard holds = absurd (false≢true holds)
 index_alone true true ignored standard holds = absurd (false≢true holds)
 index_alone false others ignored standard holds = absurd (false≢true holds)
+
+-- and there are options
+pub not_usual : (cached others usual : Bool) → (cached || (not others && not usual)) ≡ true → (cached ≡ true → usual ≡ false) → usual ≡ false
+not_usual true others usual tracked told = told refl
+not_usual false false false tracked told = refl
+not_usual false false true tracked told = absurd (false≢true tracked)
+not_usual false true usual tracked told = absurd (false≢true tracked)

@@ -1,7 +1,7 @@
 use Rattle.std.proofs.Common.{◌≡◌, ◌&&◌, ◌||◌, not, refl, Bool, true, false, ap, sym, ◌∙◌}
 use Rattle.gix_glob.specs.Watched.{inner}
 use Rattle.tree_words.specs.Files.{are_usual, lists_tracked}
-use Rattle.globtree.proofs.lemmas.ListingLemmas.{index_alone, where_false, where_true}
+use Rattle.globtree.proofs.lemmas.ListingLemmas.{index_alone, not_usual, where_false, where_true}
 use Rattle.globtree.proofs.list_files.list_files.Goals as goal
 
 pub returns-clause-answered : goal.returns-clause-answered
@@ -20,10 +20,9 @@ pub returns-then-is_none-clause-answered : goal.returns-then-is_none-clause-answ
 returns-then-is_none-clause-answered g c =
     let flags = c.args.flags in
     let told = c.in_ok-list_index.ensures in
-    let alone = index_alone flags.cached flags.others flags.ignored flags.exclude_standard (sym c.lists_index.ensures ∙ c.if-lists_index.true) in
+    let alone = index_alone (lists_tracked flags) flags.others flags.ignored flags.exclude_standard (sym c.lists_index.ensures ∙ c.if-lists_index.true) in
     let usual : are_usual flags ≡ false =
-    ap (λ cached. not (((((cached || flags.others) || flags.ignored) || flags.directory) || flags.no_empty_directory) || flags.exclude_standard)) alone.0 in
-    let tracked : lists_tracked flags ≡ true = ap (λ cached. cached || (not flags.others && not (are_usual flags))) alone.0 in
+    not_usual flags.cached flags.others (are_usual flags) alone.0 (λ cached. ap (λ cached. not (((((cached || flags.others) || flags.ignored) || flags.directory) || flags.no_empty_directory) || flags.exclude_standard)) cached) in
     let found : (are_usual flags || flags.others) ≡ false = ap (λ usual. usual || flags.others) usual ∙ alone.1 in
     record {
       standpoint = told.standpoint;
@@ -33,5 +32,5 @@ returns-then-is_none-clause-answered g c =
       of_index = told.of_index;
       middle = g.O.Write.contents (inner c.args.output.now);
       found = where_false _ _ (are_usual flags || flags.others) false (sym found) refl refl;
-      listed = where_true _ _ (lists_tracked flags) true (sym tracked) refl (where_false _ _ flags.ignored false (sym alone.2) refl told.listed);
+      listed = where_true _ _ (lists_tracked flags) true (sym alone.0) refl (where_false _ _ flags.ignored false (sym alone.2) refl told.listed);
     }
