@@ -82,12 +82,11 @@ common_folder_by tree None folder = own_common_folder tree folder
 unfoldable pub has_stores : FileTree → Environment (List ℕ) → List ℕ → Bool
 has_stores tree words common = tree.can_enter (unwrap_or words.object_directory (common ++ codes "/objects")) && tree.can_enter (common ++ codes "/refs")
 
-unfoldable pub is_git_folder_by : FileTree → Environment (List ℕ) → List ℕ → List ℕ → Result Bool (FindFault (List ℕ))
-is_git_folder_by tree words head folder =
-    if is_head tree head then (common_folder_by tree words.common_dir folder >>= λ common. Ok (has_stores tree words common)) else Ok false
-
-abbrev pub is_git_folder : FileTree → Environment (List ℕ) → List ℕ → Result Bool (FindFault (List ℕ))
-is_git_folder tree words folder = is_git_folder_by tree words (folder ++ codes "/HEAD") folder
+unfoldable pub is_git_folder : FileTree → Environment (List ℕ) → List ℕ → Result Bool (FindFault (List ℕ))
+is_git_folder tree words folder =
+    if is_head tree (folder ++ codes "/HEAD")
+    then (common_folder_by tree words.common_dir folder >>= λ common. Ok (has_stores tree words common))
+    else Ok false
 
 -- ---- a file `.git`: `gitdir: ` and a path, 1 MiB at most
 

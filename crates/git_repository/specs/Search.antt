@@ -3,12 +3,12 @@ use Rattle.std.specs.Prelude.{◌≡◌, ◌⊎◌, ℕ, ◌-◌, ◌<◌, nat_e
 use Rattle.std.specs.List.{AllByRecursion, ends_with, slice_split}
 use Rattle.std.specs.Vec.{vec_items}
 use Rattle.git_repository.specs.FileTree.{FileTree}
-use Rattle.git_repository.specs.GitFolders.{◌>>=◌, gitfile_leads, is_absolute, is_git_folder, is_git_folder_by}
+use Rattle.git_repository.specs.GitFolders.{◌>>=◌, gitfile_leads, is_absolute, is_git_folder, real_path_of}
 use Rattle.git_repository.specs.Safety.{trusts}
 use Rattle.git_repository.specs.declared.environment.Environment.{Environment}
 use Rattle.git_repository.specs.declared.fault.FindFault.{FindFault}
 use Rattle.git_repository.specs.declared.fault.FindFault.TheVariants.{At, NotFound}
-use Rattle.git_repository.specs.declared.fault.Wrong.TheVariants.{Bare, Border, LeadsNowhere, NotNamed, Owner}
+use Rattle.git_repository.specs.declared.fault.Wrong.TheVariants.{Bare, Border, NotNamed, Owner}
 use Rattle.git_repository.specs.declared.found.Found.{Found}
 use Rattle.git_repository.specs.declared.safety.Safety.{Safety}
 use Rattle.git_repository.specs.declared.found.FoundBy.TheVariants as by
@@ -111,18 +111,14 @@ Searches Open shown answer =
 
 -- ---- without a search: the git folder that `GIT_DIR` tells
 
--- where its `HEAD` is looked for: an empty path tells the current folder
-abbrev pub head_told : List ℕ → List ℕ
-head_told told = if length told == 0 then codes "HEAD" else told ++ codes "/HEAD"
-
-abbrev pub named_if : List ℕ → List ℕ → Bool → Result (Found (List ℕ)) Fault
-named_if current told false = Err (At NotNamed told)
-named_if current told true = if length told == 0 then Err (At LeadsNowhere told) else Ok (record { by = by.Named; top = current; git_folder = told })
+abbrev pub named_if : FileTree → List ℕ → List ℕ → Bool → Result (Found (List ℕ)) Fault
+named_if tree current told true = Ok (record { by = by.Named; top = current; git_folder = told })
+named_if tree current told false = real_path_of tree told >>= λ path. Err (At NotNamed told)
 
 unfoldable pub named : FileTree → Environment (List ℕ) → List ℕ → List ℕ → Result (Found (List ℕ)) Fault
 named tree words current told =
     if tree.is_file told then (gitfile_leads tree words told >>= λ git_folder. Ok (record { by = by.Named; top = current; git_folder = git_folder }))
-    else (is_git_folder_by tree words (head_told told) told >>= λ here. named_if current told here)
+    else (is_git_folder tree words told >>= λ here. named_if tree current told here)
 
 -- the repository of a current folder, or why there is none
 abbrev pub FindsIn : FileTree → Environment (List ℕ) → Trust → Option (List ℕ) → List ℕ → Result (Found (List ℕ)) Fault → Type 0

@@ -3,7 +3,7 @@ ghost use Rattle.std.specs.Prelude.{◌≡◌, Ok, option_map};
 ghost use Rattle.std.specs.Vec.{vec_items};
 ghost use Rattle.git_repository.specs.Answers.{Gives};
 ghost use Rattle.git_repository.specs.Environments.{environment_with};
-ghost use Rattle.git_repository.specs.GitFolders.{common_folder_by, common_told, has_stores, is_git_folder, is_git_folder_by, own_common_folder, real_path_of};
+ghost use Rattle.git_repository.specs.GitFolders.{common_folder_by, common_told, has_stores, is_git_folder, own_common_folder, real_path_of};
 
 use crate::environment::Environment;
 use crate::fault::{FindFault, Wrong};
@@ -108,6 +108,7 @@ fn has_stores<S: FileSystem>(
 }
 
 /// Whether a folder is a git folder.
+#[tactic(auto, unfolding(crate::specs::GitFolders::is_git_folder))]
 pub fn is_git_folder<S: FileSystem>(
     alloc: Global,
     source: &S,
@@ -117,21 +118,7 @@ pub fn is_git_folder<S: FileSystem>(
     ensures { Gives (S.is_known source.now) (λ answer. answer) result (is_git_folder (S.tree source.now) (environment_with (λ b. b.now) words.now) folder.now) }
 {
     let head = joined(alloc, folder, b"/HEAD")?;
-    is_git_folder_by(alloc, source, words, &head, folder)
-}
-
-/// Whether a folder is a git folder, if its `HEAD` has this path.
-#[tactic(auto, unfolding(crate::specs::GitFolders::is_git_folder_by))]
-pub fn is_git_folder_by<S: FileSystem>(
-    alloc: Global,
-    source: &S,
-    words: &Environment<&[u8]>,
-    head: &[u8],
-    folder: &[u8],
-) -> Result<bool, FindFault<Vec<u8>>>
-    ensures { Gives (S.is_known source.now) (λ answer. answer) result (is_git_folder_by (S.tree source.now) (environment_with (λ b. b.now) words.now) head.now folder.now) }
-{
-    if !is_head(source, head)? {
+    if !is_head(source, &head)? {
         return Ok(false);
     }
     let common = common_folder(alloc, source, words.common_dir, folder)?;

@@ -1,9 +1,9 @@
 //! The search for the repository of a current folder.
-ghost use Rattle.std.specs.Prelude.{◌≡◌, IfOk, MatchOption};
+ghost use Rattle.std.specs.Prelude.{MatchOption};
 ghost use Rattle.std.specs.Vec.{vec_items};
 ghost use Rattle.git_repository.specs.Answers.{Answers, Gives, found_with};
 ghost use Rattle.git_repository.specs.Environments.{environment_with};
-ghost use Rattle.git_repository.specs.Search.{Finds, Searches, head_told, named, shows_from, trust_of};
+ghost use Rattle.git_repository.specs.Search.{Finds, Searches, named, shows_from, trust_of};
 ghost use Rattle.git_repository.specs.Private.Searching.{HasNoUpper, IsOpenFrom, IsUpperLen};
 
 use crate::ceilings::{ceilings_of, floor_of, folder_of};
@@ -11,23 +11,12 @@ use crate::environment::Environment;
 use crate::fault::{FindFault, Wrong};
 use crate::file_system::FileSystem;
 use crate::found::{Found, FoundBy};
-use crate::git_folder::is_git_folder_by;
+use crate::git_folder::{is_git_folder, real_path_of};
 use crate::gitfile::gitfile_leads;
 use crate::look::shows_from;
-use crate::paths::{joined, name_start};
+use crate::paths::name_start;
 use crate::safety::Safety;
-use std::alloc::{AllocError, Global};
-
-/// The path at which `HEAD` is looked for, where `GIT_DIR` tells this folder: one without bytes is the current one.
-fn head_told(alloc: Global, told: &[u8]) -> Result<Vec<u8>, AllocError>
-    ensures { IfOk result (λ path. path.items ≡ head_told told.now) }
-{
-    if told.is_empty() {
-        Vec::from_slice(alloc, b"HEAD")
-    } else {
-        joined(alloc, told, b"/HEAD")
-    }
-}
+use std::alloc::Global;
 
 /// The git folder that `GIT_DIR` tells.
 #[tactic(auto, unfolding(crate::specs::Search::named))]
@@ -50,18 +39,15 @@ fn named<S: FileSystem>(
         });
     }
     let git_folder = Vec::from_slice(alloc, told)?;
-    let head = head_told(alloc, told)?;
-    if !is_git_folder_by(alloc, source, words, &head, told)? {
-        return Err(FindFault::At(Wrong::NotNamed, git_folder));
+    if is_git_folder(alloc, source, words, told)? {
+        return Ok(Found {
+            by: FoundBy::Named,
+            top,
+            git_folder,
+        });
     }
-    if told.is_empty() {
-        return Err(FindFault::At(Wrong::LeadsNowhere, git_folder));
-    }
-    Ok(Found {
-        by: FoundBy::Named,
-        top,
-        git_folder,
-    })
+    real_path_of(source, Vec::from_slice(alloc, told)?)?;
+    Err(FindFault::At(Wrong::NotNamed, git_folder))
 }
 
 /// The repository that the nearest folder shows, from the current one upward. A folder above has so many bytes at least.
