@@ -6,7 +6,7 @@ use Rattle.git_repository.specs.declared.environment.Environment.{Environment}
 use Rattle.git_repository.specs.declared.fault.FindFault.{FindFault}
 use Rattle.git_repository.specs.declared.fault.FindFault.TheVariants.{At, Memory, NotFound}
 use Rattle.git_repository.specs.declared.fault.Wrong.{Wrong}
-use Rattle.git_repository.specs.declared.fault.Wrong.TheVariants.{Border, Bare, CommonFolder, Format, LeadsNowhere, NoGitFolder, NoPath, NotEntered, NotNamed, Owner, TooLarge, Unreadable}
+use Rattle.git_repository.specs.declared.fault.Wrong.TheVariants.{Border, Bare, CommonFolder, Format, LeadsNowhere, NoGitFolder, NamedNowhere, NoPath, NotEntered, NotNamed, Owner, TooLarge, Unreadable}
 
 -- a file that leads nowhere: one that can't be read may lead to a repository, and one that tells no git folder doesn't
 abbrev pub by_wrong : {B : Type 0} → Wrong → B → Result Bool (FindFault B)
@@ -16,6 +16,7 @@ by_wrong Format path = Ok false
 by_wrong NoPath path = Ok false
 by_wrong NoGitFolder path = Ok false
 by_wrong NotNamed path = Err (At NotNamed path)
+by_wrong NamedNowhere path = Err (At NamedNowhere path)
 by_wrong CommonFolder path = Err (At CommonFolder path)
 by_wrong LeadsNowhere path = Err (At LeadsNowhere path)
 by_wrong NotEntered path = Err (At NotEntered path)

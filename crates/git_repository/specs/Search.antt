@@ -3,12 +3,12 @@ use Rattle.std.specs.Prelude.{◌≡◌, ◌⊎◌, ℕ, ◌-◌, ◌<◌, nat_e
 use Rattle.std.specs.List.{AllByRecursion, ends_with, slice_split}
 use Rattle.std.specs.Vec.{vec_items}
 use Rattle.git_repository.specs.FileTree.{FileTree}
-use Rattle.git_repository.specs.GitFolders.{◌>>=◌, gitfile_leads, is_absolute, is_git_folder, real_path_of}
+use Rattle.git_repository.specs.GitFolders.{◌>>=◌, gitfile_leads, is_absolute, is_git_folder}
 use Rattle.git_repository.specs.Safety.{trusts}
 use Rattle.git_repository.specs.declared.environment.Environment.{Environment}
 use Rattle.git_repository.specs.declared.fault.FindFault.{FindFault}
 use Rattle.git_repository.specs.declared.fault.FindFault.TheVariants.{At, NotFound}
-use Rattle.git_repository.specs.declared.fault.Wrong.TheVariants.{Bare, Border, NotNamed, Owner}
+use Rattle.git_repository.specs.declared.fault.Wrong.TheVariants.{Bare, Border, NamedNowhere, NotNamed, Owner}
 use Rattle.git_repository.specs.declared.found.Found.{Found}
 use Rattle.git_repository.specs.declared.safety.Safety.{Safety}
 use Rattle.git_repository.specs.declared.found.FoundBy.TheVariants as by
@@ -113,7 +113,7 @@ Searches Open shown answer =
 
 abbrev pub named_if : FileTree → List ℕ → List ℕ → Bool → Result (Found (List ℕ)) Fault
 named_if tree current told true = Ok (record { by = by.Named; top = current; git_folder = told })
-named_if tree current told false = real_path_of tree told >>= λ path. Err (At NotNamed told)
+named_if tree current told false = Err (At (elim (tree.real_path told) [ None ↦ NamedNowhere | Some real ↦ NotNamed ]) told)
 
 unfoldable pub named : FileTree → Environment (List ℕ) → List ℕ → List ℕ → Result (Found (List ℕ)) Fault
 named tree words current told =

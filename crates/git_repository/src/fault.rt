@@ -22,6 +22,8 @@ pub enum Wrong {
     NoGitFolder,
     /// `GIT_DIR` tells this path, where no git folder is.
     NotNamed,
+    /// `GIT_DIR` tells this path, which leads nowhere.
+    NamedNowhere,
     /// The file `commondir` can't be read, is empty or has more than 1 MiB.
     CommonFolder,
     /// The path leads nowhere.
@@ -91,7 +93,7 @@ fn words_of(wrong: Wrong) -> (&'static str, &'static str) {
         Wrong::Format => ("invalid gitfile format: ", ""),
         Wrong::NoPath => ("no path in gitfile: ", ""),
         Wrong::NoGitFolder => ("not a git repository: ", ""),
-        Wrong::NotNamed => ("not a git repository: '", "'"),
+        Wrong::NotNamed | Wrong::NamedNowhere => ("not a git repository: '", "'"),
         Wrong::CommonFolder => ("failed to read ", ""),
         Wrong::LeadsNowhere => ("Invalid path '", "'"),
         Wrong::NotEntered => ("cannot chdir to '", "'"),

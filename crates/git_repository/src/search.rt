@@ -11,7 +11,7 @@ use crate::environment::Environment;
 use crate::fault::{FindFault, Wrong};
 use crate::file_system::FileSystem;
 use crate::found::{Found, FoundBy};
-use crate::git_folder::{is_git_folder, real_path_of};
+use crate::git_folder::is_git_folder;
 use crate::gitfile::gitfile_leads;
 use crate::look::shows_from;
 use crate::paths::name_start;
@@ -46,8 +46,11 @@ fn named<S: FileSystem>(
             git_folder,
         });
     }
-    real_path_of(source, Vec::from_slice(alloc, told)?)?;
-    Err(FindFault::At(Wrong::NotNamed, git_folder))
+    let wrong = match source.real_path(told)? {
+        Some(_real) => Wrong::NotNamed,
+        None => Wrong::NamedNowhere,
+    };
+    Err(FindFault::At(wrong, git_folder))
 }
 
 /// The repository that the nearest folder shows, from the current one upward. A folder above has so many bytes at least.

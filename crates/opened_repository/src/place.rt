@@ -195,6 +195,7 @@ fn is_passed(wrong: Wrong) -> bool
         | Wrong::Format
         | Wrong::NoPath
         | Wrong::NoGitFolder
+        | Wrong::NamedNowhere
         | Wrong::CommonFolder
         | Wrong::LeadsNowhere
         | Wrong::NotEntered => false,

@@ -217,6 +217,7 @@ fn setting_of(wrong: Wrong) -> Option<SafeSetting>
         | Wrong::NoPath
         | Wrong::NoGitFolder
         | Wrong::NotNamed
+        | Wrong::NamedNowhere
         | Wrong::CommonFolder
         | Wrong::LeadsNowhere
         | Wrong::NotEntered
