@@ -19,6 +19,7 @@ mod paths;
 mod safety;
 mod search;
 mod settings;
+mod whereabouts;
 
 pub use environment::Environment;
 pub use fault::{FindFault, Wrong};
@@ -32,3 +33,4 @@ pub use nested::is_repository;
 pub use safety::{Safety, trusts};
 pub use search::find;
 pub use settings::Settings;
+pub use whereabouts::Whereabouts;

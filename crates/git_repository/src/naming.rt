@@ -2,19 +2,16 @@
 ghost use Rattle.std.specs.Prelude.{◌≡◌, ◌==◌, IfOk, Ok, not, position};
 ghost use Rattle.std.specs.Vec.{vec_items};
 ghost use Rattle.git_repository.specs.Answers.{Gives, found_with};
-ghost use Rattle.git_repository.specs.Environments.{environment_with};
-ghost use Rattle.git_repository.specs.Folders.{settings_with};
-ghost use Rattle.git_repository.specs.Naming.{common_name, config_name, exclude_name, file_in, git_name, is_folder, is_told, lies_below, name_below, name_from, told_elsewhere, told_folder, told_there, without_dot, without_slashes, worktree_config_name};
+ghost use Rattle.git_repository.specs.Naming.{common_name, config_name, exclude_name, file_in, git_name, here_of, is_folder, is_told, lies_below, name_below, name_from, told_elsewhere, told_folder, told_there, without_dot, without_slashes, worktree_config_name};
 
 use crate::ceilings::folder_of;
-use crate::environment::Environment;
 use crate::fault::FindFault;
 use crate::file_system::FileSystem;
 use crate::folders::counts;
 use crate::found::{Found, FoundBy};
 use crate::git_folder::{own_common_folder, real_path_of};
 use crate::paths::joined;
-use crate::settings::Settings;
+use crate::whereabouts::Whereabouts;
 use std::alloc::{AllocError, Global};
 
 /// Whether a path lies below a folder.
@@ -106,19 +103,19 @@ fn name_from<S: FileSystem>(
 fn is_told<S: FileSystem>(
     alloc: Global,
     source: &S,
-    words: &Environment<&[u8]>,
-    settings: &Settings<&[u8]>,
-    found: &Found<Vec<u8>>,
+    whereabouts: &Whereabouts<'_>,
 ) -> Result<bool, FindFault<Vec<u8>>>
-    ensures { Gives (S.is_known source.now) (λ answer. answer) result (Ok (is_told (S.tree source.now) (environment_with (λ b. b.now) words.now) (settings_with (λ b. b.now) settings.now) (found_with vec_items found.now))) }
+    ensures { Gives (S.is_known source.now) (λ answer. answer) result (Ok (is_told (S.tree source.now) (here_of whereabouts.now))) }
 {
+    let (words, settings) = (&whereabouts.words, &whereabouts.settings);
     if words.work_tree.is_some() {
         return Ok(true);
     }
     if settings.work_tree.is_none() {
         return Ok(false);
     }
-    counts(alloc, source, words, settings, &found.git_folder)
+    let folder = &whereabouts.found.git_folder;
+    counts(alloc, source, words, settings, folder)
 }
 
 /// Whether a repository was found by a folder `.git`.
@@ -132,7 +129,7 @@ fn is_folder(by: FoundBy) -> bool
 }
 
 /// How Git tells the git folder in the folder in which it works, the top of the work tree where the current one lies below it: this is then
-/// `top`, and else the current folder.
+/// `top` of `whereabouts`, and else the current folder.
 ///
 /// # Errors
 /// [`FindFault::At`] where a path leads nowhere, and [`FindFault::Memory`].
@@ -140,41 +137,35 @@ fn is_folder(by: FoundBy) -> bool
 pub fn git_name<S: FileSystem>(
     alloc: Global,
     source: &S,
-    words: &Environment<&[u8]>,
-    settings: &Settings<&[u8]>,
-    found: &Found<Vec<u8>>,
-    current: &[u8],
-    top: &[u8],
+    whereabouts: &Whereabouts<'_>,
 ) -> Result<Vec<u8>, FindFault<Vec<u8>>>
-    ensures { Gives (S.is_known source.now) vec_items result (git_name (S.tree source.now) (environment_with (λ b. b.now) words.now) (settings_with (λ b. b.now) settings.now) (found_with vec_items found.now) current.now top.now) }
+    ensures { Gives (S.is_known source.now) vec_items result (git_name (S.tree source.now) (here_of whereabouts.now)) }
 {
-    if is_folder(found.by) && !is_told(alloc, source, words, settings, found)? {
+    let (found, current) = (whereabouts.found, whereabouts.current);
+    if is_folder(found.by) && !is_told(alloc, source, whereabouts)? {
         return Ok(Vec::from_slice(alloc, b".git")?);
     }
     let told = told_folder(alloc, source, current, found)?;
-    name_from(alloc, source, current, top, &told)
+    name_from(alloc, source, current, whereabouts.top, &told)
 }
 
 /// The name of the common folder.
 fn common_name<S: FileSystem>(
     alloc: Global,
     source: &S,
-    words: &Environment<&[u8]>,
-    settings: &Settings<&[u8]>,
-    found: &Found<Vec<u8>>,
-    current: &[u8],
-    top: &[u8],
+    whereabouts: &Whereabouts<'_>,
 ) -> Result<Vec<u8>, FindFault<Vec<u8>>>
-    ensures { Gives (S.is_known source.now) vec_items result (common_name (S.tree source.now) (environment_with (λ b. b.now) words.now) (settings_with (λ b. b.now) settings.now) (found_with vec_items found.now) current.now top.now (environment_with (λ b. b.now) words.now).common_dir) }
+    ensures { Gives (S.is_known source.now) vec_items result (common_name (S.tree source.now) (here_of whereabouts.now) (here_of whereabouts.now).words.common_dir) }
 {
-    if let Some(told) = words.common_dir {
+    if let Some(told) = whereabouts.words.common_dir {
         return Ok(Vec::from_slice(alloc, told)?);
     }
-    let file = joined(alloc, &found.git_folder, b"/commondir")?;
+    let folder = &whereabouts.found.git_folder;
+    let file = joined(alloc, folder, b"/commondir")?;
     if source.is_there(&file)? {
-        return own_common_folder(alloc, source, &found.git_folder);
+        return own_common_folder(alloc, source, folder);
     }
-    git_name(alloc, source, words, settings, found, current, top)
+    git_name(alloc, source, whereabouts)
 }
 
 /// A path without the current folder in front: `./`, and the slashes behind it.
@@ -224,19 +215,15 @@ fn file_in(alloc: Global, folder: &[u8], name: &[u8]) -> Result<Vec<u8>, AllocEr
 pub fn exclude_name<S: FileSystem>(
     alloc: Global,
     source: &S,
-    words: &Environment<&[u8]>,
-    settings: &Settings<&[u8]>,
-    found: &Found<Vec<u8>>,
-    current: &[u8],
-    top: &[u8],
+    whereabouts: &Whereabouts<'_>,
 ) -> Result<Vec<u8>, FindFault<Vec<u8>>>
-    ensures { Gives (S.is_known source.now) vec_items result (exclude_name (S.tree source.now) (environment_with (λ b. b.now) words.now) (settings_with (λ b. b.now) settings.now) (found_with vec_items found.now) current.now top.now) }
+    ensures { Gives (S.is_known source.now) vec_items result (exclude_name (S.tree source.now) (here_of whereabouts.now)) }
 {
-    let name = common_name(alloc, source, words, settings, found, current, top)?;
+    let name = common_name(alloc, source, whereabouts)?;
     Ok(file_in(alloc, &name, b"info/exclude")?)
 }
 
-/// How Git names the repository's file of configuration. It lies in the same folder as `info`, and `current` and `top` are those of
+/// How Git names the repository's file of configuration. It lies in the same folder as `info`, and `top` is that of
 /// [`git_name`].
 ///
 /// # Errors
@@ -245,15 +232,11 @@ pub fn exclude_name<S: FileSystem>(
 pub fn config_name<S: FileSystem>(
     alloc: Global,
     source: &S,
-    words: &Environment<&[u8]>,
-    settings: &Settings<&[u8]>,
-    found: &Found<Vec<u8>>,
-    current: &[u8],
-    top: &[u8],
+    whereabouts: &Whereabouts<'_>,
 ) -> Result<Vec<u8>, FindFault<Vec<u8>>>
-    ensures { Gives (S.is_known source.now) vec_items result (config_name (S.tree source.now) (environment_with (λ b. b.now) words.now) (settings_with (λ b. b.now) settings.now) (found_with vec_items found.now) current.now top.now) }
+    ensures { Gives (S.is_known source.now) vec_items result (config_name (S.tree source.now) (here_of whereabouts.now)) }
 {
-    let name = common_name(alloc, source, words, settings, found, current, top)?;
+    let name = common_name(alloc, source, whereabouts)?;
     let path = joined(alloc, &name, b"/config")?;
     Ok(Vec::from_slice(alloc, without_dot(&path))?)
 }
@@ -266,14 +249,10 @@ pub fn config_name<S: FileSystem>(
 pub fn worktree_config_name<S: FileSystem>(
     alloc: Global,
     source: &S,
-    words: &Environment<&[u8]>,
-    settings: &Settings<&[u8]>,
-    found: &Found<Vec<u8>>,
-    current: &[u8],
-    top: &[u8],
+    whereabouts: &Whereabouts<'_>,
 ) -> Result<Vec<u8>, FindFault<Vec<u8>>>
-    ensures { Gives (S.is_known source.now) vec_items result (worktree_config_name (S.tree source.now) (environment_with (λ b. b.now) words.now) (settings_with (λ b. b.now) settings.now) (found_with vec_items found.now) current.now top.now) }
+    ensures { Gives (S.is_known source.now) vec_items result (worktree_config_name (S.tree source.now) (here_of whereabouts.now)) }
 {
-    let name = git_name(alloc, source, words, settings, found, current, top)?;
+    let name = git_name(alloc, source, whereabouts)?;
     Ok(file_in(alloc, &name, b"config.worktree")?)
 }

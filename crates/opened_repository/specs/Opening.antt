@@ -5,7 +5,7 @@ use Rattle.git_config.specs.Configuration.{Seen, settings_of}
 use Rattle.git_repository.specs.FileTree.{FileTree}
 use Rattle.git_repository.specs.Folders.{file_path, folders_of, work_tree_of}
 use Rattle.git_repository.specs.GitFolders.{is_absolute, real_path_of, told_from}
-use Rattle.git_repository.specs.Naming.{exclude_name, git_name, lies_below}
+use Rattle.git_repository.specs.Naming.{Here, exclude_name, git_name, lies_below}
 use Rattle.git_repository.specs.Search.{Finds, folder_of}
 use Rattle.git_repository.specs.declared.environment.Environment.{Environment}
 use Rattle.git_repository.specs.declared.folders.Folders.{Folders}
@@ -66,6 +66,10 @@ work_place current (Some top) = top
 abbrev pub words_there : Said → Option (List ℕ) → Environment (List ℕ)
 words_there said None = record said.environment { work_tree = Some said.current }
 words_there said (Some top) = said.environment
+
+-- from where the repository's files are named there
+abbrev pub here_in : Said → Found (List ℕ) → Settings (List ℕ) → Option (List ℕ) → Here
+here_in said found own top = record { words = words_there said top; settings = own; found = found; current = said.current; top = work_place said.current top }
 
 -- its path, which `PWD` may tell with links
 abbrev pub stands_for : FileTree → List ℕ → List ℕ → Bool
@@ -170,7 +174,7 @@ module _ (tree : FileTree) (Shows : Files) (said : Said) where
 
   -- how Git tells the git folder in the folder where it works
   abbrev pub GitThere : Found (List ℕ) → Settings (List ℕ) → Option (List ℕ) → Answer (List ℕ)
-  GitThere found own top = In (is' (git_name tree (words_there said top) own found said.current (work_place said.current top)))
+  GitThere found own top = In (is' (git_name tree (here_in said found own top)))
 
   abbrev pub KnownIn : Found (List ℕ) → Settings (List ℕ) → Option (List ℕ) → Folders (List ℕ) → Answer Known
   KnownIn found own top folders = do
@@ -197,7 +201,7 @@ module _ (tree : FileTree) (Shows : Files) (said : Said) where
   TopOf found own = In (is' (work_tree_of tree said.environment own found))
 
   abbrev pub NameFrom : Found (List ℕ) → Settings (List ℕ) → List ℕ → Answer (List ℕ)
-  NameFrom found own top = In (is' (exclude_name tree said.environment own found said.current top))
+  NameFrom found own top = In (is' (exclude_name tree (record { words = said.environment; settings = own; found = found; current = said.current; top = top })))
 
   abbrev pub NameOf : Found (List ℕ) → Settings (List ℕ) → Option (List ℕ) → Answer (Option (List ℕ))
   NameOf found own None = is (Ok None)

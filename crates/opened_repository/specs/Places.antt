@@ -15,7 +15,7 @@ use Rattle.opened_repository.specs.declared.fault.RepositoryFault.TheVariants.{F
 use Rattle.opened_repository.specs.declared.place.ConfigPlace.{ConfigPlace}
 use Rattle.opened_repository.specs.Alone.{OwnSettings}
 use Rattle.opened_repository.specs.Answers.{Answer, Asked, Fault, In, fault_of, is, is', ◌>>=◌}
-use Rattle.opened_repository.specs.Opening.{FindsTrusted, FoldersOf, KnownIn, Outer, TopOf, path_if, top_above, words_there, work_place}
+use Rattle.opened_repository.specs.Opening.{FindsTrusted, FoldersOf, KnownIn, Outer, TopOf, here_in, path_if, top_above}
 use Rattle.opened_repository.specs.Readings.{Files, Known, Reads, known_of, listed_by, nothing_known}
 use Rattle.opened_repository.specs.Results.{Said}
 
@@ -64,10 +64,10 @@ module _ (tree : FileTree) (Shows : Files) (said : Said) where
   -- ---- names of files, in the folder where Git works
 
   abbrev pub ConfigThere : Found (List ℕ) → Settings (List ℕ) → Option (List ℕ) → Answer (List ℕ)
-  ConfigThere found own top = In (is' (config_name tree (words_there said top) own found said.current (work_place said.current top)))
+  ConfigThere found own top = In (is' (config_name tree (here_in said found own top)))
 
   abbrev pub WorktreeConfigThere : Found (List ℕ) → Settings (List ℕ) → Option (List ℕ) → Answer (List ℕ)
-  WorktreeConfigThere found own top = In (is' (worktree_config_name tree (words_there said top) own found said.current (work_place said.current top)))
+  WorktreeConfigThere found own top = In (is' (worktree_config_name tree (here_in said found own top)))
 
   -- ---- the place
 

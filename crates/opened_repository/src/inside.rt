@@ -15,9 +15,8 @@ ghost use Rattle.opened_repository.specs.Results.{said_of};
 use crate::around::KnownRepository;
 use crate::fault::OpenFault;
 use crate::head::{Head, head_of};
-use crate::own::lent;
 use crate::reading::read;
-use crate::there::{check_relatives, folder_of, shown, top_above, words_there, work_place};
+use crate::there::{check_relatives, folder_of, here_in, shown, top_above, work_place};
 use crate::told::Told;
 use core_settings::ConfigPlaces;
 use git_config::{Config, ConfigFiles};
@@ -133,9 +132,7 @@ fn git_there<S: FileSystem + ConfigFiles>(
 ) -> Result<Vec<u8>, OpenFault<S::Fault>>
     ensures { Tells (S.is_known source.now) vec_items result (GitThere (S.tree source.now) (S.shows source.now) (said_of told.now) (found_with vec_items found.now) (settings_with vec_items own.now) (option_map vec_items top.now)) }
 {
-    let (words, current) = (words_there(told, top), told.current);
-    let place = work_place(current, top);
-    Ok(git_name(alloc, source, &words, &lent(own), found, current, place)?)
+    Ok(git_name(alloc, source, &here_in(told, found, own, top))?)
 }
 
 /// A path from the root, without links.

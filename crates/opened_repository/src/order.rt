@@ -20,8 +20,8 @@ use crate::trusted::{find_trusted, read_outer};
 use core_settings::{CoreSettings, core_settings};
 use git_config::{Config, ConfigFiles};
 use git_repository::{
-    FileSystem, Folders, Found, RepositoryFile, Settings, exclude_name, file_path, folders_of,
-    work_tree_of,
+    FileSystem, Folders, Found, RepositoryFile, Settings, Whereabouts, exclude_name, file_path,
+    folders_of, work_tree_of,
 };
 use std::alloc::{AllocError, Global};
 
@@ -172,8 +172,14 @@ fn name_from<S: FileSystem + ConfigFiles>(
 ) -> Result<Vec<u8>, OpenFault<S::Fault>>
     ensures { Tells (S.is_known source.now) vec_items result (NameFrom (S.tree source.now) (S.shows source.now) (said_of told.now) (found_with vec_items found.now) (settings_with vec_items own.now) top.now) }
 {
-    let (environment, current) = (&told.environment, told.current);
-    Ok(exclude_name(alloc, source, environment, &lent(own), found, current, top)?)
+    let whereabouts = Whereabouts {
+        words: told.environment,
+        settings: lent(own),
+        found,
+        current: told.current,
+        top,
+    };
+    Ok(exclude_name(alloc, source, &whereabouts)?)
 }
 
 /// A file that the configuration sets, from the top of the work tree.

@@ -14,9 +14,9 @@ use crate::around::{KnownRepository, nothing_known};
 use crate::fault::{OpenFault, RepositoryFault};
 use crate::inside::known_in;
 use crate::order::{folders, work_tree};
-use crate::own::{lent, read_own};
+use crate::own::read_own;
 use crate::reading::read;
-use crate::there::{folder_above, top_above, words_there, work_place};
+use crate::there::{folder_above, here_in, top_above};
 use crate::told::Told;
 use crate::trusted::{find_trusted, read_outer};
 use core_settings::ConfigPlaces;
@@ -237,9 +237,7 @@ fn config_there<S: FileSystem + ConfigFiles>(
 ) -> Result<Vec<u8>, OpenFault<S::Fault>>
     ensures { Tells (S.is_known source.now) vec_items result (ConfigThere (S.tree source.now) (S.shows source.now) (said_of told.now) (found_with vec_items found.now) (settings_with vec_items own.now) (option_map vec_items top.now)) }
 {
-    let (words, current) = (words_there(told, top), told.current);
-    let place = work_place(current, top);
-    Ok(config_name(alloc, source, &words, &lent(own), found, current, place)?)
+    Ok(config_name(alloc, source, &here_in(told, found, own, top))?)
 }
 
 /// How it names there the file for this work tree alone.
@@ -253,9 +251,7 @@ fn worktree_config_there<S: FileSystem + ConfigFiles>(
 ) -> Result<Vec<u8>, OpenFault<S::Fault>>
     ensures { Tells (S.is_known source.now) vec_items result (WorktreeConfigThere (S.tree source.now) (S.shows source.now) (said_of told.now) (found_with vec_items found.now) (settings_with vec_items own.now) (option_map vec_items top.now)) }
 {
-    let (words, current) = (words_there(told, top), told.current);
-    let place = work_place(current, top);
-    Ok(worktree_config_name(alloc, source, &words, &lent(own), found, current, place)?)
+    Ok(worktree_config_name(alloc, source, &here_in(told, found, own, top))?)
 }
 
 /// A name, where it counts.

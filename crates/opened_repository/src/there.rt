@@ -3,19 +3,22 @@ ghost use Rattle.std.specs.Prelude.{◌≡◌, IfOk, map, option_map};
 ghost use Rattle.std.specs.Option.{option_copied};
 ghost use Rattle.std.specs.Vec.{vec_items};
 ghost use Rattle.core_settings.specs.Views.{source_with};
+ghost use Rattle.git_repository.specs.Answers.{found_with};
 ghost use Rattle.git_repository.specs.Environments.{environment_with};
-ghost use Rattle.git_repository.specs.Naming.{lies_below};
+ghost use Rattle.git_repository.specs.Folders.{settings_with};
+ghost use Rattle.git_repository.specs.Naming.{here_of, lies_below};
 ghost use Rattle.git_repository.specs.Search.{folder_of};
 ghost use Rattle.opened_repository.specs.Answers.{Tells, is};
-ghost use Rattle.opened_repository.specs.Opening.{first_relative, folder_checked, is_elsewhere, is_relative, outer_listed, relatives_checked, shown, stands_for, top_above, words_there, work_place};
+ghost use Rattle.opened_repository.specs.Opening.{first_relative, folder_checked, here_in, is_elsewhere, is_relative, outer_listed, relatives_checked, shown, stands_for, top_above, words_there, work_place};
 ghost use Rattle.opened_repository.specs.Results.{said_of};
 
 use crate::fault::{OpenFault, RepositoryFault};
 use crate::inside::told_from;
+use crate::own::lent;
 use crate::told::Told;
 use crate::trusted::outer_sources;
 use core_settings::ConfigSource;
-use git_repository::{Environment, FileSystem};
+use git_repository::{Environment, FileSystem, Found, Settings, Whereabouts};
 use std::alloc::{AllocError, Global};
 
 /// The top of the work tree, where the current folder lies below it: Git goes there.
@@ -86,6 +89,24 @@ pub(crate) fn words_there<'a>(told: &Told<'a>, top: &Option<Vec<u8>>) -> Environ
             work_tree: Some(told.current),
             ..told.environment
         },
+    }
+}
+
+/// From where the repository's files are named there.
+pub(crate) fn here_in<'a>(
+    told: &Told<'a>,
+    found: &'a Found<Vec<u8>>,
+    own: &'a Settings<Vec<u8>>,
+    top: &'a Option<Vec<u8>>,
+) -> Whereabouts<'a>
+    ensures { here_of result ≡ here_in (said_of told.now) (found_with vec_items found.now) (settings_with vec_items own.now) (option_map vec_items top.now) }
+{
+    Whereabouts {
+        words: words_there(told, top),
+        settings: lent(own),
+        found,
+        current: told.current,
+        top: work_place(told.current, top),
     }
 }
 

@@ -7,7 +7,7 @@ use git_config::{
 };
 use git_repository::{
     Environment, FileSystem, FindFault, Folders, Found, RepositoryFile, Safety, Settings,
-    check_format, exclude_name, file_path, find, folders_of, trusts, work_tree_of,
+    Whereabouts, check_format, exclude_name, file_path, find, folders_of, trusts, work_tree_of,
 };
 use row_texts::{Answer, Question, RowFault, text_of};
 use std::alloc::{AllocError, Global};
@@ -319,8 +319,14 @@ impl<'a> Row<'a> {
         let Some(top) = top else {
             return Ok(None);
         };
-        let (table, words) = (&self.table, &self.words);
-        match exclude_name(alloc, table, words, settings, found, self.current, top) {
+        let whereabouts = Whereabouts {
+            words: self.words,
+            settings: *settings,
+            found,
+            current: self.current,
+            top,
+        };
+        match exclude_name(alloc, &self.table, &whereabouts) {
             Ok(name) => Ok(Some(name)),
             Err(fault) => Err(fault),
         }
