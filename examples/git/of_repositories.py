@@ -30,9 +30,9 @@ SPELT = [b":x", b"::x", b":()x", b":", b":/", b":/x", b"://:x", b":(top)x", b":(
 UNSPELT = [b":!x", b":^x", b":-x", b":/~", b":(top", b":(x)x", b":(exclude)x", b":(glob)x", b":(icase,top)x", b":(literal)x", b":(attr:a)x", b":(Top)x"]
 # kinds of differences that the documents name: the first in "From Git" of docs/GLOBTREE.md
 MESSAGES, BARE, UNKNOWN, CRASH = "messages", "no work tree", "another's folder", "Git crashes"
-LOCK, FORMAT, CHECKSUM = "Git's lock file", "an unknown format", "a wrong checksum"
+LOCK, CHECKSUM, NOWHERE = "Git's lock file", "a wrong checksum", "a GIT_DIR that leads nowhere"
 NAMED = kinds_in("GLOBTREE.md")
-OF_CONFIG, OF_FILES, OF_STATUS = "`config`", "`files`", "`status`"
+OF_CONFIG, OF_STATUS = "`config`", "`status`"
 NO_OBJECT = re.compile(rb"fatal: (bad object HEAD|unable to read [0-9a-f]+)\n")
 # and that of docs/REPOSITORIES.md has: what isn't read, by the fault that names it
 UNREAD = {
@@ -44,8 +44,7 @@ UNKNOWN_FOLDER = re.compile(rb"fatal: failed to expand user dir in: '%\(prefix\)
 WARNINGS = re.compile(rb"(warning: [^\n]*\n(\t[^\n]*\n)*)+")
 BARE_WITH_WORK_TREE = b"warning: core.bare and core.worktree do not make sense\n"
 LOCK_FILE = re.compile(rb"[^\0\n]*index\.lock\"?[\0\n]")
-NO_EXCLUDES = re.compile(rb"^cannot use .* as an exclude file$")
-IGNORED_FOLDER = b"warning: ignoring git dir "
+NO_GIT_FOLDER = re.compile(rb"not a git repository: '(.*)'")
 RELATIVE_CONDITION = b"error: relative config include conditionals must come from files\n"
 NO_WORK_TREE = b"fatal: this operation must be run in a work tree\n"
 FILES_OF_GIT = ["ls-files", "-co", "--exclude-standard"]
@@ -205,10 +204,8 @@ class Comparison:
             return CHECKSUM
         if found.is_as(expected._replace(output=LOCK_FILE.sub(b"", expected.output))):
             return LOCK
-        if command == "files" and OF_FILES in NAMED and self.is_listed_otherwise(question, expected, found):
-            return OF_FILES
-        if command == "config" and IGNORED_FOLDER in expected.errors and is_answer(found):
-            return FORMAT
+        if self.leads_nowhere(question, found):
+            return NOWHERE
         if command == "config" and OF_CONFIG in NAMED and self.is_shown_otherwise(expected, found):
             return OF_CONFIG
         if command == "status" and OF_STATUS in NAMED and NO_OBJECT.search(expected.errors):
@@ -217,11 +214,10 @@ class Comparison:
             return MESSAGES
         return next((kind for kind, words in UNREAD.items() if words in fault(found)), None)
 
-    def is_listed_otherwise(self, question, expected, found):
-        """Whether `files` ends with a fault, where Git answers, as "From Git" says."""
-        counts = "--exclude-standard" in question.words or set(question.words) <= {"files", "-z"}
-        is_unread = not counts and NO_EXCLUDES.search(fault(found))
-        return is_answer(expected) and (is_unread or fault(found).startswith(b"the top "))
+    def leads_nowhere(self, question, found):
+        """Whether a fault tells of a path that is empty or leads nowhere."""
+        told = NO_GIT_FOLDER.fullmatch(fault(found))
+        return told and not (told[1] and os.path.isdir(os.path.join(self.room, question.folder, os.path.dirname(told[1]))))
 
     def is_shown_otherwise(self, expected, found):
         """Whether `config` answers otherwise as "From Git" says."""
