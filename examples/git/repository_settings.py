@@ -59,7 +59,7 @@ class Settings(Chances):
     def draw_system(self):
         """The system's file, and whether it is left out."""
         del self.variables[b"GIT_CONFIG_NOSYSTEM"]
-        kinds = {"a file": b"@/sys", "a file again": b"@/sys", "nowhere": b"@/nowhere", "with dots": b"@/x/.././sys"}
+        kinds = {"a file": b"@/sys", "a file again": b"@/sys", "nowhere": b"@/nowhere", "with dots": b"@/x/.././sys", "written over": b"./d/../../sys"}
         self.variables[b"GIT_CONFIG_SYSTEM"] = self.kind_of(kinds, "GIT_CONFIG_SYSTEM")
         if self.marked(0.4, "GIT_CONFIG_NOSYSTEM and GIT_CONFIG_SYSTEM"):
             self.variables[b"GIT_CONFIG_NOSYSTEM"] = self.one_of(b"true", b"YES", b"3", b"no", b"0", b"", b"off")
