@@ -202,7 +202,11 @@ class Comparison:
             return CRASH
         if fault(found).endswith(b": bad index file checksum"):
             return CHECKSUM
-        if found.is_as(expected._replace(output=LOCK_FILE.sub(b"", expected.output))):
+        is_warned = RELATIVE_CONDITION in expected.errors or expected.errors == BARE_WITH_WORK_TREE
+        quiet = expected._replace(errors=found.errors) if is_warned else expected
+        if found.is_as(quiet):
+            return MESSAGES
+        if found.is_as(quiet._replace(output=LOCK_FILE.sub(b"", expected.output))):
             return LOCK
         if self.leads_nowhere(question, found):
             return NOWHERE
@@ -210,8 +214,6 @@ class Comparison:
             return OF_CONFIG
         if command == "status" and OF_STATUS in NAMED and NO_OBJECT.search(expected.errors):
             return OF_STATUS
-        if (RELATIVE_CONDITION in expected.errors or expected.errors == BARE_WITH_WORK_TREE) and found.is_as(expected._replace(errors=found.errors)):
-            return MESSAGES
         return next((kind for kind, words in UNREAD.items() if words in fault(found)), None)
 
     def leads_nowhere(self, question, found):
