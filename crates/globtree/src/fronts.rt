@@ -117,11 +117,7 @@ pub(crate) fn fronts_on<R: Files + Eprint>(
         git_folder,
         ..
     } = tree;
-    let lists = if counts {
-        lists_of(rt, alloc, named, file, own_excludes)?
-    } else {
-        both(alloc, List::empty(alloc), List::empty(alloc))?
-    };
+    let lists = lists_of(rt, alloc, counts, named, file, own_excludes)?;
     Ok(Fronts {
         standpoint,
         lists,
@@ -147,10 +143,11 @@ fn excludes_by_option<R: Files>(
     }
 }
 
-/// The lists of the files of excludes that count before those of all folders.
+/// The lists of the files of excludes that count before those of all folders. Where none counts, both are empty, and no file is read.
 fn lists_of<R: Files + Eprint>(
     rt: &R,
     alloc: Global,
+    counts: bool,
     named: Option<List<IgnoreLines>>,
     file: Option<Vec<u8>>,
     own: String,
@@ -158,6 +155,9 @@ fn lists_of<R: Files + Eprint>(
     requires { IfSome named (λ list. IsOfSomeFile (entry_list_of (λ _. tt) list)) }
     ensures { IfOk result (λ lists. AreFronts (length lists.items) (map (entry_list_of (λ _. tt)) lists.items)) }
 {
+    if !counts {
+        return Ok(both(alloc, List::empty(alloc), List::empty(alloc))?);
+    }
     let outer = outer_excludes(rt, alloc, named, file)?;
     let own = excludes(rt, alloc, own)?;
     Ok(both(alloc, outer, own)?)
