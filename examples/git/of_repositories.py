@@ -42,7 +42,6 @@ UNREAD = {
 }
 UNKNOWN_FOLDER = re.compile(rb"fatal: failed to expand user dir in: '%\(prefix\)/[^\n]*\n")
 WARNINGS = re.compile(rb"(warning: [^\n]*\n(\t[^\n]*\n)*)+")
-BARE_WITH_WORK_TREE = b"warning: core.bare and core.worktree do not make sense\n"
 LOCK_FILE = re.compile(rb"[^\0\n]*index\.lock\"?[\0\n]")
 NO_GIT_FOLDER = re.compile(rb"not a git repository: '(.*)'")
 RELATIVE_CONDITION = b"error: relative config include conditionals must come from files\n"
@@ -202,7 +201,7 @@ class Comparison:
             return CRASH
         if fault(found).endswith(b": bad index file checksum"):
             return CHECKSUM
-        is_warned = RELATIVE_CONDITION in expected.errors or expected.errors == BARE_WITH_WORK_TREE
+        is_warned = RELATIVE_CONDITION in expected.errors or WARNINGS.fullmatch(expected.errors)
         quiet = expected._replace(errors=found.errors) if is_warned else expected
         if found.is_as(quiet):
             return MESSAGES
