@@ -24,7 +24,7 @@ impl Topic {
     {
         match self {
             Topic::Program => texts::program::HELP,
-            Topic::Version => "globline 0.1.0\n",
+            Topic::Version => "globline 0.2.0\n",
             Topic::Command(CommandName::Wild) => texts::wild::HELP,
             Topic::Command(CommandName::List) => texts::list::HELP,
             Topic::Command(CommandName::Ignore) => texts::ignore::HELP,

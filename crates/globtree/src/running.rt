@@ -24,7 +24,7 @@ use tree_words::{Command, Options, asked_by, help_of};
 /// What the program ends with after a fault.
 const FAULT: u8 = 128;
 
-const VERSION: &str = "globtree 0.1.0\n";
+const VERSION: &str = "globtree 0.2.0\n";
 
 /// Does what the words ask for, and answers the status to end with: 0 or 1 where all was answered, 128 after a fault, 129 where the
 /// words don't fit together, 255 where a name is none that an attribute can have. In the last two cases nothing is read or written.
