@@ -4,7 +4,8 @@ use Rattle.std.specs.List.{ends_with, starts_with, suffix_len}
 use Rattle.std.specs.Option.{unwrap_or}
 use Rattle.std.specs.Str.{bytes_eq}
 use Rattle.std.specs.Vec.{vec_items}
-use Rattle.glob_matcher.specs.Matching.{Splits}
+use Rattle.glob_matcher.specs.declared.wildmatch.way.Way.TheVariants.{ExactPath, Path}
+use Rattle.glob_matcher.specs.Matching.{SplitsBy}
 use Rattle.git_config.specs.declared.path.ConfigPath.TheVariants.{Home, Installed, Plain, User}
 use Rattle.git_config.specs.declared.setting.WrongSetting.{WrongSetting}
 use Rattle.git_config.specs.declared.setting.WrongSetting.TheVariants.{NoFolder, NoPath, Relative}
@@ -61,7 +62,7 @@ abbrev pub HasFront : Bool → List ℕ → List ℕ → Type 0
 HasFront fold front path = IsTrue (if fold then same_letters (take (length front) path) front else bytes_eq (take (length front) path) front)
 
 abbrev pub MatchesFolder : Bool → List ℕ × List ℕ → List ℕ → Type 0
-MatchesFolder fold split path = HasFront fold split.0 path × Splits (drop (length split.0) path) split.1 (record { 0 = if fold then 3 else 1 })
+MatchesFolder fold split path = HasFront fold split.0 path × SplitsBy (drop (length split.0) path) split.1 (if fold then ExactPath else Path)
 
 -- A path of the git folder matches. The first, which has no links, has to begin so in any case.
 abbrev pub InFolder : Surroundings → Option (List ℕ) → Bool → List ℕ → Type 0
@@ -70,13 +71,13 @@ InFolder around real fold told = IsSomeAnd (folder_pattern around real told) (λ
 
 -- a URL of a remote; each, where they aren't known yet
 abbrev pub HasUrl : Surroundings → List ℕ → Type 0
-HasUrl around told = MatchOption around.urls (Unit {0}) (λ urls. Any (λ url. Splits url.items told (record { 0 = 1 })) urls.items)
+HasUrl around told = MatchOption around.urls (Unit {0}) (λ urls. Any (λ url. SplitsBy url.items told Path) urls.items)
 
 abbrev pub Holds : Surroundings → Option (List ℕ) → List ℕ → Type 0
 Holds around real condition =
     (told : List ℕ) × (((condition ≡ codes "gitdir:" ++ told) × InFolder around real false told)
     ⊎ (((condition ≡ codes "gitdir/i:" ++ told) × InFolder around real true told)
-    ⊎ (((condition ≡ codes "onbranch:" ++ told) × IsSomeAnd around.branch (λ name. Splits name.items (below told) (record { 0 = 1 })))
+    ⊎ (((condition ≡ codes "onbranch:" ++ told) × IsSomeAnd around.branch (λ name. SplitsBy name.items (below told) Path))
     ⊎ ((condition ≡ codes "hasconfig:remote.*.url:" ++ told) × HasUrl around told))))
 
 -- the key of an entry that includes a file

@@ -1,16 +1,19 @@
 //! The conditions of includes: where the git folder is, which branch is checked out, and which URLs remotes have.
 ghost use Rattle.std.specs.Prelude.{◌≡◌, ◌↔◌, ◌++◌, Any, IfOk, IsSomeAnd, IsTrue, List, Some, ℕ, if◌then◌else◌, option_map, MatchOption, slice_get, drop, codes};
 ghost use Rattle.std.specs.Option.{option_copied};
-ghost use Rattle.glob_matcher.specs.Matching.{Splits};
+ghost use Rattle.glob_matcher.specs.declared.wildmatch.way.Way.TheVariants.{ExactPath, Path};
+ghost use Rattle.glob_matcher.specs.Matching.{SplitsBy};
+ghost use Rattle.glob_matcher.specs.Steps.{IsBlankOf};
 ghost use Rattle.git_config.specs.Includes.{HasFront, HasUrl, Holds, InFolder, MatchesFolder, below, folder_pattern};
 ghost use Rattle.git_config.specs.Private.Places.{pattern_of, rooted};
 ghost use Rattle.git_config.specs.Private.Scopes.{OnBranch};
 
 use crate::booleans::same_letters;
 use crate::surroundings::{Surroundings, expanded, folder_of, is_absolute, joined, slice_of};
-use bitflags::Flags;
-use glob_matcher::wildmatch::{Mode, wildmatch};
+use glob_matcher::wildmatch::{Counts, Way, marked};
 use std::alloc::{AllocError, Global};
+use std::marker::Brand;
+use std::sync::ledger::{Blank, Ledger};
 
 /// Whether a condition holds. `real` is the real path of the file that has it.
 pub(crate) fn holds(
@@ -55,10 +58,10 @@ fn has_url(around: &Surroundings, told: &[u8]) -> bool
 
 /// Whether one of the URLs matches a pattern.
 fn is_among(urls: &[Vec<u8>], told: &[u8]) -> bool
-    ensures { IsTrue result ↔ Any (λ url. Splits url.items told.now (record { 0 = 1 })) urls.now }
+    ensures { IsTrue result ↔ Any (λ url. SplitsBy url.items told.now Path) urls.now }
 {
     for url in urls {
-        if wildmatch(told, url, path_mode(false)) {
+        if matches(told, url, Way::Path) {
             return true;
         }
     }
@@ -73,7 +76,7 @@ fn on_branch(alloc: Global, around: &Surroundings, told: &[u8]) -> Result<bool, 
         return Ok(false);
     };
     let pattern = below(alloc, told)?;
-    Ok(wildmatch(&pattern, name, path_mode(false)))
+    Ok(matches(&pattern, name, Way::Path))
 }
 
 /// Whether a path of the git folder matches a pattern.
@@ -196,7 +199,7 @@ fn matches_folder(split: &FolderPattern, path: &[u8], fold: bool) -> bool
 {
     let cut = split.front.len().min(path.len());
     let (_, rest) = path.split_at(cut);
-    has_front(path, &split.front, fold) && wildmatch(&split.pattern, rest, path_mode(fold))
+    has_front(path, &split.front, fold) && matches(&split.pattern, rest, folder_way(fold))
 }
 
 /// Whether a path begins with a front; where `fold`, the case of letters doesn't count.
@@ -211,13 +214,30 @@ fn has_front(path: &[u8], front: &[u8], fold: bool) -> bool
     }
 }
 
-/// The mode of patterns of paths.
-fn path_mode(fold: bool) -> Mode
-    ensures { result ≡ record { 0 = if fold then 3 else 1 } }
+/// The way in which the pattern of a folder is matched; where `fold`, case is folded as Git folds it.
+fn folder_way(fold: bool) -> Way
+    ensures { result ≡ (if fold then ExactPath else Path) }
 {
-    if fold {
-        Mode::NO_MATCH_SLASH_LITERAL.union(Mode::IGNORE_CASE)
-    } else {
-        Mode::NO_MATCH_SLASH_LITERAL
-    }
+    if fold { Way::ExactPath } else { Way::Path }
+}
+
+/// Whether a pattern matches the whole of a value.
+fn matches(pattern: &[u8], value: &[u8], way: Way) -> bool
+    ensures { IsTrue result ↔ SplitsBy value.now pattern.now way }
+{
+    matches_with_new_counts::<Brand, Brand>(pattern, value, way, (Blank::new(1), Blank::new(1)))
+}
+
+/// Whether a pattern matches, with new counts that no one asks for.
+fn matches_with_new_counts<S: Ledger, L: Ledger>(
+    pattern: &[u8],
+    value: &[u8],
+    way: Way,
+    blanks: (Blank, Blank),
+) -> bool
+    requires steps { IsBlankOf S.name S.parts blanks.0 }
+    requires looks { IsBlankOf L.name L.parts blanks.1 }
+    ensures { IsTrue result ↔ SplitsBy value.now pattern.now way }
+{
+    marked(pattern, value, way, &mut Counts::<S, L>::new(blanks.0, blanks.1))
 }
