@@ -239,5 +239,10 @@ fn matches_with_new_counts<S: Ledger, L: Ledger>(
     requires looks { IsBlankOf L.name L.parts blanks.1 }
     ensures { IsTrue result ↔ SplitsBy value.now pattern.now way }
 {
-    marked(pattern, value, way, &mut Counts::<S, L>::new(blanks.0, blanks.1))
+    marked(
+        pattern,
+        value,
+        way,
+        &mut Counts::<S, L>::new(blanks.0, blanks.1),
+    )
 }
