@@ -9,11 +9,11 @@ ghost use Rattle.globtree.specs.Answers.{AnswersAttr, case_by};
 ghost use Rattle.globtree.specs.Running.{IsAnswered, IsRefused, form_by};
 
 use crate::check_ignore::bytes_of;
+use crate::fault::Result;
 use crate::fronts::case_of;
 use crate::outcomes::{ANSWERED, answer_of};
 use crate::outer_attributes::{OuterAttributes, outer_attributes};
 use crate::wrong_words::tell_misuse;
-use anyhow::{Context, Result};
 use gix_glob::search::Watched;
 use glob_attributes::is_name;
 use std::alloc::Global;
@@ -47,7 +47,7 @@ pub(crate) fn check_attr<R: Files + Env + Eprint + AllocGlobal, I: Read, O: Writ
     ensures unread { IfOk result (λ status. IsRefused status → input.new ≡ input.old) }
     ensures unwritten { IfOk result (λ status. IsRefused status → output.new ≡ output.old) }
 {
-    let operands = operands_of(alloc, words).context("the words")?;
+    let operands = operands_of(alloc, words)?;
     let count = match flags.names_first(operands.words.len(), operands.before) {
         Ok(count) => count,
         Err(misuse) => return Ok(tell_misuse(rt, CommandName::CheckAttr, misuse.message())),

@@ -5,11 +5,11 @@ ghost use Rattle.gix_glob.specs.Watched.{has_failed, inner};
 ghost use Rattle.globtree.specs.Answers.{AnswersIgnore};
 ghost use Rattle.globtree.specs.Running.{IsAnswered, asked_by_flags};
 
+use crate::fault::{Fault, Result};
 use crate::fronts::{Fronts, case_of, fronts_of, tree_behind};
 use crate::index_use::IndexUse;
 use crate::outcomes::{answer_of, status_by};
 use crate::pathspec_settings::{refuse_settings, refuse_settings_for};
-use anyhow::{Context, Result, bail};
 use gix_glob::search::Watched;
 use std::alloc::{AllocError, Global};
 use std::io::{Read, Write};
@@ -39,9 +39,9 @@ pub(crate) fn check_ignore<R: Files + Env + Eprint + AllocGlobal, I: Read, O: Wr
     ensures status { IfOk result IsAnswered }
     ensures answered { IfOk result (λ status. AnswersIgnore options.entry flags (map string_bytes words.now) status (I.remaining (inner input.old)) (I.remaining (inner input.new)) (O.contents (inner output.old)) (O.contents (inner output.new))) }
 {
-    let paths = operands_of(alloc, words).context("the paths")?.words;
+    let paths = operands_of(alloc, words)?.words;
     if let Some(message) = flags.disagreement(paths.len()) {
-        bail!("{message}");
+        return Err(Fault::Message(message));
     }
     let fronts = fronts_of(rt, alloc, options, index_by(flags))?;
     let Fronts {

@@ -3,7 +3,7 @@ ghost use Rattle.std.specs.Prelude.{IfOk};
 ghost use Rattle.gix_glob.specs.EntryLists.{entry_list_of};
 ghost use Rattle.globtree.specs.Answers.{IsOfSomeFile};
 
-use anyhow::{Context, Result, bail};
+use crate::fault::{Fault, Result};
 use gix_glob::search::pattern::List;
 use glob_lines::IgnoreLines;
 use std::alloc::Global;
@@ -21,9 +21,11 @@ pub(crate) fn named_excludes<R: Files>(
 {
     let mut bytes = Vec::new(alloc);
     let source = String::from_str(alloc, name)?;
-    named_list(rt, alloc, source, &mut bytes, BY_GIT)
-        .context(format_args!("'{name}'"))?
-        .context(format_args!("'{name}' is no file"))
+    match named_list(rt, alloc, source, &mut bytes, BY_GIT) {
+        Ok(Some(list)) => Ok(list),
+        Ok(None) => Err(Fault::told(alloc, format_args!("'{name}' is no file"))),
+        Err(fault) => Err(Fault::told(alloc, format_args!("'{name}': {fault}"))),
+    }
 }
 
 /// The list of a file of excludes, which may be missing. A folder there is a fault, as it is to Git.
@@ -35,7 +37,7 @@ pub(crate) fn excludes<R: Files + Eprint>(
     ensures { IfOk result (λ list. IsOfSomeFile (entry_list_of (λ _. tt) list)) }
 {
     if fs::metadata(rt, file.as_str()).is_ok_and(|found| found.is_dir()) {
-        bail!("cannot use {file} as an exclude file");
+        return Err(Fault::told(alloc, format_args!("cannot use {file} as an exclude file")));
     }
     let mut bytes = Vec::new(alloc);
     Ok(file_list(rt, alloc, file, &mut bytes, BY_GIT)?)

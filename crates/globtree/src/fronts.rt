@@ -6,11 +6,11 @@ ghost use Rattle.globtree.specs.Answers.{AreFronts, IsOfSomeFile, case_by};
 ghost use Rattle.globtree.specs.Tracked.{IsOfIndex};
 
 use crate::excludes::{excludes, named_excludes};
+use crate::fault::Result;
 use crate::index_use::{IndexUse, Taken, take_from_index};
 use crate::moving::go_to_folders;
 use crate::opening::Purpose;
 use crate::work_tree::{WorkTree, work_tree};
-use anyhow::{Context, Result};
 use git_index::Index;
 use gix_glob::pattern::Case;
 use gix_glob::search::pattern::List;
@@ -20,7 +20,7 @@ use glob_trees::Tree;
 use std::alloc::{AllocError, Global};
 use std::rt::{Env, Files};
 use told_paths::{Quoting, Standpoint};
-use tree_files::{FolderFiles, IndexedFiles, path_text};
+use tree_files::{CheckFault, FolderFiles, IndexedFiles, path_text};
 use tree_words::Options;
 
 /// About how many bytes are kept of folders and their patterns.
@@ -209,9 +209,9 @@ pub(crate) fn tree_behind<'a, R: Files + Eprint>(
     ensures before { IfOk result (λ tree. tree.lists ≡ lists.items) }
 {
     let source = FolderFiles::new(rt, alloc, indexed);
-    let mut tree = Tree::new(alloc, source, lists, Rules::by_git(case)).context(
-        "the bases of lists",
-    )?;
+    let Some(mut tree) = Tree::new(alloc, source, lists, Rules::by_git(case)) else {
+        return Err(CheckFault::Base.into());
+    };
     tree.keep_at_most(MOST_BYTES);
     Ok(tree)
 }

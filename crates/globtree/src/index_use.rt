@@ -5,8 +5,8 @@ ghost use Rattle.git_index.specs.Entries.{tracked};
 ghost use Rattle.tree_files.specs.Indexed.{is_indexed};
 ghost use Rattle.globtree.specs.Tracked.{GivesFolder, IsFileIn, IsGiven, IsOfIndex};
 
+use crate::fault::Result;
 use crate::tracked::IndexFile;
-use anyhow::Result;
 use git_index::{Entry, Index};
 use std::alloc::{AllocError, Global};
 use std::rt::Files;

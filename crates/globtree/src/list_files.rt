@@ -9,13 +9,13 @@ ghost use Rattle.tree_words.specs.Files.{are_usual, lists_tracked};
 ghost use Rattle.globtree.specs.Running.{IsAnswered, chosen_by, folders_by, form_by};
 ghost use Rattle.globtree.specs.Tracked.{IsOfIndex};
 
+use crate::fault::{Fault, Result};
 use crate::fronts::{Fronts, case_of, fronts_on, ground_of, tree_behind};
 use crate::index_use::IndexUse;
 use crate::list_tracked::{list_index, list_tracked, list_tracked_ignored};
 use crate::listing::{copies_of, run_listing};
 use crate::opening::Purpose;
 use crate::outcomes::ANSWERED;
-use anyhow::{Result, bail};
 use gix_glob::search::Watched;
 use std::alloc::{AllocError, Global};
 use std::io::Write;
@@ -42,7 +42,7 @@ pub(crate) fn list_files<R: Files + Env + Clock + Eprint + AllocGlobal + Clone +
     ensures answered { IfOk result (λ _. AnswersFiles options.entry flags folder.now (O.contents (inner output.old)) (O.contents (inner output.new))) }
 {
     if let Some(message) = flags.disagreement() {
-        bail!("{message}");
+        return Err(Fault::Message(message));
     }
     if lists_index(flags) && options.top.is_none() {
         list_index(rt, alloc, options, flags.nul, folder, output)?;
@@ -195,7 +195,7 @@ fn list_tracked_by<R: Files + Env + Eprint + AllocGlobal, O: Write>(
         return Ok(());
     }
     if output.failed() {
-        bail!("writing");
+        return Err(Fault::Message("writing"));
     }
     let form = Form::ended_by(flags.nul, fronts.quoting);
     let case = case_of(options, fronts.folds);

@@ -6,10 +6,10 @@ ghost use Rattle.gix_glob.specs.Watched.{has_failed, inner};
 ghost use Rattle.tree_commands.specs.TrackedFiles.{paths_asked};
 ghost use Rattle.globtree.specs.Answers.{AreFronts, ListsIgnored, ListsIndex, ListsTracked};
 
+use crate::fault::{Fault, Result};
 use crate::moving::go_to_folders;
 use crate::outcomes::answer_of;
 use crate::work_tree::index_place;
-use anyhow::{Result, bail};
 use git_index::Index;
 use gix_glob::search::Watched;
 use glob_lines::IgnoreLines;
@@ -52,7 +52,7 @@ pub(crate) fn list_index<R: Files + Env + AllocGlobal, O: Write>(
     ensures { OnOk result (ListsIndex nul folder.now (O.contents (inner output.old)) (O.contents (inner output.new))) }
 {
     if output.failed() {
-        bail!("writing");
+        return Err(Fault::Message("writing"));
     }
     go_to_folders(rt, alloc, options)?;
     let place = index_place(rt, alloc, options)?;

@@ -5,9 +5,9 @@ ghost use Rattle.gix_glob.specs.Watched.{inner};
 ghost use Rattle.globtree.specs.Answers.{ListsFound};
 ghost use Rattle.globtree.specs.Running.{IsAnswered};
 
+use crate::fault::{Fault, Result};
 use crate::fronts::Fronts;
 use crate::outcomes::ANSWERED;
-use anyhow::{Context, Result};
 use gix_glob::search::Watched;
 use glob_lines::IgnoreLines;
 use glob_lists::PreparedList;
@@ -42,8 +42,8 @@ pub(crate) fn run_listing<R: Files + Env + Clock + Eprint + AllocGlobal + Clone 
     match run_files(alloc, listing, &fronts.tracked, &mut source, told, output) {
         Ok(()) if source.end() => Ok(NOT_ALL_LISTED),
         Ok(()) => Ok(ANSWERED),
-        Err(FilesFault::Write(error)) => Err(error).context("writing"),
-        Err(FilesFault::Endless) => None.context("a tree without an end"),
+        Err(FilesFault::Write(error)) => Err(Fault::Write(error)),
+        Err(FilesFault::Endless) => Err(Fault::Message("a tree without an end")),
         Err(FilesFault::Source(fault)) => Err(fault.into()),
         Err(FilesFault::Outside) => Err(CheckFault::of_lead(
             alloc,

@@ -1,6 +1,6 @@
 //! Going to the folders that the words name, and to the top of the work tree.
 
-use anyhow::{Context, Result};
+use crate::fault::{Fault, Result};
 use std::alloc::Global;
 use std::env;
 use std::rt::{Env, Files};
@@ -14,7 +14,9 @@ pub(crate) fn go_to_folders<R: Files + Env>(
 ) -> Result<()> {
     for folder in &values_of(alloc, options.words, "-C")? {
         if !folder.is_empty() {
-            env::set_current_dir(rt, *folder).context(format_args!("cannot change to '{folder}'"))?;
+            env::set_current_dir(rt, *folder).map_err(|error| {
+                Fault::told(alloc, format_args!("cannot change to '{folder}': {error}"))
+            })?;
         }
     }
     Ok(())
@@ -26,13 +28,19 @@ pub(crate) fn go_to_top<R: Files + Env + AllocGlobal>(
     alloc: Global,
     top: &str,
 ) -> Result<Vec<u8>> {
-    env::set_current_dir(rt, top).context(format_args!("the top {top}"))?;
+    env::set_current_dir(rt, top).map_err(|error| Fault::told(
+        alloc,
+        format_args!("the top {top}: {error}"),
+    ))?;
     current_folder(rt, alloc)
 }
 
 /// The path of the current folder from the root, without links and without the slash at its front.
 pub(crate) fn current_folder<R: Env + AllocGlobal>(rt: &R, alloc: Global) -> Result<Vec<u8>> {
-    let folder = env::current_dir(rt).context("the current folder")?;
+    let folder = env::current_dir(rt).map_err(|error| Fault::told(
+        alloc,
+        format_args!("the current folder: {error}"),
+    ))?;
     let path = folder.as_str().as_bytes();
     let left = path.strip_prefix(b"/").unwrap_or(path);
     Ok(Vec::from_slice(alloc, left)?)

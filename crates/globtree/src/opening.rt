@@ -1,5 +1,5 @@
 //! Opening the repository of the current folder, as Git does.
-ghost use Rattle.std.specs.Prelude.{◌≡◌, IfOk, IsErr, MatchResult, Ok, false, option_map};
+ghost use Rattle.std.specs.Prelude.{◌≡◌, IfOk, false, option_map};
 ghost use Rattle.std.specs.Option.{option_copied, option_or};
 ghost use Rattle.std.specs.Vec.{vec_items};
 ghost use Rattle.git_repository.specs.Environments.{environment_with};
@@ -7,16 +7,14 @@ ghost use Rattle.repository_files.specs.Variables.{environment_of};
 ghost use Rattle.globtree.specs.Places.{denies, denies_work_tree, with_options};
 
 use crate::check_ignore::bytes_of;
+use crate::fault::{Fault, Result};
 use crate::moving::current_folder;
 use crate::places::from_root;
-use anyhow::{Context, Result, bail};
 use core_settings::Pair;
 use git_config::{Config, Surroundings, boolean};
 use git_repository::Environment;
-use opened_repository::{ConfigPlace, OpenFault, Opened, Told, config_place, open, read_config};
-use repository_files::{
-    ConfigFileFault, ConfigurationVariables, DiskFiles, RepositoryVariables, User,
-};
+use opened_repository::{ConfigPlace, Opened, Told, config_place, open, read_config};
+use repository_files::{ConfigurationVariables, DiskFiles, RepositoryVariables, User};
 use std::alloc::Global;
 use std::env;
 use std::rt::{Env, Files};
@@ -62,7 +60,7 @@ impl Asked {
     {
         let environment = with_options(self.variables.environment(), options);
         if denies_work_tree(&environment, self.variables.implicit_work_tree.as_deref()) {
-            bail!("the variable GIT_IMPLICIT_WORK_TREE isn't read");
+            return Err(Fault::Message("the variable GIT_IMPLICIT_WORK_TREE isn't read"));
         }
         Ok(environment)
     }
@@ -116,7 +114,7 @@ pub(crate) fn open_here<R: Files + Env>(
     let asked = Asked::read(rt, alloc, &files)?;
     let entries = asked.entries(alloc, options)?;
     let told = asked.told(options, current, &entries, purpose)?;
-    with_fault_told(open(alloc, &files, &told))
+    Ok(open(alloc, &files, &told)?)
 }
 
 /// Reads the configuration that counts in the current folder. Where this lies below the top of the work tree, it goes there first, as
@@ -131,28 +129,20 @@ pub(crate) fn config_here<R: Files + Env + AllocGlobal>(
     let asked = Asked::read(rt, alloc, &files)?;
     let entries = asked.entries(alloc, options)?;
     let told = asked.told(options, &current, &entries, Purpose::Index)?;
-    let place = with_fault_told(config_place(alloc, &files, &told))?;
+    let place = config_place(alloc, &files, &told)?;
     go_to_place(rt, alloc, &place)?;
-    with_fault_told(read_config(alloc, &files, &told, &place))
+    Ok(read_config(alloc, &files, &told, &place)?)
 }
 
 /// Goes to the folder that the files of a configuration are told from.
 fn go_to_place<R: Files + Env>(rt: &R, alloc: Global, place: &ConfigPlace) -> Result<()> {
     if let Some(top) = &place.top {
         let top = path_text(alloc, top)?;
-        env::set_current_dir(rt, top.as_str()).context("the top of the work tree")?;
+        env::set_current_dir(rt, top.as_str()).map_err(|error| {
+            Fault::told(alloc, format_args!("the top of the work tree: {error}"))
+        })?;
     }
     Ok(())
-}
-
-/// What an opening answers, with its fault as it is told.
-fn with_fault_told<T: Drop>(answer: std::result::Result<T, OpenFault<ConfigFileFault>>) -> Result<T>
-    ensures { MatchResult result (λ found. answer ≡ Ok found) (λ _. IsErr answer) }
-{
-    match answer {
-        Ok(found) => Ok(found),
-        Err(fault) => bail!("{fault}"),
-    }
 }
 
 /// Whether a git folder is told and no work tree, and this value of `GIT_IMPLICIT_WORK_TREE` isn't true.

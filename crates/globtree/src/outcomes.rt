@@ -1,9 +1,9 @@
 //! What a command ends with, and what a run over paths comes to.
 ghost use Rattle.std.specs.Prelude.{◌≡◌, IsErr, MatchResult, Ok, if◌then◌else◌};
 
-use anyhow::Result;
+use crate::fault::{Fault, Result};
 use record_streams::RecordFault;
-use std::fmt::{Debug, Display};
+use std::alloc::AllocError;
 use tree_files::CheckFault;
 
 /// What the program ends with.
@@ -19,7 +19,7 @@ pub(crate) fn status_by(has_answer: bool) -> u8
 }
 
 /// What a run over paths answers. The fault of a path is told by these words.
-pub(crate) fn answer_of<T, F: Debug + Display + Drop, W: FnOnce(F) -> CheckFault>(
+pub(crate) fn answer_of<T, F: Drop, W: FnOnce(F) -> CheckFault>(
     outcome: std::result::Result<T, RecordFault<F>>,
     words: W,
 ) -> Result<T>
@@ -28,7 +28,10 @@ pub(crate) fn answer_of<T, F: Debug + Display + Drop, W: FnOnce(F) -> CheckFault
 {
     match outcome {
         Ok(answer) => Ok(answer),
-        Err(RecordFault::Answer(fault)) => Err(words(fault).into()),
-        Err(fault) => Err(fault.into()),
+        Err(RecordFault::Answer(fault)) => Err(Fault::Check(words(fault))),
+        Err(RecordFault::Memory) => Err(AllocError.into()),
+        Err(RecordFault::Read(error)) => Err(Fault::Read(error)),
+        Err(RecordFault::Write(error)) => Err(Fault::Write(error)),
+        Err(RecordFault::Endless) => Err(Fault::Message("records without an end")),
     }
 }

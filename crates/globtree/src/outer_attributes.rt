@@ -1,11 +1,11 @@
 //! The attribute files that don't depend on a path: the system's, the user's, the top's and the repository's own.
 ghost use Rattle.std.specs.Prelude.{◌≡◌, [], IfOk, None};
 
+use crate::fault::Result;
 use crate::index_use::{IndexUse, Taken, take_from_index};
 use crate::moving::go_to_folders;
 use crate::opening::Purpose;
 use crate::work_tree::{WorkTree, work_tree};
-use anyhow::Result;
 use std::alloc::Global;
 use std::rt::{Env, Files};
 use told_paths::{Quoting, Standpoint};

@@ -3,7 +3,7 @@ ghost use Rattle.std.specs.Prelude.{◌≡◌, [], IfOk, IsTrue, OnOk, false};
 ghost use Rattle.std.specs.Io.KnownBytes.{Consumes};
 ghost use Rattle.gix_glob.specs.Watched.{has_failed, inner};
 
-use anyhow::{Result, bail};
+use crate::fault::{Fault, Result};
 use gix_glob::search::Watched;
 use repository_files::is_true;
 use std::alloc::Global;
@@ -23,7 +23,10 @@ const NAMES: [&str; 4] = [
 pub(crate) fn refuse_settings<R: Env>(rt: &R, alloc: Global) -> Result<()> {
     'names: for name in NAMES {
         if is_true(rt, alloc, name)? {
-            bail!("{name} is true: check-ignore takes no such setting");
+            return Err(Fault::told(
+                alloc,
+                format_args!("{name} is true: check-ignore takes no such setting"),
+            ));
         }
     }
     Ok(())
@@ -42,7 +45,7 @@ pub(crate) fn refuse_settings_for<R: Env, I: Read>(
     let Err(refusal) = refuse_settings(rt, alloc) else {
         return Ok(());
     };
-    if is_at_end(input)? {
+    if is_at_end(input).map_err(Fault::Read)? {
         return Ok(());
     }
     Err(refusal)

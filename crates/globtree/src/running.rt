@@ -8,12 +8,12 @@ ghost use Rattle.globtree.specs.Running.{IsAnswered, IsRefused, IsStatus};
 
 use crate::check_attr::check_attr;
 use crate::check_ignore::check_ignore;
+use crate::fault::{Fault, Result};
 use crate::list_files::list_files;
 use crate::outcomes::ANSWERED;
 use crate::show_config::show_config;
 use crate::show_status::show_status;
 use crate::wrong_words::{tell_no_text, tell_word_fault};
-use anyhow::{Context, Result};
 use gix_glob::search::Watched;
 use std::alloc::Global;
 use std::io::{ErrorKind, Read, Write};
@@ -105,10 +105,10 @@ pub(crate) fn without_words<R: Eprint>(rt: &R, refused: ErrorKind) -> u8
 }
 
 /// Tells a fault.
-fn tell_fault<R: Eprint>(rt: &R, alloc: Global, fault: anyhow::Error) -> u8
+fn tell_fault<R: Eprint>(rt: &R, alloc: Global, fault: Fault) -> u8
     ensures { result ≡ 128 }
 {
-    match tell_line(rt, alloc, format_args!("fatal: {fault:#}")) {
+    match tell_line(rt, alloc, format_args!("fatal: {fault}")) {
         Ok(()) => FAULT,
         Err(_refused) => tell_want_of_memory(rt),
     }
@@ -127,7 +127,7 @@ fn write_text<O: Write>(output: &mut Watched<O>, text: &str) -> Result<u8>
     ensures answered { IfOk result IsAnswered }
     ensures written { OnOk result (Appends (O.contents (inner output.old)) (O.contents (inner output.new)) text.now) }
 {
-    output.write_all(text.as_bytes()).context("writing")?;
-    output.flush().context("writing")?;
+    output.write_all(text.as_bytes()).map_err(Fault::Write)?;
+    output.flush().map_err(Fault::Write)?;
     Ok(ANSWERED)
 }

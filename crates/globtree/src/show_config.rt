@@ -8,11 +8,11 @@ ghost use Rattle.config_answers.specs.Answers.{answer_of, asked_of, has_answer};
 ghost use Rattle.globtree.specs.Answers.{AnswersConfig, KeyIsShown, asked_by_key};
 ghost use Rattle.globtree.specs.Running.{IsAnswered, IsRefused, manner_by};
 
+use crate::fault::{Fault, Result};
 use crate::moving::go_to_folders;
 use crate::opening::config_here;
 use crate::outcomes::status_by;
 use crate::wrong_words::tell_misuse;
-use anyhow::{Context, Result, bail};
 use config_answers::{Manner, Question, append_answer, key_fault};
 use git_config::{Config, canonical_key};
 use gix_glob::search::Watched;
@@ -36,12 +36,12 @@ pub(crate) fn show_config<R: Files + Env + Eprint + AllocGlobal, O: Write>(
     ensures answered { IfOk result (λ status. IsAnswered status → AnswersConfig flags (map string_bytes words.now) status (O.contents (inner output.old)) (O.contents (inner output.new))) }
     ensures unwritten { IfOk result (λ status. IsRefused status → output.new ≡ output.old) }
 {
-    let operands = operands_of(alloc, words).context("the words")?;
+    let operands = operands_of(alloc, words)?;
     if let Some(wrong) = flags.disagreement(operands.words.len()) {
         return Ok(tell_misuse(rt, CommandName::Config, wrong));
     }
     if options.top.is_some() {
-        bail!("with --top no configuration is read");
+        return Err(Fault::Message("with --top no configuration is read"));
     }
     go_to_folders(rt, alloc, options)?;
     let config = config_here(rt, alloc, options)?;
@@ -50,7 +50,7 @@ pub(crate) fn show_config<R: Files + Env + Eprint + AllocGlobal, O: Write>(
     }
     match only(&operands.words) {
         Some(word) => show_key(rt, alloc, &config, flags, word, output),
-        None => bail!("one key is asked for"),
+        None => Err(Fault::Message("one key is asked for")),
     }
 }
 
@@ -124,7 +124,7 @@ fn write_answer<O: Write>(
 {
     let mut text = Vec::new(alloc);
     let has = append_answer(alloc, &mut text, config, question, manner)?;
-    output.write_all(&text).context("writing")?;
-    output.flush().context("writing")?;
+    output.write_all(&text).map_err(Fault::Write)?;
+    output.flush().map_err(Fault::Write)?;
     Ok(status_by(has))
 }

@@ -5,12 +5,12 @@ ghost use Rattle.tree_words.specs.Operands.{operands_among};
 ghost use Rattle.globtree.specs.Answers.{AnswersStatus, IsAtTop};
 ghost use Rattle.globtree.specs.Running.{IsAnswered, flags_by, form_by, ignored_folders, named_if_normal, status_folders, untracked_by};
 
+use crate::fault::{Fault, Result};
 use crate::fronts::{Fronts, case_of, fronts_on, ground_of};
 use crate::index_use::{IndexUse, take_from_index};
 use crate::listing::{copies_of, run_listing};
 use crate::opening::Purpose;
 use crate::outcomes::ANSWERED;
-use anyhow::{Context, Result, bail};
 use core_settings::ShowUntracked;
 use gix_glob::search::Watched;
 use std::alloc::Global;
@@ -38,11 +38,11 @@ pub(crate) fn show_status<R: Files + Env + Clock + Eprint + AllocGlobal + Clone 
     ensures alone { IfOk result (λ _. operands_among (map string_bytes words.now) ≡ []) }
     ensures answered { IfOk result (λ _. AnswersStatus flags (O.contents (inner output.old)) (O.contents (inner output.new))) }
 {
-    let operands = operands_of(alloc, words).context("the words")?.words;
+    let operands = operands_of(alloc, words)?.words;
     let ground = ground_of(rt, alloc, options, Purpose::Status)?;
     let flags = flags_by(flags, ground.tree.untracked);
     if let Some(message) = flags.disagreement(operands.len()) {
-        bail!("{message}");
+        return Err(Fault::Message(message));
     }
     if !flags.tells_untracked() {
         // Git reads the index, too, and ends at its faults

@@ -2,13 +2,13 @@
 ghost use Rattle.std.specs.Prelude.{IfOk};
 ghost use Rattle.globtree.specs.Tracked.{IsOfIndex};
 
-use anyhow::{Context, Result, bail};
+use crate::fault::{Fault, Result};
 use git_index::{Index, IndexFault, ObjectFormat};
 use repository_files::{Sight, Unread, open_seen};
 use std::alloc::{AllocError, Global};
-use std::fs;
 use std::io::{ErrorKind, Read};
 use std::rt::Files;
+use std::{fs, io};
 
 /// The length in bytes above which an index isn't read.
 const MOST_BYTES: u64 = 1 << 30;
@@ -37,7 +37,7 @@ impl IndexFile {
         match read {
             Ok(index) => Ok(index),
             Err(IndexFault::Memory) => Err(AllocError.into()),
-            Err(fault) => bail!("{}: {fault}", self.name),
+            Err(fault) => Err(Fault::told(alloc, format_args!("{}: {fault}", self.name))),
         }
     }
 
@@ -72,10 +72,13 @@ impl IndexFile {
                 return Ok(bytes);
             }
         }
-        bail!(
-            "{}: the shared file 'sharedindex.{hash}' isn't there",
-            self.name
-        )
+        Err(Fault::told(
+            alloc,
+            format_args!(
+                "{}: the shared file 'sharedindex.{hash}' isn't there",
+                self.name
+            ),
+        ))
     }
 }
 
@@ -84,20 +87,28 @@ fn bytes_of<R: Files>(rt: &R, alloc: Global, name: &str) -> Result<Option<Vec<u8
     let seen = match fs::metadata(rt, name) {
         Ok(found) => Sight::of(&found),
         Err(error) if error.kind() == ErrorKind::NotFound => return Ok(None),
-        Err(error) => return Err(error).context(format_args!("'{name}'")),
+        Err(error) => return Err(unread(alloc, name, error)),
     };
     let mut bytes = Vec::new(alloc);
     match open_seen(rt, name, &seen) {
         Ok(Some(opened)) => opened
             .take(MOST_BYTES + 1)
             .read_to_end(&mut bytes)
-            .context(format_args!("'{name}'"))?,
+            .map_err(|error| unread(alloc, name, error))?,
         Ok(None) => 0,
-        Err(Unread::System(error)) => return Err(error).context(format_args!("'{name}'")),
-        Err(_unread) => bail!("'{name}' is no file"),
+        Err(Unread::System(error)) => return Err(unread(alloc, name, error)),
+        Err(_unread) => return Err(Fault::told(alloc, format_args!("'{name}' is no file"))),
     };
     if bytes.len() as u64 > MOST_BYTES {
-        bail!("'{name}' has more than {MOST_BYTES} bytes");
+        return Err(Fault::told(
+            alloc,
+            format_args!("'{name}' has more than {MOST_BYTES} bytes"),
+        ));
     }
     Ok(Some(bytes))
+}
+
+/// The fault of a file of an index that can't be read.
+fn unread(alloc: Global, name: &str, error: io::Error) -> Fault {
+    Fault::told(alloc, format_args!("'{name}': {error}"))
 }

@@ -8,11 +8,11 @@ ghost use Rattle.globtree.specs.Places.{IsFoundTree, IsIndexOf, IsNamedTree, IsT
 ghost use Rattle.globtree.specs.Running.{quoting_by};
 ghost use Rattle.globtree.specs.Tracked.{format_by};
 
+use crate::fault::{Fault, Result};
 use crate::moving::{current_folder, go_to_top};
 use crate::opening::{Purpose, open_here};
 use crate::places::{from_root, standpoint_at, standpoint_in};
 use crate::tracked::IndexFile;
-use anyhow::{Context, Result};
 use core_settings::{ShowUntracked, settings_file};
 use git_config::Config;
 use git_index::ObjectFormat;
@@ -23,6 +23,9 @@ use std::rt::{Env, Files};
 use told_paths::{Quoting, Standpoint, below_folder};
 use tree_files::path_text;
 use tree_words::Options;
+
+/// What is told where nothing names a work tree.
+const NO_WORK_TREE: &str = "there is no work tree";
 
 /// What counts for all paths of a work tree, whose top is the current folder.
 #[derive(Drop)]
@@ -108,7 +111,9 @@ fn tree_of_repository<R: Files + Env + AllocGlobal>(
     let here = current_folder(rt, alloc)?;
     let current = from_root(alloc, &here)?;
     let opened = open_here(rt, alloc, options, &current, purpose)?;
-    let top = opened.top.as_deref().context("there is no work tree")?;
+    let Some(top) = opened.top.as_deref() else {
+        return Err(Fault::Message(NO_WORK_TREE));
+    };
     let top = path_text(alloc, &told_from(alloc, &current, top)?)?;
     let top = go_to_top(rt, alloc, top.as_str())?;
     let is_outside = below_folder(&here, &top).is_none();
@@ -130,7 +135,9 @@ fn tree_at(
     let git_folder = told_from(alloc, current, &opened.git_folder)?;
     let index = index_file_of(alloc, current, &opened)?;
     let listing_excludes = listing_excludes(alloc, current, is_outside, &opened.core.excludes)?;
-    let own_excludes = opened.exclude_name.context("there is no work tree")?;
+    let Some(own_excludes) = opened.exclude_name else {
+        return Err(Fault::Message(NO_WORK_TREE));
+    };
     Ok(WorkTree {
         standpoint,
         folds: opened.core.ignore_case,

@@ -1,10 +1,9 @@
-use Rattle.std.proofs.Common.{◌≡◌, IfOk, List, OnOk, ℕ, ap, if◌then◌else◌, map, sym, string_bytes, subst, ◌∙◌}
+use Rattle.std.proofs.Common.{◌≡◌, List, OnOk, ℕ, ap, if◌then◌else◌, map, sym, string_bytes, subst, ◌∙◌}
 use Rattle.std.proofs.lemmas.Bool.{false≢true}
 use Rattle.std.specs.Borrow.{Bor}
 use Rattle.gix_glob.specs.Watched.{inner}
 use Rattle.tree_commands.specs.CheckAttr as attributes
-use Rattle.tree_words.specs.declared.operands.Operands.{Operands}
-use Rattle.tree_words.specs.Operands.{dashes_at, operands_among}
+use Rattle.tree_words.specs.Operands.{operands_among}
 use Rattle.globtree.specs.Answers.{ReadsStates, TellsStates}
 use Rattle.globtree.proofs.lemmas.OperandLemmas.{back_seen, front_seen, names_seen}
 use Rattle.globtree.proofs.check_attr.check_attr.Goals as goal
@@ -14,8 +13,8 @@ returns-then-flags-clause-answered g c answered =
     let see : Bor (List ℕ) → List ℕ = λ word. word.now in
     let operands = c.in_ok-operands.operands in
     let told = operands_among (map string_bytes c.args.words.now) in
-    let all = subst (λ r. IfOk r (λ (read : Operands). map see read.words.items ≡ told)) c.in_ok-operands.ensures c.operands_of.ensures.all in
-    let before = subst (λ r. IfOk r (λ (read : Operands). read.before ≡ dashes_at (map string_bytes c.args.words.now))) c.in_ok-operands.ensures c.operands_of.ensures.before in
+    let all = c.in_ok-operands.ensures.all in
+    let before = c.in_ok-operands.ensures.before in
     let names = front_seen see operands.words.items c.deref.result.now told c.deref.ensures.value all c.in-Ok.count _ _ c.split_at.ensures.front c.in_ok-asked_names.ensures in
     record {
       count = c.in-Ok.count;
@@ -35,8 +34,8 @@ returns-clause-answered g c answered =
     let see : Bor (List ℕ) → List ℕ = λ word. word.now in
     let operands = c.in_ok-operands.operands in
     let told = operands_among (map string_bytes c.args.words.now) in
-    let all = subst (λ r. IfOk r (λ (read : Operands). map see read.words.items ≡ told)) c.in_ok-operands.ensures c.operands_of.ensures.all in
-    let before = subst (λ r. IfOk r (λ (read : Operands). read.before ≡ dashes_at (map string_bytes c.args.words.now))) c.in_ok-operands.ensures c.operands_of.ensures.before in
+    let all = c.in_ok-operands.ensures.all in
+    let before = c.in_ok-operands.ensures.before in
     let names = front_seen see operands.words.items c.deref.result.now told c.deref.ensures.value all c.in-Ok.count _ _ c.split_at.ensures.front c.in_ok-asked_names.ensures in
     let paths = back_seen see operands.words.items c.deref.result.now told c.deref.ensures.value all c.in-Ok.count _ _ c.split_at.ensures.back c.in_ok-paths.ensures in
     record {

@@ -1,11 +1,9 @@
-use Rattle.std.proofs.Common.{◌≡◌, ◌≢◌, Bool, true, false, if◌then◌else◌, IfOk, List, Option, ℕ, ap, map, refl, sym, string_bytes, subst, ◌∙◌}
+use Rattle.std.proofs.Common.{◌≡◌, ◌≢◌, Bool, true, false, if◌then◌else◌, IfOk, List, Option, ℕ, ap, map, refl, sym, subst, ◌∙◌}
 use Rattle.std.proofs.lemmas.Bool.{false≢true}
 use Rattle.std.specs.Borrow.{Bor}
 use Rattle.gix_glob.specs.Watched.{inner}
 use Rattle.glob_lists.specs.Rules.{by_git}
 use Rattle.tree_commands.specs.CheckIgnore.{Question, nothing_known, question_of}
-use Rattle.tree_words.specs.declared.operands.Operands.{Operands}
-use Rattle.tree_words.specs.Operands.{operands_among}
 use Rattle.globtree.specs.Answers.{ReadsIgnore, TellsIgnore}
 use Rattle.globtree.specs.Tracked.{IsOfIndex}
 use Rattle.globtree.specs.declared.index_use.IndexUse.{IndexUse}
@@ -51,15 +49,13 @@ returns-then-flags-clause-answered g c =
 pub returns-clause-answered : goal.returns-clause-answered
 returns-clause-answered g c =
     let see : Bor (List ℕ) → List ℕ = λ word. word.now in
-    let words = operands_among (map string_bytes c.args.words.now) in
-    let all = subst (λ r. IfOk r (λ (read : Operands). map see read.words.items ≡ words)) c.in_ok-paths.ensures c.operands_of.ensures.all in
     let fronts = c.in_ok-fronts.fronts in
     let tree = c.in_ok-tree.tree in
     let is_any = c.in_ok-is_any-2.is_any in
     let question : Question = question_of fronts.standpoint c.asked_by_flags-asked.result c.new-tracked.result tree nothing_known in
     let old : Option (List ℕ) = g.O.Write.contents (inner c.args.output.now) in
     let new : Option (List ℕ) = g.O.Write.contents (inner c.check_ignore_paths-sources.new.writer) in
-    let paths = ap (map see) c.deref-2.ensures.value ∙ (c.in_ok-paths-2.ensures ∙ (ap (map see) c.deref.ensures.value ∙ all)) in
+    let paths = ap (map see) c.deref-2.ensures.value ∙ (c.in_ok-paths-2.ensures ∙ (ap (map see) c.deref.ensures.value ∙ c.in_ok-paths.ensures.all)) in
     record {
       standpoint = fronts.standpoint;
       folds = fronts.folds;
