@@ -1,4 +1,4 @@
-# Installs Girvuzhan: make install [PREFIX=/usr/local] [LIBDIR=PREFIX/lib] [DESTDIR=]
+# Installs Girvuzhan: make install [PREFIX=/usr/local] [LIBDIR=PREFIX/lib] [DESTDIR=]; in a checkout, make test asks the release and the sources
 #
 # In an unpacked archive nothing is built. In a checkout, what the toolchain has proved and built is gathered before, in out/tree.
 # install-programs and install-library are the halves of install; uninstall takes back what it put there; check compares sums.
@@ -31,9 +31,12 @@ library = $(call $(1),include,$(includedir),644) && \
 	$(call $(1),lib/cmake/gix_glob,$(libdir)/cmake/gix_glob,644) && \
 	$(call $(1),share/man/man3,$(mandir)/man3,644)
 
-.PHONY: all install install-programs install-library uninstall check
+.PHONY: all test install install-programs install-library uninstall check
 all:
 	@[ "$(tree)" = . ] || tools/release --tree out/tree
+
+test:
+	@$(if $(wildcard tools/test),tools/test,echo 'the archive has no tests: they lie in the repository' >&2; false)
 
 install: install-programs install-library
 
