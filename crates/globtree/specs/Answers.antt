@@ -40,7 +40,7 @@ use Rattle.tree_words.specs.declared.options.Options.{Options}
 use Rattle.tree_words.specs.declared.status.StatusFlags.{StatusFlags}
 use Rattle.tree_words.specs.Files.{are_usual, lists_tracked}
 use Rattle.tree_words.specs.Help.{IsHelp}
-use Rattle.tree_words.specs.Operands.{dashes_at, operands_among}
+use Rattle.tree_words.specs.Operands.{dashes_at, from_operand, operands_among}
 use Rattle.tree_words.specs.Status.{tells_ignored, tells_untracked}
 use Rattle.tree_words.specs.Words.{Ask}
 use Rattle.globtree.specs.Running.{asked_by_flags, flags_by, form_by, manner_by}
@@ -190,12 +190,12 @@ abbrev pub KeyIsShown : ConfigFlags → List Seen → List ℕ → ℕ → Optio
 KeyIsShown flags settings word status old new =
     MatchOption (canonical_of word) ((status ≡ 1) × (new ≡ old)) (λ key. IsShown flags (asked_by_key flags key) settings status old new)
 
--- The words behind `config` were answered by some entries, in the order in which they were read: what they say of the one operand, or
--- all of them.
+-- The words behind `config` were answered by some entries, in the order in which they were read: what they say of the one operand, which
+-- is the last word, or all of them.
 pub record AnswersConfig (flags : ConfigFlags) (words : List (List ℕ)) (status : ℕ) (old new : Option (List ℕ)) : Type 0 where
   pub settings : List Seen
   pub all : flags.list ≡ true → IsShown flags All settings status old new
-  pub one : flags.list ≡ false → (word : List ℕ) × (operands_among words ≡ word ∷ []) × KeyIsShown flags settings word status old new
+  pub one : flags.list ≡ false → (word : List ℕ) × (from_operand words ≡ word ∷ []) × KeyIsShown flags settings word status old new
 
 -- A command was answered. Of how a command is used, or the program, a text was written that begins with it; of which program it is,
 -- some text.

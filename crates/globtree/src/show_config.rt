@@ -1,6 +1,5 @@
 //! The command `config`: what of the configuration was read, and from where.
-ghost use Rattle.std.specs.Prelude.{◌≡◌, ◌⊎◌, ◌∷◌, ℕ, List, [], IfOk, IfSome, OnOk, if◌then◌else◌, map, string_bytes};
-ghost use Rattle.std.specs.Borrow.{Bor};
+ghost use Rattle.std.specs.Prelude.{◌≡◌, ◌⊎◌, ◌∷◌, [], IfOk, IfSome, OnOk, if◌then◌else◌, map, string_bytes};
 ghost use Rattle.std.specs.Io.KnownBytes.{Appends};
 ghost use Rattle.git_config.specs.Configuration.{seen_setting};
 ghost use Rattle.gix_glob.specs.Watched.{inner};
@@ -16,12 +15,13 @@ use crate::wrong_words::tell_misuse;
 use config_answers::{Manner, Question, append_answer, key_fault};
 use git_config::{Config, canonical_key};
 use gix_glob::search::Watched;
+use repository_files::variable;
 use std::alloc::Global;
 use std::io::Write;
 use std::rt::{Env, Files};
 use tree_files::tell_line;
 use tree_words::config::ConfigFlags;
-use tree_words::{CommandName, Options, operands_of};
+use tree_words::{CommandName, Options, from_operand};
 
 /// Shows what the configuration says, by the words behind `config`.
 pub(crate) fn show_config<R: Files + Env + Eprint + AllocGlobal, O: Write>(
@@ -36,30 +36,33 @@ pub(crate) fn show_config<R: Files + Env + Eprint + AllocGlobal, O: Write>(
     ensures answered { IfOk result (λ status. IsAnswered status → AnswersConfig flags (map string_bytes words.now) status (O.contents (inner output.old)) (O.contents (inner output.new))) }
     ensures unwritten { IfOk result (λ status. IsRefused status → output.new ≡ output.old) }
 {
-    let operands = operands_of(alloc, words)?;
-    if let Some(wrong) = flags.disagreement(operands.words.len()) {
+    let keys = from_operand(words);
+    if let Some(wrong) = flags.disagreement(keys.len()) {
         return Ok(tell_misuse(rt, CommandName::Config, wrong));
     }
     if options.top.is_some() {
         return Err(Fault::Message("with --top no configuration is read"));
+    }
+    if variable(rt, alloc, "GIT_CONFIG")?.is_some() {
+        return Err(Fault::Message("the variable GIT_CONFIG isn't read"));
     }
     go_to_folders(rt, alloc, options)?;
     let config = config_here(rt, alloc, options)?;
     if flags.list {
         return write_answer(alloc, &config, Question::All, manner_by(flags), output);
     }
-    match only(&operands.words) {
+    match only(keys) {
         Some(word) => show_key(rt, alloc, &config, flags, word, output),
         None => Err(Fault::Message("one key is asked for")),
     }
 }
 
-/// The one operand, where there is one alone.
-fn only<'a>(operands: &[&'a str]) -> Option<&'a str>
-    ensures { IfSome result (λ word. map (λ (each : Bor (List ℕ)). each.now) operands.now ≡ word.now ∷ []) }
+/// The one word, where there is one alone.
+fn only(words: &[String]) -> Option<&str>
+    ensures { IfSome result (λ word. map string_bytes words.now ≡ word.now ∷ []) }
 {
-    match operands {
-        [word] => Some(*word),
+    match words {
+        [word] => Some(word.as_str()),
         _ => None,
     }
 }

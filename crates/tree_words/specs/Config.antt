@@ -18,7 +18,8 @@ with_letter flags letter =
     else (if letter == byte "z" then Some (record flags { nul = true })
     else None)
 
--- They go together with so many keys among the words: a list is of all keys, and is not of one key's values; else one key is told.
+-- They go together with so many words from the key on: a list is of all keys, and is not of one key's values; else one key is told, and
+-- no word behind it.
 pub record GoTogether (flags : ConfigFlags) (key_count : ℕ) : Type 0 where
   pub all : flags.list ≡ true → (flags.get_all ≡ false) × (key_count ≡ 0)
   pub one : flags.list ≡ false → key_count ≡ 1

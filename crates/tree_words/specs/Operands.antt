@@ -33,6 +33,11 @@ flags_among named lettered none words =
 abbrev pub operands_among : List (List ℕ) → List (List ℕ)
 operands_among words = filter (λ word. not (is_option word)) (before_first are_dashes words) ++ after_first are_dashes words
 
+-- the words from the first operand on, but for a `--` before it
+abbrev pub from_operand : List (List ℕ) → List (List ℕ)
+from_operand [] = []
+from_operand (word ∷ words) = if are_dashes word then words else (if is_option word then from_operand words else word ∷ words)
+
 -- how many of them stand before `--`, where that is among the words
 abbrev pub dashes_at : List (List ℕ) → Option ℕ
 dashes_at words = if list_any are_dashes words then Some (length (filter (λ word. not (is_option word)) (before_first are_dashes words))) else None

@@ -30,7 +30,7 @@ impl ConfigFlags {
         }
     }
 
-    /// Why these don't go together with so many keys; `None` where they do.
+    /// Why these don't go together with so many words from the key on; `None` where they do.
     pub fn disagreement(self, key_count: usize) -> Option<&'static str>
         ensures { MatchOption result (GoTogether self key_count) (λ _. ¬ GoTogether self key_count) }
     {

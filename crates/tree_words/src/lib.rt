@@ -17,7 +17,7 @@ mod word_fault;
 
 pub use command::{Command, asked_by};
 pub use names::{CommandName, command_names, first_options, is_first_option};
-pub use operands::{Operands, operands_of};
+pub use operands::{Operands, from_operand, operands_of};
 pub use options::{Options, values_of};
 pub use texts::help_of;
 pub use word_fault::WordFault;

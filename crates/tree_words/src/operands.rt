@@ -1,7 +1,7 @@
 //! The operands of a command: the words behind it that are no options, and all behind `--`.
 ghost use Rattle.std.specs.Prelude.{◌≡◌, ◌≤◌, ℕ, List, IfOk, IfSome, MatchResult, length, map, string_bytes};
 ghost use Rattle.std.specs.Borrow.{Bor};
-ghost use Rattle.tree_words.specs.Operands.{IsOnly, dashes_at, is_option, operands_among};
+ghost use Rattle.tree_words.specs.Operands.{IsOnly, dashes_at, from_operand, is_option, operands_among};
 ghost use Rattle.tree_words.specs.Private.WordFaults.{NamesSecond};
 
 use crate::names::CommandName;
@@ -39,6 +39,24 @@ pub fn operands_of(alloc: Global, words: &[String]) -> Result<Operands<'_>, Allo
         }
     }
     Ok(operands)
+}
+
+/// The words from the first operand on, but for a `--` before it: the operands of a command whose options stand before them.
+pub fn from_operand(words: &[String]) -> &[String]
+    ensures { map string_bytes result.now ≡ from_operand (map string_bytes words.now) }
+{
+    let mut left = words;
+    'words: while let Some((word, rest)) = left.split_first() {
+        let word = word.as_str();
+        if word == "--" {
+            return rest;
+        }
+        if !is_option(word) {
+            return left;
+        }
+        left = rest;
+    }
+    left
 }
 
 /// The only operand among the words behind a command, and `usual` where there is none.

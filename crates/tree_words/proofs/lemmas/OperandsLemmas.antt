@@ -6,7 +6,7 @@ use Rattle.std.specs.List.{after_first, before_first, list_any, position_or_len}
 use Rattle.std.specs.Option.{option_and_then, option_copied, option_to_list, unwrap_or}
 use Rattle.std.proofs.lemmas.List.{length-append}
 use Rattle.tree_words.specs.declared.operands.Operands.{Operands}
-use Rattle.tree_words.specs.Operands.{IsOnly, are_dashes, dashes_at, flags_among, is_option, operands_among, with_option}
+use Rattle.tree_words.specs.Operands.{IsOnly, are_dashes, dashes_at, flags_among, from_operand, is_option, operands_among, with_option}
 
 module _ {X : Type 0} (p : X → Bool) (x : X) (xs : List X) where
   one_more : 1 + position_or_len p xs ≡ suc (position_or_len p xs)
@@ -109,6 +109,17 @@ module _ (word : List ℕ) (left : List (List ℕ)) where
   dashes_after_operand fails other = dashes_past fails
       ∙ ap (λ b. if list_any are_dashes left then Some (length (cond (not b) (word ∷ filter is_operand (before_first are_dashes left)) (filter is_operand (before_first are_dashes left)))) else None) other
       ∙ one_more_if (list_any are_dashes left) (length (filter is_operand (before_first are_dashes left)))
+
+-- ---- from the first operand on
+
+module _ (word : List ℕ) (left : List (List ℕ)) where
+  pub from_dashes : are_dashes word ≡ true → from_operand (word ∷ left) ≡ left
+  from_dashes holds = ap (λ b. if b then left else (if is_option word then from_operand left else word ∷ left)) holds
+
+  pub from_other : (option : Bool) → are_dashes word ≡ false → is_option word ≡ option → from_operand (word ∷ left) ≡ (if option then from_operand left else word ∷ left)
+  from_other option fails is =
+      ap (λ b. if b then left else (if is_option word then from_operand left else word ∷ left)) fails
+      ∙ ap (λ b. if b then from_operand left else word ∷ left) is
 
 -- the operands of all words are those so far and those among the words that are left, which are all operands once `--` was met
 pub record AreOperands (words left found : List (List ℕ)) (before : Option ℕ) : Type 0 where
