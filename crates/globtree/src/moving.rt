@@ -3,6 +3,7 @@
 use crate::fault::{Fault, Result};
 use std::alloc::Global;
 use std::env;
+use std::path::PathBuf;
 use std::rt::{Env, Files};
 use tree_words::{Options, values_of};
 
@@ -37,11 +38,16 @@ pub(crate) fn go_to_top<R: Files + Env + AllocGlobal>(
 
 /// The path of the current folder from the root, without links and without the slash at its front.
 pub(crate) fn current_folder<R: Env + AllocGlobal>(rt: &R, alloc: Global) -> Result<Vec<u8>> {
-    let folder = env::current_dir(rt).map_err(|error| Fault::told(
-        alloc,
-        format_args!("the current folder: {error}"),
-    ))?;
+    let folder = current_path(rt, alloc)?;
     let path = folder.as_str().as_bytes();
     let left = path.strip_prefix(b"/").unwrap_or(path);
     Ok(Vec::from_slice(alloc, left)?)
+}
+
+/// The path of the current folder from the root, without links.
+pub(crate) fn current_path<R: Env + AllocGlobal>(rt: &R, alloc: Global) -> Result<PathBuf> {
+    env::current_dir(rt).map_err(|error| Fault::told(
+        alloc,
+        format_args!("the current folder: {error}"),
+    ))
 }

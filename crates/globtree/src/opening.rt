@@ -8,8 +8,7 @@ ghost use Rattle.globtree.specs.Places.{denies, denies_work_tree, with_options};
 
 use crate::check_ignore::bytes_of;
 use crate::fault::{Fault, Result};
-use crate::moving::current_folder;
-use crate::places::from_root;
+use crate::moving::current_path;
 use core_settings::Pair;
 use git_config::{Config, Surroundings, boolean};
 use git_repository::Environment;
@@ -124,11 +123,16 @@ pub(crate) fn config_here<R: Files + Env + AllocGlobal>(
     alloc: Global,
     options: Options<'_>,
 ) -> Result<Config> {
-    let current = from_root(alloc, &current_folder(rt, alloc)?)?;
+    let current = current_path(rt, alloc)?;
     let files = DiskFiles::new(rt, alloc, User::of_process(rt, alloc)?);
     let asked = Asked::read(rt, alloc, &files)?;
     let entries = asked.entries(alloc, options)?;
-    let told = asked.told(options, &current, &entries, Purpose::Index)?;
+    let told = asked.told(
+        options,
+        current.as_str().as_bytes(),
+        &entries,
+        Purpose::Index,
+    )?;
     let place = config_place(alloc, &files, &told)?;
     go_to_place(rt, alloc, &place)?;
     Ok(read_config(alloc, &files, &told, &place)?)

@@ -7,7 +7,8 @@ use git_repository::Environment;
 /// What a process was told.
 #[derive(Debug, Clone, Copy)]
 pub struct Told<'a> {
-    /// The current folder, from the root, without links and without a slash at its end.
+    /// The current folder, from the root, without links and without a slash at its end. The root has no bytes for [`open`](crate::open),
+    /// and a slash for [`config_place`](crate::config_place).
     pub current: &'a [u8],
     /// `PWD`, which counts where it leads to the folder in which Git works.
     pub pwd: Option<&'a [u8]>,
