@@ -53,11 +53,17 @@ impl<'a, R: Files + Eprint> AttributeFiles<'a, R> {
 
     /// The bytes of the file of the top.
     pub fn top(&self) -> Result<Vec<u8>, CheckFault> {
-        self.indexed.check(self.rt, b"", ATTRIBUTE_FILE)?;
+        self.check_indexed(b"")?;
         let mut bytes = Vec::new(self.alloc);
         let file = String::from_str(self.alloc, ATTRIBUTE_FILE)?;
         self.read_own(file, &mut bytes, true)?;
         Ok(bytes)
+    }
+
+    /// Refuses a folder whose file Git reads from the index: one that is passed over in the work tree.
+    fn check_indexed(&self, folder: &[u8]) -> Result<(), CheckFault> {
+        self.indexed
+            .check(self.rt, folder, ATTRIBUTE_FILE, FILE_LIMIT)
     }
 
     /// Reads a folder's own file; no bytes where there is none. It answers whether the folder can be looked into. A link isn't followed.
@@ -122,7 +128,7 @@ impl<'a, R: Files + Eprint> AttributeFolders for AttributeFiles<'a, R> {
     ghost shows = { λ _ _ _. Unit {0} };
 
     fn read_file(&mut self, folder: &[u8], bytes: &mut Vec<u8>) -> Result<bool, CheckFault> {
-        self.indexed.check(self.rt, folder, ATTRIBUTE_FILE)?;
+        self.check_indexed(folder)?;
         let name = path_text(self.alloc, folder)?;
         match what_stands(self.rt, self.alloc, name.as_str())? {
             Standing::Nothing | Standing::Unseen => return Ok(false),

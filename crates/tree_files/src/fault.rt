@@ -40,8 +40,8 @@ pub enum CheckFault {
     /// answer about a path has room for one.
     #[error("{0}")]
     Unready(String),
-    /// A file of patterns isn't in the work tree, and Git reads it from the index.
-    #[error("'{0}' is in the index alone, from which it isn't read")]
+    /// A file of patterns isn't in the work tree, or can't be read there, and Git reads it from the index.
+    #[error("'{0}' can't be read in the work tree, and from the index it isn't read")]
     InIndexAlone(String),
     /// What makes a folder a repository of its own can't be told.
     #[error("{0}")]

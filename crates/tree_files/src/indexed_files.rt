@@ -4,9 +4,11 @@ ghost use Rattle.tree_files.specs.Indexed.{is_indexed};
 
 use crate::fault::CheckFault;
 use crate::standing::{file_in, path_text};
+use repository_files::{Sight, Unread, open_seen};
 use std::alloc::{AllocError, Global};
 use std::collections::BTreeSet;
 use std::fs;
+use std::fs::Metadata;
 use std::rt::Files;
 
 /// The folders whose own file of patterns lies in the index, from which it isn't read.
@@ -46,12 +48,14 @@ impl IndexedFiles {
         self.folders.contains(folder)
     }
 
-    /// Refuses a folder whose file of this name is in the index, and not in the work tree, where a link isn't followed.
+    /// Refuses a folder whose file of this name is in the index, and has no fewer bytes in the work tree than the limit, or can't be opened
+    /// there: then Git reads it from the index.
     pub(crate) fn check<R: Files>(
         &self,
         rt: &R,
         folder: &[u8],
         name: &str,
+        limit: u64,
     ) -> Result<(), CheckFault> {
         if !self.has(folder) {
             return Ok(());
@@ -59,8 +63,22 @@ impl IndexedFiles {
         let folder = path_text(self.alloc, folder)?;
         let file = file_in(self.alloc, folder.as_str(), name)?;
         match fs::symlink_metadata(rt, file.as_str()) {
-            Ok(found) if !found.is_symlink() => Ok(()),
+            Ok(found) if found.len() < limit && can_open(rt, file.as_str(), &found) => Ok(()),
             _ => Err(CheckFault::InIndexAlone(file)),
         }
+    }
+}
+
+/// Whether what was seen can be opened: no link is, nor what would have to be waited for.
+fn can_open<R: Files>(rt: &R, name: &str, found: &Metadata) -> bool {
+    if found.is_symlink() {
+        return false;
+    }
+    match open_seen(rt, name, &Sight::of(found)) {
+        Ok(_opened) => true,
+        Err(Unread::Folder) => fs::open(rt, name).is_ok(),
+        // (what stands there by the time it is read is told then)
+        Err(Unread::Device | Unread::Replaced) => true,
+        Err(Unread::Waiting | Unread::System(_)) => false,
     }
 }

@@ -60,7 +60,7 @@ impl<'a, R: Files + Eprint> FolderFiles<'a, R> {
 
     /// Refuses a folder whose file the index alone has.
     pub(crate) fn check_indexed(&self, folder: &[u8]) -> Result<(), CheckFault> {
-        self.indexed.check(self.rt, folder, IGNORE_FILE)
+        self.indexed.check(self.rt, folder, IGNORE_FILE, u64::MAX)
     }
 
     /// The list of a folder that isn't known to be missing, without its base.
