@@ -20,7 +20,7 @@ use tree_answers::Form;
 use tree_commands::check_ignore::{
     IgnoreFlags, IgnoreSources, check_ignore_paths, run_check_ignore,
 };
-use tree_files::{CheckFault, FileKinds};
+use tree_files::{CheckFault, FileKinds, FolderFiles};
 use tree_words::check_ignore::CheckIgnoreFlags;
 use tree_words::{Options, operands_of};
 
@@ -54,7 +54,8 @@ pub(crate) fn check_ignore<R: Files + Env + Eprint + AllocGlobal, I: Read, O: Wr
         ..
     } = fronts;
     let case = case_of(options, folds);
-    let tree = tree_behind(rt, alloc, lists, &indexed, case)?;
+    let source = FolderFiles::new(rt, alloc, &indexed);
+    let tree = tree_behind(alloc, lists, source, case)?;
     let tracked = TrackedPaths::new(tracked);
     let sources = IgnoreSources {
         tree,

@@ -196,19 +196,17 @@ fn both(
     Ok(lists)
 }
 
-/// The tree whose folders' files stand behind these lists.
+/// The tree in which the files of folders stand behind these lists.
 pub(crate) fn tree_behind<'a, R: Files + Eprint>(
-    rt: &'a R,
     alloc: Global,
     lists: Vec<PreparedList<IgnoreLines>>,
-    indexed: &'a IndexedFiles,
+    source: FolderFiles<'a, R>,
     case: Case,
 ) -> Result<Tree<IgnoreLines, FolderFiles<'a, R>>>
     ensures rules { IfOk result (λ tree. tree.rules ≡ by_git case) }
     ensures count { IfOk result (λ tree. tree.front_count ≡ length lists.items) }
     ensures before { IfOk result (λ tree. tree.lists ≡ lists.items) }
 {
-    let source = FolderFiles::new(rt, alloc, indexed);
     let Some(mut tree) = Tree::new(alloc, source, lists, Rules::by_git(case)) else {
         return Err(CheckFault::Base.into());
     };

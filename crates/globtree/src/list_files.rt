@@ -25,6 +25,7 @@ use tree_answers::Form;
 use tree_commands::files::Listing;
 use tree_commands::files::choosing::{Chosen, Folders};
 use tree_commands::files::mark::Mark;
+use tree_files::FolderFiles;
 use tree_words::Options;
 use tree_words::files::FilesFlags;
 
@@ -209,7 +210,8 @@ fn list_tracked_by<R: Files + Env + Eprint + AllocGlobal, O: Write>(
     if !flags.ignored {
         return list_tracked(alloc, &standpoint, form, &tracked, folder, output);
     }
-    let tree = tree_behind(rt, alloc, lists, &indexed, case)?;
+    let source = FolderFiles::of_tracked(rt, alloc, &indexed);
+    let tree = tree_behind(alloc, lists, source, case)?;
     list_tracked_ignored(rt, alloc, &standpoint, form, &tracked, tree, folder, output)
 }
 

@@ -35,6 +35,7 @@ pub struct FolderFiles<'a, R> {
     bytes: Vec<u8>,
     closed: ClosedFolders,
     indexed: &'a IndexedFiles,
+    refuses_links: bool,
 }
 
 impl<'a, R> FolderFiles<'a, R> {
@@ -46,7 +47,15 @@ impl<'a, R> FolderFiles<'a, R> {
             bytes: Vec::new(alloc),
             closed: ClosedFolders::new(alloc),
             indexed,
+            refuses_links: true,
         }
+    }
+
+    /// The same for paths that are tracked: a link that stands in the place of a folder now is followed.
+    pub fn of_tracked(rt: &'a R, alloc: Global, indexed: &'a IndexedFiles) -> FolderFiles<'a, R> {
+        let mut files = FolderFiles::new(rt, alloc, indexed);
+        files.refuses_links = false;
+        files
     }
 }
 
@@ -69,7 +78,7 @@ impl<'a, R: Files + Eprint> FolderFiles<'a, R> {
     {
         let name = path_text(self.alloc, folder)?;
         match what_stands(self.rt, self.alloc, name.as_str())? {
-            Standing::Link => Err(CheckFault::BeyondLink(name)),
+            Standing::Link if self.refuses_links => Err(CheckFault::BeyondLink(name)),
             Standing::Nothing => {
                 self.closed.miss(folder)?;
                 Ok(List::empty(self.alloc))
@@ -78,7 +87,7 @@ impl<'a, R: Files + Eprint> FolderFiles<'a, R> {
                 self.closed.shut(folder)?;
                 Ok(List::empty(self.alloc))
             }
-            Standing::Folder => self.file_list(folder, name.as_str()),
+            Standing::Folder | Standing::Link => self.file_list(folder, name.as_str()),
         }
     }
 
