@@ -23,8 +23,9 @@ BEHIND = [[], [], ["-v"], ["--", "a"]]
 # words for where Git's own folder is the current one
 WITHIN_GIT = ["a", "-v -n -- HEAD ../a", "-q .", "--stdin", "-z --stdin"]
 NO_TEXT, NOT_THERE = b"no UTF-8 text", (b": no folder", b": No such file", b": Not a directory")
+PATTERN, COLON = b"may be a pattern of paths", b"has a colon in front"
 # kinds of differences, which count as such where "From Git" in docs/GLOBTREE.md names them
-UNLISTED, MESSAGES = "what can't be listed", "messages"
+UNLISTED, MESSAGES, PATTERNS = "what can't be listed", "messages", "patterns as DIR"
 NAMED = kinds_in("GLOBTREE.md")
 DOTTED = [b".", b"./", b".//", b"./.", b"..", b"../", b"../..", b"../.", b".././", b"x/..", b"x/../", b"x/../.", b"./x/y/../.."]
 ESCAPES = {7: "a", 8: "b", 9: "t", 10: "n", 11: "v", 12: "f", 13: "r", 34: '"', 92: "\\"}
@@ -232,6 +233,14 @@ class Comparison:
         path = os.path.relpath(os.path.join(folder, *told), self.pair.top) + b"/"
         return any(path.startswith(repository) for repository in self.repositories)
 
+    def is_refused(self, folder, words, errors):
+        """Whether the path among the words may be a pattern to Git, and the errors say so."""
+        told = [word for word in words if isinstance(word, bytes)]
+        if COLON in errors:
+            return told[0].startswith(b":")
+        path = os.path.relpath(os.path.join(folder, *told), self.pair.top)
+        return PATTERN in errors and any(byte in path for byte in b"*?[\\")
+
     def list_files(self, folder, words, named_top=None):
         expected = self.pair.git_files(folder, words, named_top)
         end = b"\0" if "-z" in words else b"\n"
@@ -249,6 +258,9 @@ class Comparison:
         elif UNLISTED in NAMED and found.status == 1 and expected.status == 0 and any(it in found.errors for it in NOT_THERE):
             self.named[UNLISTED] += 1
             expected = expected._replace(status=1, errors=found.errors)
+        elif PATTERNS in NAMED and found.status == 128 and self.is_refused(folder, words, found.errors):
+            self.named[PATTERNS] += 1
+            expected = Told(128, b"", found.errors)
         elif MESSAGES in NAMED and expected.errors and self.is_in_repository(folder, words):
             self.named[MESSAGES] += not found.errors
             expected = expected._replace(errors=found.errors)

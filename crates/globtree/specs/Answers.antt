@@ -43,6 +43,7 @@ use Rattle.tree_words.specs.Help.{IsHelp}
 use Rattle.tree_words.specs.Operands.{dashes_at, from_operand, operands_among}
 use Rattle.tree_words.specs.Status.{tells_ignored, tells_untracked}
 use Rattle.tree_words.specs.Words.{Ask}
+use Rattle.globtree.specs.Names.{IsName}
 use Rattle.globtree.specs.Running.{asked_by_flags, flags_by, form_by, manner_by}
 use Rattle.globtree.specs.Tracked.{IsOfIndex}
 
@@ -129,6 +130,7 @@ pub record ListsIndex (nul : Bool) (told : List ℕ) (old new : Option (List ℕ
   pub standpoint : Standpoint
   pub quoting : Quoting
   pub tracked : List Tracked
+  pub named : IsName standpoint told
   pub of_index : IsOfIndex tracked
   pub listed : ListsTracked standpoint (form_by nul quoting) tracked told old new
 
@@ -144,13 +146,14 @@ pub record ListsIgnored (standpoint : Standpoint) (rules : Rules) (form : Form) 
   pub asks : question.flags ≡ names_alone form
   pub writes : Writes (AreIgnored question IsOfFolder standpoint paths) (Appends old new)
 
--- What `files` lists: without options what is found below the folder; else with `-o` what is found, and then what is tracked, by `-c` or
--- where there is no `-o`. With `-i` those of either are listed that are ignored.
+-- What `files` lists, where the folder is told by a name: without options what is found below it; else with `-o` what is found, and then
+-- what is tracked, by `-c` or where there is no `-o`. With `-i` those of either are listed that are ignored.
 pub record AnswersFiles (options : Options) (flags : FilesFlags) (folder : List ℕ) (old new : Option (List ℕ)) : Type 0 where
   pub standpoint : Standpoint
   pub folds : Bool
   pub quoting : Quoting
   pub tracked : List Tracked
+  pub named : IsName standpoint folder
   pub of_index : IsOfIndex tracked
   pub middle : Option (List ℕ)
   pub found : MatchBool (are_usual flags || flags.others) (ListsFound marks.Bare standpoint (form_by flags.nul quoting) old middle) (middle ≡ old)

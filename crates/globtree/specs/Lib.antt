@@ -1,4 +1,5 @@
 pub mod Answers
+pub mod Names
 pub mod Places
 pub mod Running
 pub mod Tracked

@@ -24,6 +24,8 @@ use tree_files::{CheckFault, FileKinds, FolderFiles};
 use tree_words::check_ignore::CheckIgnoreFlags;
 use tree_words::{Options, operands_of};
 
+const NAME: &str = "check-ignore";
+
 /// Tells which paths are ignored.
 pub(crate) fn check_ignore<R: Files + Env + Eprint + AllocGlobal, I: Read, O: Write>(
     rt: &R,
@@ -64,12 +66,12 @@ pub(crate) fn check_ignore<R: Files + Env + Eprint + AllocGlobal, I: Read, O: Wr
     };
     let asked = asked_by_flags(flags, quoting);
     if flags.stdin {
-        refuse_settings_for(rt, alloc, input)?;
+        refuse_settings_for(rt, alloc, NAME, input)?;
         let (_sources, told) = run_check_ignore(alloc, &standpoint, asked, sources, input, output);
         let is_any = answer_of(told, |fault| CheckFault::of_ignore(alloc, fault))?;
         return Ok(status_by(is_any));
     }
-    refuse_settings(rt, alloc)?;
+    refuse_settings(rt, alloc, NAME)?;
     let paths = bytes_of(alloc, &paths)?;
     let (_sources, told) = check_ignore_paths(alloc, &standpoint, asked, sources, &paths, output);
     let is_any = answer_of(told, |fault| CheckFault::of_ignore(alloc, fault))?;

@@ -16,6 +16,7 @@ use crate::list_tracked::{list_index, list_tracked, list_tracked_ignored};
 use crate::listing::{copies_of, run_listing};
 use crate::opening::Purpose;
 use crate::outcomes::ANSWERED;
+use crate::told_name::{refuse_beyond_link, refuse_pattern};
 use gix_glob::search::Watched;
 use std::alloc::{AllocError, Global};
 use std::io::Write;
@@ -50,6 +51,7 @@ pub(crate) fn list_files<R: Files + Env + Clock + Eprint + AllocGlobal + Clone +
         return Ok(ANSWERED);
     }
     let fronts = listing_fronts(rt, alloc, options, flags)?;
+    refuse_pattern(rt, alloc, &fronts.standpoint, folder)?;
     let status = list_found(
         rt,
         alloc,
@@ -126,6 +128,7 @@ fn list_found<R: Files + Env + Clock + Eprint + AllocGlobal + Clone + Drop, O: W
     if !lists_found(flags) {
         return Ok(ANSWERED);
     }
+    refuse_beyond_link(rt, alloc, &fronts.standpoint, folder)?;
     let listing = Listing {
         standpoint: copy_of(&fronts.standpoint)?,
         form: Form::ended_by(flags.nul, fronts.quoting),

@@ -9,6 +9,7 @@ ghost use Rattle.globtree.specs.Answers.{AreFronts, ListsIgnored, ListsIndex, Li
 use crate::fault::{Fault, Result};
 use crate::moving::go_to_folders;
 use crate::outcomes::answer_of;
+use crate::told_name::refuse_pattern;
 use crate::work_tree::index_place;
 use git_index::Index;
 use gix_glob::search::Watched;
@@ -56,6 +57,7 @@ pub(crate) fn list_index<R: Files + Env + AllocGlobal, O: Write>(
     }
     go_to_folders(rt, alloc, options)?;
     let place = index_place(rt, alloc, options)?;
+    refuse_pattern(rt, alloc, &place.standpoint, folder)?;
     let tracked = place.index.read(rt, alloc)?;
     let form = Form::ended_by(nul, place.quoting);
     list_tracked(alloc, &place.standpoint, form, &tracked, folder, output)

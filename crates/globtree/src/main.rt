@@ -20,6 +20,7 @@ mod places;
 mod running;
 mod show_config;
 mod show_status;
+mod told_name;
 mod tracked;
 mod work_tree;
 mod wrong_words;

@@ -1,4 +1,4 @@
-//! The variables of the environment by which Git reads pathspecs otherwise: `check-ignore` takes none that is true.
+//! The variables of the environment by which Git reads pathspecs otherwise: none that is true is taken.
 ghost use Rattle.std.specs.Prelude.{◌≡◌, [], IfOk, IsTrue, OnOk, false};
 ghost use Rattle.std.specs.Io.KnownBytes.{Consumes};
 ghost use Rattle.gix_glob.specs.Watched.{has_failed, inner};
@@ -19,13 +19,13 @@ const NAMES: [&str; 4] = [
     "GIT_ICASE_PATHSPECS",
 ];
 
-/// Refuses a variable that is true, and one that is no boolean, as Git does where a path is asked.
-pub(crate) fn refuse_settings<R: Env>(rt: &R, alloc: Global) -> Result<()> {
+/// Refuses a variable that is true, and one that is no boolean, as Git does where a path is told. The command is named.
+pub(crate) fn refuse_settings<R: Env>(rt: &R, alloc: Global, command: &str) -> Result<()> {
     'names: for name in NAMES {
         if is_true(rt, alloc, name)? {
             return Err(Fault::told(
                 alloc,
-                format_args!("{name} is true: check-ignore takes no such setting"),
+                format_args!("{name} is true: {command} takes no such setting"),
             ));
         }
     }
@@ -36,13 +36,14 @@ pub(crate) fn refuse_settings<R: Env>(rt: &R, alloc: Global) -> Result<()> {
 pub(crate) fn refuse_settings_for<R: Env, I: Read>(
     rt: &R,
     alloc: Global,
+    command: &str,
     input: &mut Watched<I>,
 ) -> Result<()>
     requires { has_failed input.old ≡ false }
     ensures working { OnOk result (has_failed input.new ≡ false) }
     ensures kept { OnOk result (Consumes (I.remaining (inner input.old)) (I.remaining (inner input.new)) []) }
 {
-    let Err(refusal) = refuse_settings(rt, alloc) else {
+    let Err(refusal) = refuse_settings(rt, alloc, command) else {
         return Ok(());
     };
     if is_at_end(input).map_err(Fault::Read)? {

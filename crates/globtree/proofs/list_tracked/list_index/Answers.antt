@@ -16,6 +16,7 @@ returns g c =
       standpoint = place.standpoint;
       quoting = place.quoting;
       tracked = c.in_ok-tracked.tracked;
+      named = c.in_ok-refuse_pattern.ensures;
       of_index = c.in_ok-tracked.ensures;
       listed = subst Told c.ended_by-form.ensures listed;
     } in
