@@ -1,6 +1,7 @@
 # Installs Girvuzhan: make install [PREFIX=/usr/local] [LIBDIR=PREFIX/lib] [DESTDIR=]; in a checkout, make test asks the release and the sources
 #
-# In an unpacked archive nothing is built. In a checkout, what the toolchain has proved and built is gathered before, in out/tree.
+# In an unpacked archive nothing is built. In a checkout, out/tree gets before what the toolchain has proved and built of these sources; where
+# that doesn't stand whole, it is the release.
 # install-programs and install-library are the halves of install; uninstall takes back what it put there; check compares sums.
 PREFIX = /usr/local
 prefix = $(PREFIX)
@@ -33,7 +34,8 @@ library = $(call $(1),include,$(includedir),644) && \
 
 .PHONY: all test install install-programs install-library uninstall check
 all:
-	@[ "$(tree)" = . ] || tools/release --tree out/tree
+	@[ "$(tree)" = . ] || if tools/build --built globline && tools/build --built globtree && tools/build --built gix_glob_c; \
+	then tools/release --tree out/tree; else release=$$(tools/released) && rm -rf out/tree && cp -a "$$release" out/tree; fi >/dev/null
 
 test:
 	@$(if $(wildcard tools/test),tools/test,echo 'the archive has no tests: they lie in the repository' >&2; false)
