@@ -1,4 +1,4 @@
-/* What the checks of the C library share. Each file beside this one has one subject: what no row of crates/glob_rows/data asks of an
+/* What the checks of the C library share. Each file beside this one has one subject: what no row of crates/rows/data asks of an
  * export. They stand without the headers of a C library. */
 #ifndef CHECKS_H
 #define CHECKS_H

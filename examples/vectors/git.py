@@ -138,11 +138,11 @@ def read_configuration(text, words):
 
 
 def config_files(text):
-    if not IS_GIT:
-        return ()
-    listed, wrong = read_configuration(text, ["--list", "-z"])
-    line = re.search(rb"bad config line (\d+)", wrong)
-    return [b"bad " + line[1] if line else b"".join(entry.replace(b"\n", b"=", 1) + b"\n" for entry in listed.split(b"\0")[:-1])]
+    """What the user's file says, outside of a repository."""
+    with rows.folder_of([(b".gitconfig", text)]) as top:
+        ran = subprocess.run([PROGRAM, "config", "--list", "-z"], cwd=top, env={**ALONE, "HOME": top}, capture_output=True, check=False)
+    line = re.search(rb"bad config line (\d+)", ran.stderr)
+    return [b"bad " + line[1] if line else b"".join(entry.replace(b"\n", b"=", 1) + b"\n" for entry in ran.stdout.split(b"\0")[:-1])]
 
 
 # What Git complains of where a file or a word includes what can't be had, or is wrong, and the words for it.
@@ -150,7 +150,7 @@ COMPLAINTS = (
     (rb"missing value for 'include.path'\n.*line (\d+) in file (.*)", b"no path \\1 \\2"),
     (rb"could not expand include path .*\n.*line (\d+) in file (.*)", b"no folder \\1 \\2"),
     (rb"bad config line (\d+) in file (.*)", b"bad \\1 \\2"),
-    (rb"exceeded maximum include depth \(10\) while including\n\t.*\nfrom\n\t(.*)", b"too deep \\1"),
+    (rb"exceeded maximum include depth \(10\) while including[\n?]\t.*[\n?]from[\n?]\t([^\n?]*)", b"too deep \\1"),
     (rb"relative config includes must come from files", b"relative word"),
     (rb"unable to parse command-line config", b"bad word"),
     (rb"remote URLs cannot be configured in file directly or indirectly included", b"url in an included file"),
@@ -177,7 +177,7 @@ def make_git_folder(git_folder, branch):
 
 def config_includes(git_folder, branch, sources, words, *fields):
     """What files and words say with what they include, in a folder that stands for `/top`."""
-    if not IS_GIT or not set(sources.split()) <= READ:
+    if not set(sources.split()) <= READ:
         return ()
     with rows.folder_of([]) as folder:
         top = os.path.realpath(os.fsencode(folder))
@@ -188,8 +188,22 @@ def config_includes(git_folder, branch, sources, words, *fields):
         is_told = b"/top/sys" in sources
         environment = {**ALONE, "HOME": os.fsdecode(top + b"/home"), "GIT_CONFIG_NOSYSTEM": str(int(not is_told)), "GIT_CONFIG_SYSTEM": os.fsdecode(top + b"/sys")}
         options = [part for word in here[1].split(b"\n") if word for part in (b"-c", word)]
-        ran = subprocess.run(["git", *options, "config", "--list", "--show-origin", "-z"], cwd=start, env=environment, capture_output=True, check=False)
-        return [listed(ran, start).replace(top, b"/top")]
+        ran = subprocess.run([PROGRAM, *options, "config", "--list", "--show-origin", "-z"], cwd=start, env=environment, capture_output=True, check=False)
+        told = listed(ran, start).replace(top, b"/top")
+        return [told if IS_GIT else told_as_git(told, words, fields)]
+
+
+def told_as_git(told, words, fields):
+    """What is told by globtree, in the words for what Git tells: globtree tells where a line or word stands that is wrong, and no more."""
+    if told == b"bad word\n" and b"include.path=" in words:
+        return b"relative word\n"
+    if wrong := re.match(rb"bad (\d+) (.*)\n", told):
+        lines = dict(rows.pairs(fields))[wrong[2]].split(b"\n")
+        line = b"".join(lines[int(wrong[1]) - 1 :][:1])
+        return {b"path": b"no path", b"path=~": b"no folder"}.get(line[:6], b"bad") + told.removeprefix(b"bad")
+    # (a long message is cut)
+    front, cut, _ = told.partition(b"...\n")
+    return next(b"too deep " + name + b"\n" for name in fields[::2] if (b"too deep " + name).startswith(front)) if cut else told
 
 
 def listed(ran, start):
@@ -346,21 +360,30 @@ def pathspecs(word):
 
 
 COMMON = ["rev-parse", "--path-format=absolute", "--git-common-dir"]
+OTHER_OWNER = "GIT_TEST_ASSUME_DIFFERENT_OWNER"
+# Runs a command in a folder, while another one is a file system of its own: the folder of the second, that of the first, the command
+ON_A_DEVICE = 'cp -a "$0" "$0~" && mount -t tmpfs none "$0" && cp -a "$0~/." "$0" && cd "$1" && shift && exec "$@"'
 
 
 @contextlib.contextmanager
-def files_of(fields, words):
-    """The top of a folder with the files of a row of repositories, and the words of Git that ask there; the first fields' paths and
-    those in files begin at the top."""
+def files_of(fields, words, has_marks):
+    """The top of a folder with the files of a row of repositories, the words of Git that ask there, and what lines say; the first
+    fields' paths and those in files begin at the top. A mark in a folder is a file with the folder's name in its own."""
     with tempfile.TemporaryDirectory() as top:
         top = os.path.realpath(top)
         placed = lambda text: re.sub(rb"(^|[ =:\n])/", rb"\1" + os.fsencode(top) + b"/", text)
         for name, text in rows.pairs(fields):
             put(top, name.decode(), None if text is None else placed(text))
+        for folder, _, _ in os.walk(top) if has_marks else ():
+            put(folder, folder.removeprefix(top).replace("/", "~") or "~", b"")
         lines = [line.partition("=") for line in placed(words).decode().split("\n") if line]
         options = [it for key, _, value in lines if key.startswith("safe.") for it in ("-c", f"{key}={value}")]
-        variables = {key: value for key, _, value in lines if key.startswith("GIT_")}
-        yield top, options, variables
+        said = {key: value for key, _, value in lines}
+        if OTHER_OWNER in said and not IS_GIT:
+            for path, folders, files in os.walk(top):
+                for it in (path, *(os.path.join(path, name) for name in (*folders, *files))):
+                    os.chown(it, 65534, 65534, follow_symlinks=False)
+        yield top, options, said
 
 
 def put(top, name, text):
@@ -378,11 +401,14 @@ def put(top, name, text):
             it.write(text)
 
 
-def ask_repository(current, words, fields, *asked):
+def ask_repository(current, words, fields, *asked, has_marks=False):
     """What Git tells of the repository of a folder, with paths from the top, or the first words of its fault."""
-    with files_of(fields, words) as (top, options, variables):
-        command = [PROGRAM, *options, *asked]
+    with files_of(fields, words, has_marks) as (top, options, said):
         folder = os.path.join(top, current.decode().lstrip("/"))
+        command = [PROGRAM, *options, *asked]
+        if "device" in said:
+            command = ["unshare", "-m", "sh", "-c", ON_A_DEVICE, said["device"], folder, *command]
+        variables = {key: value for key, value in said.items() if key.startswith("GIT_")}
         ran = subprocess.run(command, cwd=folder, env={**ALONE, **variables}, capture_output=True, check=False)
     told, wrong = (text.decode().replace(top, "") for text in (ran.stdout, ran.stderr))
     fault = re.search(r"^fatal: (.*(\n\t.*)*)", wrong, re.M)
@@ -390,18 +416,44 @@ def ask_repository(current, words, fields, *asked):
 
 
 def repositories(current, words, *fields):
-    if not IS_GIT or b"device=" in words:
+    """The git folder, by its index: that of each has a version of its own, which the fault tells."""
+    if os.geteuid() != 0 and re.search(b"device=|" + OTHER_OWNER.encode(), words):
         return ()
-    told, fault = ask_repository(current, words, fields, "rev-parse", "--absolute-git-dir")
-    return [fault or told]
+    if IS_GIT:
+        told, fault = ask_repository(current, words, fields, "rev-parse", "--absolute-git-dir")
+        return [fault or told]
+    folders = git_folders(fields)
+    indexes = [it for at, folder in enumerate(folders) for it in (folder + b"/index", b"DIRC\0\0\0%c" % (100 + at) + bytes(24))]
+    _, fault = ask_repository(current, words, [*fields, *indexes], "files", "-c")
+    if version := re.search(r"bad index version (\d+)", fault or ""):
+        return [folders[int(version[1]) - 100]]
+    # (of a path that leads nowhere globtree tells all, Git a part)
+    return () if "Invalid path" in fault else [fault]
+
+
+def git_folders(fields):
+    """Folders that are git folders by the names of files."""
+    return [found[1] for name in fields[::2] if (found := re.match(rb"(.*)/(HEAD@?|objects/|/)$", name))]
 
 
 def work_trees(current, words, *fields):
-    if not IS_GIT:
+    """The common folder, by its configuration, which is cut off; and the top, by the mark that lies in no folder."""
+    if IS_GIT:
+        common, fault = ask_repository(current, words, fields, *COMMON)
+        top, none = ask_repository(current, words, fields, "rev-parse", "--show-toplevel")
+        return [fault or common, None if none else top]
+    told, fault = ask_repository(current, words, fields, "status", "-uall", "-z", has_marks=True)
+    if fault and "must be run in a work tree" not in fault:
+        return [fault, None]
+    # (a top that isn't there is no file's)
+    if fault and any(b"worktree=" in (text or b"") for text in fields[1::2]):
         return ()
-    common, fault = ask_repository(current, words, fields, *COMMON)
-    top, none = ask_repository(current, words, fields, "rev-parse", "--show-toplevel")
-    return [fault or common, None if none else top]
+    top = next((it[3:].replace("~", "/") for it in told.split("\0") if it and "/" not in it), None)
+    said = dict(rows.pairs(fields))
+    cut_off = [it for folder in git_folders(fields) for it in (folder + b"/config", said.get(folder + b"/config", b"") + b"\n[")]
+    _, wrong = ask_repository(current, words, [*fields, *cut_off], "check-ignore", "x")
+    common = re.search(r"bad config line \d+ in file (.*)/config$", wrong or "")
+    return [common and os.path.normpath(os.path.join(current.decode(), common[1])), top]
 
 
 def exclude_names(current, words, *fields):

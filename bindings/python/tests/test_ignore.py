@@ -1,4 +1,4 @@
-"""Ignore files and lists of them, where no row of crates/glob_rows/data asks which line decides."""
+"""Ignore files and lists of them, where no row of crates/rows/data asks which line decides."""
 
 import copy
 import io

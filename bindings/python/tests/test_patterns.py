@@ -1,4 +1,4 @@
-"""Patterns and `wildmatch`, where no row of crates/glob_rows/data asks: types, lines that are read back, and modes."""
+"""Patterns and `wildmatch`, where no row of crates/rows/data asks: types, lines that are read back, and modes."""
 
 import copy
 import itertools

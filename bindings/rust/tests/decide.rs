@@ -1,4 +1,4 @@
-//! What decides about a path in a work tree, where no row of `crates/glob_rows/data` asks.
+//! What decides about a path in a work tree, where no row of `crates/rows/data` asks.
 mod lines;
 
 use std::path::Path;

@@ -1,4 +1,4 @@
-//! Lists, where no row of `crates/glob_rows/data` asks: what they hold, what panics, and files.
+//! Lists, where no row of `crates/rows/data` asks: what they hold, what panics, and files.
 use std::fs;
 use std::io::ErrorKind;
 use std::os::unix::fs::symlink;

@@ -1,4 +1,4 @@
-//! Patterns, where no row of `crates/glob_rows/data` asks: every byte of every class, long texts, and lines that are read back.
+//! Patterns, where no row of `crates/rows/data` asks: every byte of every class, long texts, and lines that are read back.
 //! `examples/rows.rs` asks the rows.
 use gix_glob::{Pattern, wildmatch};
 

@@ -1,6 +1,6 @@
 //! What no row asks of the public calls. What comes from outside: readers, writers, memory and files, each call of them failing in turn,
 //! and every real file. And with bytes in memory: many lists, how many patterns an index asks, orders, and texts that are shown. Tests
-//! alone; rows are in `glob_rows`.
+//! alone; rows are in `rows`.
 #![tactic(auto)]
 
 #[cfg(test)]

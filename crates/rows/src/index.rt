@@ -1,0 +1,87 @@
+//! Rows of Git's index: what a file says, and which paths it has.
+
+use crate::answer::{Answer, one, shown, told, two};
+use crate::row::Row;
+use anyhow::Result;
+use git_index::{Entry, Index, IndexFault, Kind, ObjectFormat};
+use std::alloc::{AllocError, Global};
+use tracked_paths::FoldedPaths;
+
+/// How objects are named, by the first field.
+fn format_of(row: &Row) -> ObjectFormat {
+    if row.is(0, b"sha256") {
+        ObjectFormat::Sha256
+    } else {
+        ObjectFormat::Sha1
+    }
+}
+
+/// The index of the first two fields.
+fn index_of(alloc: Global, row: &Row) -> Result<Index, IndexFault> {
+    Index::from_bytes(alloc, row.bytes(1), format_of(row))
+}
+
+/// What an index file says, or a split one and the file that it shares entries with: a line for each entry, or the fault.
+pub(crate) fn index_files(alloc: Global, row: &Row) -> Result<Answer> {
+    let index = match row.rest(2) {
+        [Some(shared), _answer] => Index::from_split(alloc, row.bytes(1), shared, format_of(row)),
+        _ => index_of(alloc, row),
+    };
+    match index {
+        Ok(index) => Ok(one(alloc, Some(lines_of(alloc, index.entries())?))?),
+        Err(IndexFault::Memory) => Err(IndexFault::Memory.into()),
+        Err(fault) => Ok(one(alloc, shown(alloc, &fault)?)?),
+    }
+}
+
+/// A line for each entry: its mode, its stage, a sign for each of its bits, and its path.
+fn lines_of(alloc: Global, entries: &[Entry]) -> Result<Vec<u8>, AllocError> {
+    let mut text = Vec::new(alloc);
+    for entry in entries {
+        text.extend_from_slice(mode_of(entry.kind))?;
+        text.extend_from_slice(&signs_of(entry))?;
+        text.extend_from_slice(&entry.path)?;
+        text.push(b'\n')?;
+    }
+    Ok(text)
+}
+
+/// The mode of a kind, and a space.
+fn mode_of(kind: Kind) -> &'static [u8] {
+    match kind {
+        Kind::File => b"100644 ",
+        Kind::Executable => b"100755 ",
+        Kind::Link => b"120000 ",
+        Kind::Submodule => b"160000 ",
+    }
+}
+
+/// The stage of an entry and its bits, with a space behind each.
+fn signs_of(entry: &Entry) -> [u8; 6] {
+    [
+        b'0'.wrapping_add(entry.stage),
+        b' ',
+        if entry.assume_valid { b'v' } else { b'.' },
+        if entry.skip_worktree { b'S' } else { b'.' },
+        if entry.intent_to_add { b'i' } else { b'.' },
+        b' ',
+    ]
+}
+
+/// Whether a path is tracked in an index file, and whether something below it is.
+pub(crate) fn index_paths(alloc: Global, row: &Row) -> Result<Answer> {
+    let (index, path) = (index_of(alloc, row)?, row.bytes(2));
+    let is_tracked = told(alloc, index.is_tracked(path))?;
+    Ok(two(alloc, is_tracked, told(alloc, index.has_below(path))?)?)
+}
+
+/// Whether an index file has a path, something below it, and a submodule as the last that has it, where case doesn't count. Of its
+/// entries count those whose paths begin with a front.
+pub(crate) fn folded_paths(alloc: Global, row: &Row) -> Result<Answer> {
+    let index = index_of(alloc, row)?.starting_with(alloc, row.bytes(2))?;
+    let (paths, path) = (FoldedPaths::new(alloc, &index)?, row.bytes(3));
+    let mut answer = one(alloc, told(alloc, paths.is_tracked(path))?)?;
+    answer.push(told(alloc, paths.has_below(path))?)?;
+    answer.push(told(alloc, paths.is_submodule(path))?)?;
+    Ok(answer)
+}

@@ -1,0 +1,171 @@
+//! Asks the libraries what rows of data ask, and tells each row whose answer is another one.
+#![tactic(auto)]
+
+mod answer;
+mod attributes;
+mod config;
+mod index;
+mod lines;
+mod lists;
+mod matching;
+mod others;
+mod patterns;
+mod row;
+mod trees;
+
+use crate::answer::Answer;
+use crate::row::{Field, Row};
+use anyhow::{Context, Result, bail};
+use glob_lines::{next_git_line, next_ignore_line};
+use glob_lists::Reading;
+use std::alloc::{AllocError, Global};
+use std::fs;
+use std::process::ExitCode;
+use std::rt::Files;
+
+/// The subjects of the rows that are asked, each of which has a file.
+const SUBJECTS: [&str; 37] = [
+    "matching",
+    "starts",
+    "attempts",
+    "reading",
+    "wildcards",
+    "parts",
+    "shown",
+    "values",
+    "basenames",
+    "repository_paths",
+    "git_reading",
+    "git_paths",
+    "file_parts",
+    "bases",
+    "stripping",
+    "ignore_files",
+    "ignore_lines",
+    "git_files",
+    "git_lines",
+    "marks",
+    "labels",
+    "answered",
+    "listed",
+    "decided",
+    "folders",
+    "pathspecs",
+    "attribute_names",
+    "attributes_kept",
+    "names_read",
+    "records",
+    "index_files",
+    "index_paths",
+    "folded_paths",
+    "safe_directories",
+    "config_sources",
+    "trees_asked",
+    "ignore_runs",
+];
+
+/// What the libraries answer to a row of a subject.
+fn ask(alloc: Global, subject: &str, row: &Row) -> Result<Answer> {
+    match subject {
+        "matching" => matching::matching(alloc, row),
+        "starts" => matching::starts(alloc, row),
+        "attempts" => matching::attempts(alloc, row),
+        "answered" => matching::answered(alloc, row),
+        "reading" => patterns::reading(alloc, row),
+        "git_reading" => patterns::git_reading(alloc, row),
+        "wildcards" => patterns::wildcards(alloc, row),
+        "parts" => patterns::parts(alloc, row),
+        "shown" => patterns::shown_line(alloc, row),
+        "values" => patterns::values(alloc, row),
+        "basenames" => patterns::basenames(alloc, row),
+        "repository_paths" => patterns::repository_paths(alloc, row),
+        "git_paths" => patterns::git_paths(alloc, row),
+        "file_parts" => lists::file_parts(alloc, row),
+        "bases" => lists::bases(alloc, row),
+        "stripping" => lists::stripping(alloc, row),
+        "listed" => lists::listed(alloc, row),
+        "decided" => lists::decided(alloc, row),
+        "folders" => lists::folders(alloc, row),
+        "ignore_files" => lines::files(alloc, row, Reading::Crate),
+        "git_files" => lines::files(alloc, row, Reading::Git),
+        "ignore_lines" => lines::line(alloc, next_ignore_line(row.bytes(0))),
+        "git_lines" => lines::line(alloc, next_git_line(row.bytes(0))),
+        "marks" => lines::marks(alloc, row),
+        "labels" => lines::labels(alloc, row),
+        "pathspecs" => others::spelt_words(alloc, row),
+        "attribute_names" => attributes::attribute_names(alloc, row),
+        "attributes_kept" => attributes::attributes_kept(alloc, row),
+        "names_read" => attributes::names_read(alloc, row),
+        "records" => others::records(alloc, row),
+        "index_files" => index::index_files(alloc, row),
+        "index_paths" => index::index_paths(alloc, row),
+        "folded_paths" => index::folded_paths(alloc, row),
+        "safe_directories" => others::safe_directories(alloc, row),
+        "config_sources" => config::config_sources(alloc, row),
+        "trees_asked" => trees::trees_asked(alloc, row),
+        "ignore_runs" => trees::ignore_runs(alloc, row),
+        _ => bail!("no subject"),
+    }
+}
+
+/// Asks all rows. The status is 1 where an answer is another one.
+fn main(rt: HostRuntime) -> Result<ExitCode> {
+    let mut wrong = 0usize;
+    for subject in SUBJECTS {
+        wrong = wrong.saturating_add(ask_file(&rt, subject)?);
+    }
+    Ok(if wrong == 0 {
+        ExitCode::SUCCESS
+    } else {
+        ExitCode::FAILURE
+    })
+}
+
+/// Asks the rows of a file, and tells how many they are and how many of them have another answer. It answers the second number.
+fn ask_file<R: Files + Print + AllocGlobal>(rt: &R, subject: &str) -> Result<usize> {
+    let name = format!(in rt.alloc(); "{subject}.tsv")?;
+    let bytes = fs::read(rt, name.as_str())?;
+    let (mut rows, mut wrong) = (0usize, 0usize);
+    for (place, line) in bytes.split(|byte| *byte == b'\n').enumerate() {
+        if line.is_empty() || line.starts_with(b"#") {
+            continue;
+        }
+        rows = rows.saturating_add(1);
+        if !is_right(rt, subject, line, place.saturating_add(1))? {
+            wrong = wrong.saturating_add(1);
+        }
+    }
+    println!(rt; "{subject}: {rows} rows, {wrong} wrong")?;
+    Ok(wrong)
+}
+
+/// Whether the answer of a row is the one that the libraries give. If not, the row is told by its line.
+fn is_right<R: Print + AllocGlobal>(
+    rt: &R,
+    subject: &str,
+    line: &[u8],
+    number: usize,
+) -> Result<bool> {
+    let row = Row::of_line(rt.alloc(), line)?;
+    let answer = match ask(rt.alloc(), subject, &row) {
+        Ok(answer) => answer,
+        Err(fault) => bail!("{subject}.tsv:{number}: {fault}"),
+    };
+    if row.ends_with(&answer) {
+        return Ok(true);
+    }
+    let given = text_of(rt.alloc(), &answer)?;
+    println!(rt; "{subject}.tsv:{number}: answered{given}")?;
+    Ok(false)
+}
+
+/// What is shown of an answer.
+fn text_of(alloc: Global, answer: &[Field]) -> Result<String, AllocError> {
+    let mut text = String::new(alloc);
+    for field in answer {
+        text.push('\t')?;
+        let bytes = field.as_deref().unwrap_or(b"\\N");
+        text.push_str(String::from_utf8_lossy(alloc, bytes)?.as_str())?;
+    }
+    Ok(text)
+}
