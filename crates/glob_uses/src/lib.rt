@@ -1,5 +1,5 @@
 //! Short callers of `gix_glob` and `glob_lines`, and a parser, as a stranger would write them: their contracts follow from the
-//! public ones alone. A test calls each once; files are in `glob_faults`.
+//! public ones alone. A test calls each once; files are in `.ci/rough`.
 #![tactic(auto)]
 
 ghost use Rattle.std.specs.Prelude.{◌≡◌, ◌↔◌, true, false, map, IfOk, IsTrue};

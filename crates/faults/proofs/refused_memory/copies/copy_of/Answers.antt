@@ -2,7 +2,7 @@
 use Rattle.std.proofs.Common.{◌≡◌, get_or, rules}
 use Rattle.std.proofs.lemmas.List.Elements.{same_from_all_zip}
 use Rattle.std.proofs.lemmas.Slice.Eq.{bytes_eq-Decides}
-use Rattle.glob_faults.proofs.refused_memory.copies.copy_of.Goals as goal
+use Rattle.faults.proofs.refused_memory.copies.copy_of.Goals as goal
 
 pub clone-requires : goal.clone-requires
 clone-requires c = λ k d below copy is.

@@ -45,7 +45,7 @@ fn path_of(rt: &HostRuntime) -> Result<String, Fail> {
     let number = process::id(rt.process());
     let folder = env::temp_dir(rt)?;
     let folder = folder.as_str();
-    Ok(format!(in rt.alloc(); "{folder}/glob_faults-lines-{number}")?)
+    Ok(format!(in rt.alloc(); "{folder}/faults-lines-{number}")?)
 }
 
 #[test]

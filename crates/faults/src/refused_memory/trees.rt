@@ -6,7 +6,7 @@ use std::test::Fail;
 
 #[test]
 fn trees_ask_for_folders(rt: HostRuntime) -> Result<(), Fail> {
-    let mut tree = tree_of(rt.alloc(), 0, Vec::new(rt.alloc()))?;
+    let mut tree = tree_of(rt.alloc(), 0)?;
     let first = answer_of(&mut tree, b"a/b/x");
     // the call after one that was refused memory answers
     let second = answer_of(&mut tree, b"a/b/x");

@@ -1,10 +1,10 @@
-//! Trees whose source fails: the fault is told, and the next call answers right. And a deep tree, with a list before all folders.
+//! Trees whose source fails: the fault is told, and the next call answers right.
 use crate::compare::same;
 use gix_glob::pattern::Case;
 use gix_glob::search::Pattern as _;
 use gix_glob::search::pattern::List;
 use glob_lines::IgnoreLines;
-use glob_lists::{PreparedList, Reading, RepositoryPath, Rules};
+use glob_lists::{Reading, RepositoryPath, Rules};
 use glob_trees::{FolderLists, Tree, TreeFault, list_in_folder};
 use std::alloc::{AllocError, Global};
 use std::process::Abort;
@@ -77,15 +77,11 @@ impl FolderLists<IgnoreLines> for Failing {
     fn forget(&mut self) {}
 }
 
-/// The tree of the source whose call of this number fails, with lists before all folders.
-pub(crate) fn tree_of(
-    alloc: Global,
-    fails_at: usize,
-    fronts: Vec<PreparedList<IgnoreLines>>,
-) -> Result<Tree<IgnoreLines, Failing>, Fail> {
+/// The tree of the source whose call of this number fails.
+pub(crate) fn tree_of(alloc: Global, fails_at: usize) -> Result<Tree<IgnoreLines, Failing>, Fail> {
     let source = Failing::at(alloc, fails_at);
-    let tree = Tree::new(alloc, source, fronts, Rules::by_crate(Case::Sensitive));
-    Ok(tree.ok_or("a tree")?)
+    let rules = Rules::by_crate(Case::Sensitive);
+    Ok(Tree::new(alloc, source, Vec::new(alloc), rules).ok_or("a tree")?)
 }
 
 /// Which pattern decides about the path of a line.
@@ -107,7 +103,7 @@ fn faults_told(rt: &(impl Abort + AllocGlobal), fails_at: usize) -> Result<u32, 
         (b"a/x", Some((1, 0))),
         (b"a/b/c", None),
     ];
-    let mut tree = tree_of(rt.alloc(), fails_at, Vec::new(rt.alloc()))?;
+    let mut tree = tree_of(rt.alloc(), fails_at)?;
     let mut told = 0u32;
     for (line, wanted) in paths {
         let mut answer = answer_of(&mut tree, line);
@@ -125,32 +121,6 @@ fn the_call_after_a_fault_answers(rt: HostRuntime) -> Result<(), Fail> {
     for (fails_at, wanted) in [0, 1, 1, 1, 0].into_iter().enumerate() {
         let told = faults_told(&rt, fails_at)?;
         same(&rt, told == wanted, "how often a fault is told", fails_at);
-    }
-    Ok(())
-}
-
-/// How many folders of the deep path lie in one another.
-const DEPTH: usize = 200;
-
-/// A list before all folders.
-fn front(alloc: Global) -> Result<Vec<PreparedList<IgnoreLines>>, AllocError> {
-    let mut excludes = List::empty(alloc);
-    excludes.patterns = LINES.bytes_to_patterns(alloc, b"q\nx\ny\n", "")?;
-    let mut fronts = Vec::new(alloc);
-    fronts.push(PreparedList::new(alloc, excludes))?;
-    Ok(fronts)
-}
-
-#[test]
-fn deep_folders_and_lists_before_all_are_asked(rt: HostRuntime) -> Result<(), Fail> {
-    let mut line = b"a/".repeat(rt.alloc(), DEPTH)?;
-    line.push(b'x')?;
-    // the list before all folders, that of the top, and that of `a`
-    let rows: [(&[u8], (usize, usize)); 3] = [(&line, (2, 0)), (b"x", (1, 0)), (b"a/y", (0, 2))];
-    let mut tree = tree_of(rt.alloc(), 0, front(rt.alloc())?)?;
-    for (row, (line, wanted)) in rows.into_iter().enumerate() {
-        let answer = answer_of(&mut tree, line);
-        same(&rt, answer == Ok(Some(wanted)), "what decides", row);
     }
     Ok(())
 }
