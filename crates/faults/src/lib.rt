@@ -1,5 +1,5 @@
-//! What no row asks of the public calls and no program shows: readers, writers and sources that fail, and memory that is refused, each
-//! call in turn; and with bytes in memory: how many patterns an index asks, orders, and texts that are shown. Tests alone.
+//! What no row asks of the public calls and no program shows: readers, writers, files and sources that fail, and memory that is refused,
+//! each call in turn; and with bytes in memory: how many patterns an index asks, orders, and texts that are shown. Tests alone.
 #![tactic(auto)]
 
 #[cfg(test)]
@@ -8,6 +8,8 @@ mod asked;
 mod compare;
 #[cfg(test)]
 mod fakes;
+#[cfg(test)]
+mod files;
 #[cfg(test)]
 mod lists;
 #[cfg(test)]
