@@ -1,5 +1,5 @@
 use Rattle.globtree.proofs.lemmas.FrontLemmas.{file_spells}
 use Rattle.globtree.proofs.excludes.named_excludes.Goals as goal
 
-pub returns-in-Ok : goal.returns-in-Ok
-returns-in-Ok g c = file_spells _ _ c.named_list.ensures
+pub returns-in-Ok-Some : goal.returns-in-Ok-Some
+returns-in-Ok-Some g c = file_spells _ _ (rw c.in-Ok-Some.field-0-is at c.in-Ok-Some.ensures)
