@@ -10,8 +10,6 @@ mod parts;
 mod reading;
 mod real_path;
 mod sight;
-#[cfg(test)]
-mod tests;
 mod user;
 mod users;
 mod variables;

@@ -199,12 +199,10 @@ impl Reader {
 
     /// Repeats the text behind the `{`.
     fn repeat(&mut self) -> Result<(), AllocError> {
-        let text = Vec::from_slice(self.alloc, self.field.get(self.start..).unwrap_or(b""))?;
-        for _ in 1..self.times {
-            self.field.extend_from_slice(&text)?;
-        }
+        let text = self.field.get(self.start..).unwrap_or(b"");
+        let rest = text.repeat(self.alloc, self.times.saturating_sub(1))?;
         self.times = 0;
-        Ok(())
+        self.field.extend_from_slice(&rest)
     }
 }
 
