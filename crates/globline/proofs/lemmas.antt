@@ -1,3 +1,2 @@
 pub mod IgnoreFilesLemmas
-pub mod TopicsLemmas
 pub mod WordsLemmas

@@ -1,4 +1,1 @@
-pub mod Names
-pub mod Private
-pub mod Topics
 pub mod Words

@@ -1,4 +1,4 @@
--- What the words of the command line ask for, and what is done then.
+-- What the words of the command line ask for, and what is done or told then.
 use Rattle.std.specs.Prelude.{◌≡◌, ◌≢◌, ◌⊎◌, ℕ, Bool, true, false, List, [], ◌∷◌, map, Option, None, Some, codes, string_bytes}
 use Rattle.std.specs.List.{list_all}
 use Rattle.std.specs.Option.{option_copied}
@@ -12,8 +12,6 @@ use Rattle.glob_lines.specs.Ignore.{Ignore}
 use Rattle.glob_lines.specs.Mappings.{MappingsText}
 use Rattle.glob_lines.specs.Transfers.{ReadsWhole, Run}
 use Rattle.glob_lines.specs.Values.{ValuesText}
-use Rattle.globline.specs.Topics.{AskAbout}
-use Rattle.globline.specs.declared.topic.Topic.{Topic}
 use Rattle.globline.specs.declared.command.Command.{Command}
 use Rattle.globline.specs.declared.command.Command.TheVariants as command
 
@@ -69,15 +67,14 @@ Ask words (command.List case file root) = AskList words case file.now (option_co
 Ask words (command.Ignore case root files) = AskIgnore words case (option_copied root) (map string_bytes files.now)
 
 -- the words ask for no command
-pub record AskNoCommand (words : List (List ℕ)) : Type 0 where
+pub record AreWrong (words : List (List ℕ)) : Type 0 where
   pub wild : (mode : Mode) (pattern : List ℕ) → ¬ AskWild words mode pattern
   pub list : (case : Case) (file : List ℕ) (root : Option (List ℕ)) → ¬ AskList words case file root
   pub ignore : (case : Case) (root : Option (List ℕ)) (files : List (List ℕ)) → ¬ AskIgnore words case root files
 
--- the words ask for nothing that the program does
-pub record AreWrong (words : List (List ℕ)) : Type 0 where
-  pub about : (topic : Topic) → ¬ AskAbout words topic
-  pub command : AskNoCommand words
+-- how the program is used, as it is told after wrong words
+abbrev pub usage : List ℕ
+usage = codes "usage: globline wild plain|fold|path|path-fold PATTERN\n       globline list sensitive|fold FILE ROOT\n       globline ignore sensitive|fold ROOT FILE..\n"
 
 -- the list is what the bytes of an ignore file mean, with the base of the file under the root
 pub record IsIgnoreList (bytes file : List ℕ) (root : Option (List ℕ)) (list : EntryList (Unit {0})) : Type 0 where

@@ -5,7 +5,7 @@ ghost use Rattle.std.specs.Option.{option_copied};
 ghost use Rattle.gix_glob.specs.declared.pattern.Case.{Case};
 ghost use Rattle.gix_glob.specs.declared.wildmatch.Mode.{Mode};
 ghost use Rattle.gix_glob.specs.Paths.{has_file_part};
-ghost use Rattle.globline.specs.Words.{Ask, AskIgnore, AskList, AskNoCommand, AskWild, NamesCase, NamesMode, NamesRoot, are_files};
+ghost use Rattle.globline.specs.Words.{AreWrong, Ask, AskIgnore, AskList, AskWild, NamesCase, NamesMode, NamesRoot, are_files};
 
 use bitflags::Flags;
 use gix_glob::pattern::Case;
@@ -33,9 +33,9 @@ pub(crate) enum Command<'a> {
     },
 }
 
-/// The command that the words ask for; `None` where they ask for none.
+/// What the words ask for, or nothing where they are wrong.
 pub(crate) fn command_of(words: &[String]) -> Option<Command<'_>>
-    ensures { MatchOption result (AskNoCommand (map string_bytes words.now)) (Ask (map string_bytes words.now)) }
+    ensures { MatchOption result (AreWrong (map string_bytes words.now)) (Ask (map string_bytes words.now)) }
 {
     if let Some(command) = wild_of(words) {
         return Some(command);
@@ -126,7 +126,7 @@ fn mode_of(word: &str) -> Option<Mode>
 }
 
 /// Whether case counts, as a word says.
-pub(crate) fn case_of(word: &str) -> Option<Case>
+fn case_of(word: &str) -> Option<Case>
     ensures { MatchOption result ((case : Case) → ¬ NamesCase word.now case) (NamesCase word.now) }
 {
     match word {

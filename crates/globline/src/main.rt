@@ -3,10 +3,6 @@
 
 mod command;
 mod ignore_files;
-mod names;
-mod texts;
-mod topic;
-mod word_fault;
 mod words;
 
 use gix_glob::search::Watched;
@@ -18,19 +14,13 @@ pub use words::run_words;
 fn main(rt: HostRuntime) -> ExitCode {
     // no file that is opened takes the place of a closed stream
     let _stand_ins = stand_ins(&rt);
+    let alloc = rt.alloc();
     let mut errors = rt.stderr();
     let status = match command_line(&rt) {
         Ok(words) => {
             let mut input = Watched::new(rt.stdin());
             let mut output = Watched::new(rt.stdout());
-            run_words(
-                &rt,
-                rt.alloc(),
-                &words,
-                &mut input,
-                &mut output,
-                &mut errors,
-            )
+            run_words(&rt, alloc, &words, &mut input, &mut output, &mut errors)
         }
         Err(refused) => words::without_words(refused.kind(), &mut errors),
     };

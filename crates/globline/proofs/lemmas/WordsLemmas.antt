@@ -12,8 +12,7 @@ use Rattle.glob_lines.specs.Transfers.{ReadsWhole, Run}
 use Rattle.glob_lines.specs.Values.{ValuesText}
 use Rattle.glob_lines.specs.declared.fault.EngineFault.{EngineFault}
 use Rattle.glob_lines.specs.declared.fault.EngineFault.TheVariants.{Memory, Read, Write}
-use Rattle.globline.specs.Words.{AnswersWords, AreIgnoreLists, Ask, AskNoCommand}
-use Rattle.globline.specs.Private.Commands.{CarriesOut}
+use Rattle.globline.specs.Words.{AnswersCommand, AnswersWords, AreIgnoreLists, Ask}
 use Rattle.globline.specs.declared.command.Command.{Command}
 use Rattle.globline.specs.declared.command.Command.TheVariants as command
 
@@ -47,6 +46,10 @@ map-of_three_and_more f (x ∷ y ∷ z ∷ xs) a b c low p q r =
     cc
 
 -- ---- the engines
+
+-- the command was carried out
+abbrev pub CarriesOut : Command → Option (List ℕ) → Option (List ℕ) → (List ℕ → Type 0) → Type 0
+CarriesOut asked input_old input_new Written = Run (ReadsWhole input_old input_new) (AnswersCommand asked) Written
 
 -- what each engine did carries its command out
 module _ (input_old input_new : Option (List ℕ)) (Written : List ℕ → Type 0) where
@@ -94,9 +97,3 @@ pub or_answers_words : {P : Type 0} (words : List (List ℕ)) (asked : Command) 
 or_answers_words words asked input_old input_new Written asks (inl stopped) = inl stopped
 or_answers_words words asked input_old input_new Written asks (inr done) =
     inr (answers_words words asked input_old input_new Written asks done)
-
--- words that ask for a command don't ask for none
-pub asks_one : (words : List (List ℕ)) (asked : Command) → Ask words asked → ¬ AskNoCommand words
-asks_one words (command.Wild mode pattern) asks none = none.wild mode pattern.now asks
-asks_one words (command.List case file root) asks none = none.list case file.now (option_copied root) asks
-asks_one words (command.Ignore case root files) asks none = none.ignore case (option_copied root) (map string_bytes files.now) asks

@@ -1,9 +1,23 @@
 -- The engine that the command asks for does what it asks.
 use Rattle.std.proofs.lemmas.Result.{on_ok_weaker}
-use Rattle.std.proofs.Common.{map}
+use Rattle.std.proofs.Common.{map, subst}
+use Rattle.std.specs.Option.{option_copied}
+use Rattle.std.specs.String.{string_bytes}
 use Rattle.gix_glob.specs.EntryLists.{entry_list_of}
 use Rattle.globline.proofs.lemmas.WordsLemmas.{carries_out_ignore, carries_out_list, carries_out_wild, on_each_fault}
-use Rattle.globline.proofs.command.Command.run.Goals as goal
+use Rattle.globline.specs.Words.{Ask, AskIgnore, AskList}
+use Rattle.globline.proofs.words.run.Goals as goal
+
+-- what the words ask for, which say so of this command
+pub run_list-requires-file : goal.run_list-requires-file
+run_list-requires-file g c = λ root given.
+    let asked : AskList c.requires.asked.0 c.in-List.case c.in-List.file.now (option_copied c.in-List.root) = subst (Ask c.requires.asked.0) c.in-List.is c.requires.asked.1 in
+    asked.filed
+
+pub lists_of-requires : goal.lists_of-requires
+lists_of-requires g c =
+    let asked : AskIgnore c.requires.asked.0 c.in-Ignore.case (option_copied c.in-Ignore.root) (map string_bytes c.in-Ignore.files.now) = subst (Ask c.requires.asked.0) c.in-Ignore.is c.requires.asked.1 in
+    asked.filed
 
 pub returns-in-Wild : goal.returns-in-Wild
 returns-in-Wild g c = rw c.in-Wild.is (record {
