@@ -9,8 +9,8 @@ use Rattle.globline.specs.Words.{Ask, AskIgnore, AskList}
 use Rattle.globline.proofs.words.run.Goals as goal
 
 -- what the words ask for, which say so of this command
-pub run_list-requires-file : goal.run_list-requires-file
-run_list-requires-file g c = λ root given.
+pub run_list-requires-clause-file : goal.run_list-requires-clause-file
+run_list-requires-clause-file g c = λ root given.
     let asked : AskList c.requires.asked.0 c.in-List.case c.in-List.file.now (option_copied c.in-List.root) = subst (Ask c.requires.asked.0) c.in-List.is c.requires.asked.1 in
     asked.filed
 
