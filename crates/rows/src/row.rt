@@ -199,10 +199,12 @@ impl Reader {
 
     /// Repeats the text behind the `{`.
     fn repeat(&mut self) -> Result<(), AllocError> {
-        let text = self.field.get(self.start..).unwrap_or(b"");
-        let rest = text.repeat(self.alloc, self.times.saturating_sub(1))?;
+        let text = Vec::from_slice(self.alloc, self.field.get(self.start..).unwrap_or(b""))?;
+        for _ in 1..self.times {
+            self.field.extend_from_slice(&text)?;
+        }
         self.times = 0;
-        self.field.extend_from_slice(&rest)
+        Ok(())
     }
 }
 
