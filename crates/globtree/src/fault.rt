@@ -17,10 +17,31 @@ pub(crate) enum Fault {
     /// Memory was refused.
     #[error("no memory")]
     Memory(#[from(alloc)] AllocError),
-    /// What the same words tell, wherever it happens.
-    #[error("{0}")]
-    Message(&'static str),
-    /// What is told of a name.
+    /// A path was asked about that needs a work tree.
+    #[error("there is no work tree")]
+    NoWorkTree,
+    /// The configuration was asked about of a top that has none.
+    #[error("with --top no configuration is read")]
+    NoConfiguration,
+    /// The configuration was asked about, and no key was told.
+    #[error("one key is asked for")]
+    NoKey,
+    /// A git folder is told without a work tree, and GIT_IMPLICIT_WORK_TREE isn't true.
+    #[error("the variable GIT_IMPLICIT_WORK_TREE isn't read")]
+    ImplicitWorkTree,
+    /// GIT_CONFIG is set, which names the one file that counts for Git then.
+    #[error("the variable GIT_CONFIG isn't read")]
+    ConfigFile,
+    /// A tree has more folders than a listing can count.
+    #[error("a tree without an end")]
+    EndlessTree,
+    /// The input has more records than can be counted.
+    #[error("records without an end")]
+    EndlessRecords,
+    /// An earlier write failed.
+    #[error("writing")]
+    Unwritten,
+    /// What is told in words of its own.
     #[error("{0}")]
     Text(String),
     /// A read of the input failed.
@@ -41,7 +62,7 @@ pub(crate) enum Fault {
 }
 
 impl Fault {
-    /// What is told of a name, by its text.
+    /// A fault that is told by this text.
     pub(crate) fn told<D: Display + Drop>(alloc: Global, text: D) -> Fault {
         match format!(in alloc; "{text}") {
             Ok(text) => Fault::Text(text),

@@ -44,7 +44,7 @@ pub(crate) fn list_files<R: Files + Env + Clock + Eprint + AllocGlobal + Clone +
     ensures answered { IfOk result (λ _. AnswersFiles options.entry flags folder.now (O.contents (inner output.old)) (O.contents (inner output.new))) }
 {
     if let Some(message) = flags.disagreement() {
-        return Err(Fault::Message(message));
+        return Err(Fault::told(alloc, message));
     }
     if lists_index(flags) && options.top.is_none() {
         list_index(rt, alloc, options, flags.nul, folder, output)?;
@@ -199,7 +199,7 @@ fn list_tracked_by<R: Files + Env + Eprint + AllocGlobal, O: Write>(
         return Ok(());
     }
     if output.failed() {
-        return Err(Fault::Message("writing"));
+        return Err(Fault::Unwritten);
     }
     let form = Form::ended_by(flags.nul, fronts.quoting);
     let case = case_of(options, fronts.folds);

@@ -53,7 +53,7 @@ pub(crate) fn list_index<R: Files + Env + AllocGlobal, O: Write>(
     ensures { OnOk result (ListsIndex nul folder.now (O.contents (inner output.old)) (O.contents (inner output.new))) }
 {
     if output.failed() {
-        return Err(Fault::Message("writing"));
+        return Err(Fault::Unwritten);
     }
     go_to_folders(rt, alloc, options)?;
     let place = index_place(rt, alloc, options)?;

@@ -43,7 +43,7 @@ pub(crate) fn run_listing<R: Files + Env + Clock + Eprint + AllocGlobal + Clone 
         Ok(()) if source.end() => Ok(NOT_ALL_LISTED),
         Ok(()) => Ok(ANSWERED),
         Err(FilesFault::Write(error)) => Err(Fault::Write(error)),
-        Err(FilesFault::Endless) => Err(Fault::Message("a tree without an end")),
+        Err(FilesFault::Endless) => Err(Fault::EndlessTree),
         Err(FilesFault::Source(fault)) => Err(fault.into()),
         Err(FilesFault::Outside) => Err(CheckFault::of_lead(
             alloc,

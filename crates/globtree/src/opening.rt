@@ -59,7 +59,7 @@ impl Asked {
     {
         let environment = with_options(self.variables.environment(), options);
         if denies_work_tree(&environment, self.variables.implicit_work_tree.as_deref()) {
-            return Err(Fault::Message("the variable GIT_IMPLICIT_WORK_TREE isn't read"));
+            return Err(Fault::ImplicitWorkTree);
         }
         Ok(environment)
     }

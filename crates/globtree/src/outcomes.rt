@@ -32,6 +32,6 @@ pub(crate) fn answer_of<T, F: Drop, W: FnOnce(F) -> CheckFault>(
         Err(RecordFault::Memory) => Err(AllocError.into()),
         Err(RecordFault::Read(error)) => Err(Fault::Read(error)),
         Err(RecordFault::Write(error)) => Err(Fault::Write(error)),
-        Err(RecordFault::Endless) => Err(Fault::Message("records without an end")),
+        Err(RecordFault::Endless) => Err(Fault::EndlessRecords),
     }
 }

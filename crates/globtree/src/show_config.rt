@@ -41,10 +41,10 @@ pub(crate) fn show_config<R: Files + Env + Eprint + AllocGlobal, O: Write>(
         return Ok(tell_misuse(rt, CommandName::Config, wrong));
     }
     if options.top.is_some() {
-        return Err(Fault::Message("with --top no configuration is read"));
+        return Err(Fault::NoConfiguration);
     }
     if variable(rt, alloc, "GIT_CONFIG")?.is_some() {
-        return Err(Fault::Message("the variable GIT_CONFIG isn't read"));
+        return Err(Fault::ConfigFile);
     }
     go_to_folders(rt, alloc, options)?;
     let config = config_here(rt, alloc, options)?;
@@ -53,7 +53,7 @@ pub(crate) fn show_config<R: Files + Env + Eprint + AllocGlobal, O: Write>(
     }
     match only(keys) {
         Some(word) => show_key(rt, alloc, &config, flags, word, output),
-        None => Err(Fault::Message("one key is asked for")),
+        None => Err(Fault::NoKey),
     }
 }
 

@@ -24,9 +24,6 @@ use told_paths::{Quoting, Standpoint, below_folder};
 use tree_files::path_text;
 use tree_words::Options;
 
-/// What is told where nothing names a work tree.
-const NO_WORK_TREE: &str = "there is no work tree";
-
 /// What counts for all paths of a work tree, whose top is the current folder.
 #[derive(Drop)]
 pub(crate) struct WorkTree {
@@ -112,7 +109,7 @@ fn tree_of_repository<R: Files + Env + AllocGlobal>(
     let current = from_root(alloc, &here)?;
     let opened = open_here(rt, alloc, options, &current, purpose)?;
     let Some(top) = opened.top.as_deref() else {
-        return Err(Fault::Message(NO_WORK_TREE));
+        return Err(Fault::NoWorkTree);
     };
     let top = path_text(alloc, &told_from(alloc, &current, top)?)?;
     let top = go_to_top(rt, alloc, top.as_str())?;
@@ -135,9 +132,7 @@ fn tree_at(
     let git_folder = told_from(alloc, current, &opened.git_folder)?;
     let index = index_file_of(alloc, current, &opened)?;
     let listing_excludes = listing_excludes(alloc, current, is_outside, &opened.core.excludes)?;
-    let Some(own_excludes) = opened.exclude_name else {
-        return Err(Fault::Message(NO_WORK_TREE));
-    };
+    let own_excludes = opened.exclude_name.ok_or(Fault::NoWorkTree)?;
     Ok(WorkTree {
         standpoint,
         folds: opened.core.ignore_case,
