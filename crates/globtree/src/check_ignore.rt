@@ -43,7 +43,7 @@ pub(crate) fn check_ignore<R: Files + Env + Eprint + AllocGlobal, I: Read, O: Wr
 {
     let paths = operands_of(alloc, words)?.words;
     if let Some(message) = flags.disagreement(paths.len()) {
-        return Err(Fault::told(alloc, message));
+        return Err(Fault::told(String::from_str(alloc, message)));
     }
     let fronts = fronts_of(rt, alloc, options, index_by(flags))?;
     let Fronts {

@@ -23,8 +23,8 @@ pub(crate) fn named_excludes<R: Files>(
     let source = String::from_str(alloc, name)?;
     match named_list(rt, alloc, source, &mut bytes, BY_GIT) {
         Ok(Some(list)) => Ok(list),
-        Ok(None) => Err(Fault::told(alloc, format_args!("'{name}' is no file"))),
-        Err(fault) => Err(Fault::told(alloc, format_args!("'{name}': {fault}"))),
+        Ok(None) => Err(Fault::told(format!(in alloc; "'{name}' is no file"))),
+        Err(fault) => Err(Fault::told(format!(in alloc; "'{name}': {fault}"))),
     }
 }
 
@@ -37,7 +37,7 @@ pub(crate) fn excludes<R: Files + Eprint>(
     ensures { IfOk result (λ list. IsOfSomeFile (entry_list_of (λ _. tt) list)) }
 {
     if fs::metadata(rt, file.as_str()).is_ok_and(|found| found.is_dir()) {
-        return Err(Fault::told(alloc, format_args!("cannot use {file} as an exclude file")));
+        return Err(Fault::told(format!(in alloc; "cannot use {file} as an exclude file")));
     }
     let mut bytes = Vec::new(alloc);
     Ok(file_list(rt, alloc, file, &mut bytes, BY_GIT)?)

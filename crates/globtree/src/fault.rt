@@ -2,8 +2,7 @@
 
 use opened_repository::OpenFault;
 use repository_files::{ConfigFileFault, VariableFault};
-use std::alloc::{AllocError, Global};
-use std::fmt::Display;
+use std::alloc::AllocError;
 use std::io;
 use thiserror::Error;
 use tree_files::CheckFault;
@@ -62,9 +61,9 @@ pub(crate) enum Fault {
 }
 
 impl Fault {
-    /// A fault that is told by this text.
-    pub(crate) fn told<D: Display + Drop>(alloc: Global, text: D) -> Fault {
-        match format!(in alloc; "{text}") {
+    /// A fault that is told by this text, or that there was no memory for it.
+    pub(crate) fn told(text: Result<String, AllocError>) -> Fault {
+        match text {
             Ok(text) => Fault::Text(text),
             Err(refused) => Fault::Memory(refused),
         }

@@ -44,7 +44,7 @@ pub(crate) fn list_files<R: Files + Env + Clock + Eprint + AllocGlobal + Clone +
     ensures answered { IfOk result (λ _. AnswersFiles options.entry flags folder.now (O.contents (inner output.old)) (O.contents (inner output.new))) }
 {
     if let Some(message) = flags.disagreement() {
-        return Err(Fault::told(alloc, message));
+        return Err(Fault::told(String::from_str(alloc, message)));
     }
     if lists_index(flags) && options.top.is_none() {
         list_index(rt, alloc, options, flags.nul, folder, output)?;

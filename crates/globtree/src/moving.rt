@@ -16,7 +16,7 @@ pub(crate) fn go_to_folders<R: Files + Env>(
     for folder in &values_of(alloc, options.words, "-C")? {
         if !folder.is_empty() {
             env::set_current_dir(rt, *folder).map_err(|error| {
-                Fault::told(alloc, format_args!("cannot change to '{folder}': {error}"))
+                Fault::told(format!(in alloc; "cannot change to '{folder}': {error}"))
             })?;
         }
     }
@@ -29,10 +29,9 @@ pub(crate) fn go_to_top<R: Files + Env + AllocGlobal>(
     alloc: Global,
     top: &str,
 ) -> Result<Vec<u8>> {
-    env::set_current_dir(rt, top).map_err(|error| Fault::told(
-        alloc,
-        format_args!("the top {top}: {error}"),
-    ))?;
+    env::set_current_dir(rt, top).map_err(|error| Fault::told(format!(in alloc;
+        "the top {top}: {error}"
+    )))?;
     current_folder(rt, alloc)
 }
 
@@ -46,8 +45,7 @@ pub(crate) fn current_folder<R: Env + AllocGlobal>(rt: &R, alloc: Global) -> Res
 
 /// The path of the current folder from the root, without links.
 pub(crate) fn current_path<R: Env + AllocGlobal>(rt: &R, alloc: Global) -> Result<PathBuf> {
-    env::current_dir(rt).map_err(|error| Fault::told(
-        alloc,
-        format_args!("the current folder: {error}"),
-    ))
+    env::current_dir(rt).map_err(|error| Fault::told(format!(in alloc;
+        "the current folder: {error}"
+    )))
 }

@@ -143,7 +143,7 @@ fn go_to_place<R: Files + Env>(rt: &R, alloc: Global, place: &ConfigPlace) -> Re
     if let Some(top) = &place.top {
         let top = path_text(alloc, top)?;
         env::set_current_dir(rt, top.as_str()).map_err(|error| {
-            Fault::told(alloc, format_args!("the top of the work tree: {error}"))
+            Fault::told(format!(in alloc; "the top of the work tree: {error}"))
         })?;
     }
     Ok(())

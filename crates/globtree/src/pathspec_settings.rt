@@ -23,10 +23,9 @@ const NAMES: [&str; 4] = [
 pub(crate) fn refuse_settings<R: Env>(rt: &R, alloc: Global, command: &str) -> Result<()> {
     'names: for name in NAMES {
         if is_true(rt, alloc, name)? {
-            return Err(Fault::told(
-                alloc,
-                format_args!("{name} is true: {command} takes no such setting"),
-            ));
+            return Err(Fault::told(format!(in alloc;
+                "{name} is true: {command} takes no such setting"
+            )));
         }
     }
     Ok(())

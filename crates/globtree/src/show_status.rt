@@ -42,7 +42,7 @@ pub(crate) fn show_status<R: Files + Env + Clock + Eprint + AllocGlobal + Clone 
     let ground = ground_of(rt, alloc, options, Purpose::Status)?;
     let flags = flags_by(flags, ground.tree.untracked);
     if let Some(message) = flags.disagreement(operands.len()) {
-        return Err(Fault::told(alloc, message));
+        return Err(Fault::told(String::from_str(alloc, message)));
     }
     if !flags.tells_untracked() {
         // Git reads the index, too, and ends at its faults

@@ -30,20 +30,16 @@ pub(crate) fn refuse_pattern<R: Env>(
     }
     refuse_settings(rt, alloc, "files")?;
     if told.as_bytes().starts_with(b":") {
-        return Err(Fault::told(
-            alloc,
-            format_args!(
-                "'{told}' has a colon in front, which isn't of a path to Git: files takes a name"
-            ),
-        ));
+        return Err(Fault::told(format!(in alloc;
+            "'{told}' has a colon in front, which isn't of a path to Git: files takes a name"
+        )));
     }
     let path = led_path(alloc, standpoint, told)?;
     if has_special(&path) {
         let path = path_text(alloc, &path)?;
-        return Err(Fault::told(
-            alloc,
-            format_args!("'{path}' may be a pattern of paths to Git: files takes a name"),
-        ));
+        return Err(Fault::told(format!(in alloc;
+            "'{path}' may be a pattern of paths to Git: files takes a name"
+        )));
     }
     Ok(())
 }

@@ -37,7 +37,7 @@ impl IndexFile {
         match read {
             Ok(index) => Ok(index),
             Err(IndexFault::Memory) => Err(AllocError.into()),
-            Err(fault) => Err(Fault::told(alloc, format_args!("{}: {fault}", self.name))),
+            Err(fault) => Err(Fault::told(format!(in alloc; "{}: {fault}", self.name))),
         }
     }
 
@@ -72,13 +72,10 @@ impl IndexFile {
                 return Ok(bytes);
             }
         }
-        Err(Fault::told(
-            alloc,
-            format_args!(
-                "{}: the shared file 'sharedindex.{hash}' isn't there",
-                self.name
-            ),
-        ))
+        Err(Fault::told(format!(in alloc;
+            "{}: the shared file 'sharedindex.{hash}' isn't there",
+            self.name
+        )))
     }
 }
 
@@ -97,18 +94,15 @@ fn bytes_of<R: Files>(rt: &R, alloc: Global, name: &str) -> Result<Option<Vec<u8
             .map_err(|error| unread(alloc, name, error))?,
         Ok(None) => 0,
         Err(Unread::System(error)) => return Err(unread(alloc, name, error)),
-        Err(_unread) => return Err(Fault::told(alloc, format_args!("'{name}' is no file"))),
+        Err(_unread) => return Err(Fault::told(format!(in alloc; "'{name}' is no file"))),
     };
     if bytes.len() as u64 > MOST_BYTES {
-        return Err(Fault::told(
-            alloc,
-            format_args!("'{name}' has more than {MOST_BYTES} bytes"),
-        ));
+        return Err(Fault::told(format!(in alloc; "'{name}' has more than {MOST_BYTES} bytes")));
     }
     Ok(Some(bytes))
 }
 
 /// The fault of a file of an index that can't be read.
 fn unread(alloc: Global, name: &str, error: io::Error) -> Fault {
-    Fault::told(alloc, format_args!("'{name}': {error}"))
+    Fault::told(format!(in alloc; "'{name}': {error}"))
 }
