@@ -206,10 +206,11 @@ static void lines_of_kind(const struct field *bytes, bool is_top, enum gix_glob_
 }
 
 /* What the lines that match a path assign. */
-static void matched_lines(const struct field *file, struct gix_glob_path path, struct text *text)
+static void matched_lines(const struct field *fields, struct text *text)
 {
     struct gix_glob_memory heads = memory_for_heads();
-    struct reader reader = reader_of(file, true);
+    struct reader reader = reader_of(&fields[0], true);
+    const struct gix_glob_path path = path_of(&fields[1]);
     while (read_line(&reader, &heads))
         if (reader.kind == GIX_GLOB_LINE_PATTERN &&
             gix_glob_pattern_matches_path(&reader.line.pattern, path.text, path.is_dir, false))
@@ -290,9 +291,7 @@ bool answer_attributes(const char *subject, const struct field *fields, size_t c
     else if (strcmp(subject, "silent_lines") == 0)
         lines_of_kind(&fields[1], is(&fields[0], "top"), GIX_GLOB_LINE_TOO_LONG, &text);
     else if (strcmp(subject, "attribute_matches") == 0)
-        matched_lines(&fields[0], path_of(&fields[1]), &text);
-    else if (strcmp(subject, "attribute_folders") == 0)
-        matched_lines(&fields[0], (struct gix_glob_path){text_of(&fields[1]), true}, &text);
+        matched_lines(fields, &text);
     else if (strcmp(subject, "attribute_states") == 0)
         states(fields, count, &text);
     else if (strcmp(subject, "attribute_streams") == 0)
