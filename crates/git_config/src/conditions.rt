@@ -10,7 +10,7 @@ ghost use Rattle.git_config.specs.Private.Scopes.{OnBranch};
 
 use crate::booleans::same_letters;
 use crate::surroundings::{Surroundings, expanded, folder_of, is_absolute, joined, slice_of};
-use glob_matcher::wildmatch::{Counts, Way, marked};
+use glob_matcher::wildmatch::{Steps, Way, marked_by};
 use std::alloc::{AllocError, Global};
 use std::marker::Brand;
 use std::sync::ledger::{Blank, Ledger};
@@ -225,24 +225,13 @@ fn folder_way(fold: bool) -> Way
 fn matches(pattern: &[u8], value: &[u8], way: Way) -> bool
     ensures { IsTrue result ↔ SplitsBy value.now pattern.now way }
 {
-    matches_with_new_counts::<Brand, Brand>(pattern, value, way, (Blank::new(1), Blank::new(1)))
+    matches_with_new_counts::<Brand>(pattern, value, way, Blank::new(2))
 }
 
 /// Whether a pattern matches, with new counts that no one asks for.
-fn matches_with_new_counts<S: Ledger, L: Ledger>(
-    pattern: &[u8],
-    value: &[u8],
-    way: Way,
-    blanks: (Blank, Blank),
-) -> bool
-    requires steps { IsBlankOf S.name S.parts blanks.0 }
-    requires looks { IsBlankOf L.name L.parts blanks.1 }
+fn matches_with_new_counts<L: Ledger>(pattern: &[u8], value: &[u8], way: Way, blank: Blank) -> bool
+    requires blank { IsBlankOf L.name L.parts blank }
     ensures { IsTrue result ↔ SplitsBy value.now pattern.now way }
 {
-    marked(
-        pattern,
-        value,
-        way,
-        &mut Counts::<S, L>::new(blanks.0, blanks.1),
-    )
+    marked_by(pattern, value, way, &mut Steps::<L>::new(blank))
 }

@@ -10,7 +10,7 @@ ghost use Rattle.glob_lists.specs.Rules.{by_crate};
 use gix_glob::pattern::Case;
 use gix_glob::search;
 use gix_glob::search::pattern::List;
-use gix_glob::wildmatch::Counts;
+use gix_glob::wildmatch::Steps;
 use glob_lists::{RepositoryPath, Rules};
 use std::sync::ledger::Ledger;
 
@@ -34,15 +34,15 @@ pub fn decide<T: search::Pattern>(
 /// Which pattern decides about a path, as [`decide`] answers it and under its conditions, with its steps and looks counted.
 ///
 /// With `v` the length of the path in bytes, and `p` that of a pattern's text, the count of steps rises by at most the sum of
-/// `2 * (p + 1) * (v + 1)` over all patterns of all lists. That of looks rises by at most the sum of `10 * (p + 1) * (v + 1)`, and
-/// for each list twice the length of its base, or of the path where that is shorter, and `v` once, for where the path's last
-/// part begins.
-pub fn decide_with_counts<T: search::Pattern, S: Ledger, L: Ledger>(
+/// `2 * (p + 1) * (v + 1) + 2 * v` over all patterns of all lists. That of looks rises by at most the sum of
+/// `10 * (p + 1) * (v + 1)`, and for each list twice the length of its base, or of the path where that is shorter, and `v` once, for
+/// where the path's last part begins.
+pub fn decide_with_counts<T: search::Pattern, L: Ledger>(
     lists: &[List<T>],
     path: &[u8],
     is_dir: bool,
     case: Case,
-    counts: &mut Counts<S, L>,
+    counts: &mut Steps<L>,
 ) -> Option<(usize, usize)>
     requires plain { IsPlainPath path.now }
     requires folders { BasesAreFolders (map (entry_list_of T.seen) lists.now) }

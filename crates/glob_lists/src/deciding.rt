@@ -20,7 +20,7 @@ use crate::rules::Rules;
 use gix_glob::pattern::Case;
 use gix_glob::search;
 use gix_glob::search::pattern::List;
-use gix_glob::wildmatch::Counts;
+use gix_glob::wildmatch::Steps;
 use std::marker::Brand;
 use std::sync::ledger::{Blank, Ledger};
 
@@ -50,40 +50,34 @@ pub fn decide_by<T: search::Pattern>(
     requires folders { BasesAreFolders (map (entry_list_of T.seen) lists.now) }
     ensures { Decides (map (entry_list_of T.seen) lists.now) path.now.bytes path.now.is_dir rules result }
 {
-    decide_with_new_counts::<T, Brand, Brand>(lists, path, rules, (Blank::new(1), Blank::new(1)))
+    decide_with_new_counts::<T, Brand>(lists, path, rules, Blank::new(2))
 }
 
 /// Which pattern decides about a path, with new counts that no one asks for.
 #[inline(always)]
-fn decide_with_new_counts<T: search::Pattern, S: Ledger, L: Ledger>(
+fn decide_with_new_counts<T: search::Pattern, L: Ledger>(
     lists: &[List<T>],
     path: &RepositoryPath<'_>,
     rules: Rules,
-    blanks: (Blank, Blank),
+    blank: Blank,
 ) -> Option<(usize, usize)>
     requires folders { BasesAreFolders (map (entry_list_of T.seen) lists.now) }
-    requires steps { IsBlankOf S.name S.parts blanks.0 }
-    requires looks { IsBlankOf L.name L.parts blanks.1 }
+    requires blank { IsBlankOf L.name L.parts blank }
     ensures { Decides (map (entry_list_of T.seen) lists.now) path.now.bytes path.now.is_dir rules result }
 {
-    decide_with_counts(
-        lists,
-        path,
-        rules,
-        &mut Counts::<S, L>::new(blanks.0, blanks.1),
-    )
+    decide_with_counts(lists, path, rules, &mut Steps::<L>::new(blank))
 }
 
 /// Which pattern decides about a path, as [`decide`] answers it and under its condition, with its steps and looks counted.
 ///
 /// With `v` the length of the path in bytes, and `p` that of a pattern's text, the count of steps rises by at most the sum of
-/// `2 * (p + 1) * (v + 1)` over all patterns of all lists. That of looks rises by at most the sum of `10 * (p + 1) * (v + 1)`, and
-/// for each list twice the length of its base, or of the path where that is shorter.
-pub fn decide_with_counts<T: search::Pattern, S: Ledger, L: Ledger>(
+/// `2 * (p + 1) * (v + 1) + 2 * v` over all patterns of all lists. That of looks rises by at most the sum of
+/// `10 * (p + 1) * (v + 1)`, and for each list twice the length of its base, or of the path where that is shorter.
+pub fn decide_with_counts<T: search::Pattern, L: Ledger>(
     lists: &[List<T>],
     path: &RepositoryPath<'_>,
     rules: Rules,
-    counts: &mut Counts<S, L>,
+    counts: &mut Steps<L>,
 ) -> Option<(usize, usize)>
     requires folders { BasesAreFolders (map (entry_list_of T.seen) lists.now) }
     ensures exact { Decides (map (entry_list_of T.seen) lists.now) path.now.bytes path.now.is_dir rules result }
@@ -123,11 +117,7 @@ impl<'a, 'p, T: search::Pattern> AskedLists for Asked<'a, 'p, T> {
     }
 
     #[inline(always)]
-    fn last_match<S: Ledger, L: Ledger>(
-        &self,
-        i: usize,
-        counts: &mut Counts<S, L>,
-    ) -> Option<usize> {
+    fn last_match<L: Ledger>(&self, i: usize, counts: &mut Steps<L>) -> Option<usize> {
         last_match(&self.lists[i], self.path, self.rules, counts)
     }
 }
@@ -162,11 +152,11 @@ pub(crate) fn is_negative_in<T: search::Pattern>(list: &List<T>, place: usize) -
 }
 
 /// The place of the last mapping of a list that matches what the base of the list leaves of a path.
-pub(crate) fn last_match<T: search::Pattern, S: Ledger, L: Ledger>(
+pub(crate) fn last_match<T: search::Pattern, L: Ledger>(
     list: &List<T>,
     path: &RepositoryPath<'_>,
     rules: Rules,
-    counts: &mut Counts<S, L>,
+    counts: &mut Steps<L>,
 ) -> Option<usize>
     requires folder { HasFolder (entry_list_of T.seen list.now) }
     ensures last { MatchOption result

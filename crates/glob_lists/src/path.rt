@@ -6,8 +6,8 @@ ghost use Rattle.gix_glob.specs.Bytes.{HasByte, slash};
 ghost use Rattle.gix_glob.specs.Paths.{IsFolder};
 ghost use Rattle.gix_glob.specs.Patterns.{IsPattern};
 ghost use Rattle.gix_glob.specs.RepositoryPaths.{IsBasenameStart};
-ghost use Rattle.gix_glob.specs.Steps.{NeverFall, step_limit};
-ghost use Rattle.gix_glob.specs.PatternLimits.{pattern_look_limit};
+ghost use Rattle.gix_glob.specs.Steps.{NeverFall};
+ghost use Rattle.gix_glob.specs.PatternLimits.{pattern_look_limit, pattern_step_limit};
 ghost use Rattle.gix_glob.specs.Stripping.{NothingLeft, Rest, RestOf, strip_looks};
 ghost use Rattle.glob_lists.specs.Deciding.{AnswersFor};
 ghost use Rattle.glob_lists.specs.Paths.{IsPlainPath, MarksDirectory};
@@ -15,7 +15,7 @@ ghost use Rattle.glob_lists.specs.Paths.{IsPlainPath, MarksDirectory};
 use crate::rules::Rules;
 use gix_glob::pattern::{Case, PatternView, basename_start};
 use gix_glob::search::pattern::{List, strip_base_handle_recompute_basename_pos};
-use gix_glob::wildmatch::Counts;
+use gix_glob::wildmatch::Steps;
 use gix_glob::{laws, search};
 use std::marker::Model;
 use std::sync::ledger::Ledger;
@@ -191,11 +191,11 @@ impl<'a> RepositoryPath<'a> {
     /// What [`RepositoryPath::under`] answers, with looks counted at each byte that may be read: those of the base as far as the
     /// path goes, and those of the path beside them. No step is counted.
     #[inline(always)]
-    pub(crate) fn under_with_counts<T: search::Pattern, S: Ledger, L: Ledger>(
+    pub(crate) fn under_with_counts<T: search::Pattern, L: Ledger>(
         &self,
         list: &List<T>,
         case: Case,
-        counts: &mut Counts<S, L>,
+        counts: &mut Steps<L>,
     ) -> Option<RepositoryPath<'a>>
         requires { ForSome (option_map vec_items list.now.base) IsFolder }
         ensures rest { MatchOption result
@@ -239,18 +239,18 @@ impl<'a> RepositoryPath<'a> {
 
     /// Whether a pattern matches the path, as [`RepositoryPath::is_matched_by`] answers it, with its steps and looks counted.
     ///
-    /// The count of steps rises by at most `2 * (p + 1) * (v + 1)`, and that of looks by at most `10 * (p + 1) * (v + 1)`, `p` and
-    /// `v` being the lengths in bytes of the pattern's text and of the path.
+    /// The count of steps rises by at most `2 * (p + 1) * (v + 1) + 2 * v`, and that of looks by at most `10 * (p + 1) * (v + 1)`,
+    /// `p` and `v` being the lengths in bytes of the pattern's text and of the path.
     #[inline(always)]
-    pub fn is_matched_with_counts<S: Ledger, L: Ledger>(
+    pub fn is_matched_with_counts<L: Ledger>(
         &self,
         pattern: PatternView<'_>,
         rules: Rules,
-        counts: &mut Counts<S, L>,
+        counts: &mut Steps<L>,
     ) -> bool
         ensures exact { IsPattern pattern.entry.text.now pattern.entry.mode pattern.entry.first_wildcard_pos →
             IsTrue result ↔ AnswersFor pattern.entry.text.now pattern.entry.mode self.now.bytes self.now.is_dir rules }
-        ensures steps { counts.new.steps ≤ counts.old.steps + step_limit (length pattern.entry.text.now) (length self.now.bytes) }
+        ensures steps { counts.new.steps ≤ counts.old.steps + pattern_step_limit (length pattern.entry.text.now) (length self.now.bytes) }
         ensures looks { counts.new.looks
             ≤ counts.old.looks + pattern_look_limit (length pattern.entry.text.now) (length self.now.bytes) }
         ensures grows { NeverFall counts.old counts.new }

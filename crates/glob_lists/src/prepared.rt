@@ -17,7 +17,7 @@ use crate::list::walk::Walk;
 use crate::path::RepositoryPath;
 use crate::rules::Rules;
 use gix_glob::pattern::PatternView;
-use gix_glob::wildmatch::Counts;
+use gix_glob::wildmatch::Steps;
 use std::marker::Brand;
 use std::sync::ledger::{Blank, Ledger};
 
@@ -111,32 +111,29 @@ pub fn last_match<P: Viewed>(
         → ArePrepared (map P.seen patterns.now) (take (length patterns.now) rows.now) heads.now
         → Decides (list_without_base (map P.seen patterns.now) ∷ []) path.now.bytes path.now.is_dir rules (option_map (λ (place : ℕ). (0, place)) result) }
 {
-    last_match_with::<P, Brand, Brand>(
+    last_match_with::<P, Brand>(
         patterns,
         &rows[..patterns.len()],
         heads.over(patterns.len()),
         path,
         rules,
-        Blank::new(1),
-        Blank::new(1),
+        Blank::new(2),
     )
 }
 
 /// The same, with counts that no one asks for.
 #[inline(always)]
-fn last_match_with<P: Viewed, S: Ledger, L: Ledger>(
+fn last_match_with<P: Viewed, L: Ledger>(
     patterns: &[P],
     rows: &[Row],
     heads: &[Link],
     path: &RepositoryPath<'_>,
     rules: Rules,
-    steps: Blank,
-    looks: Blank,
+    blank: Blank,
 ) -> Option<usize>
     requires many { length rows.now ≡ length patterns.now }
     requires few { length heads.now < 2 ^ 32 }
-    requires steps { IsBlankOf S.name S.parts steps }
-    requires looks { IsBlankOf L.name L.parts looks }
+    requires blank { IsBlankOf L.name L.parts blank }
     ensures inside { IfSome result (λ place. place < length patterns.now) }
     ensures exact { All (λ (pattern : P). IsLawfulEntry (P.seen pattern)) patterns.now
         → AreAsked (map P.seen patterns.now) rows.now → (1 < length heads.now → AreChained rows.now heads.now)
@@ -144,17 +141,12 @@ fn last_match_with<P: Viewed, S: Ledger, L: Ledger>(
 {
     // a law does nothing: it is called for what it ensures
     laws::answering_patterns_pass();
-    let mut counts = Counts::<S, L>::new(steps, looks);
+    let mut counts = Steps::<L>::new(blank);
     // a path with more bytes than there are rows isn't read for the sake of these
     let has_sets = path.bytes().len() <= rows.len();
     let probe = Probe::new(path.bytes(), path.basename_start(), has_sets, &mut counts);
     let mut walk = Walk::down(rows, heads, &probe);
-    'candidates: while let Some(place) = walk.next::<false, S, L>(
-        rows,
-        heads,
-        &probe,
-        &mut counts,
-    ) {
+    'candidates: while let Some(place) = walk.next::<false, L>(rows, heads, &probe, &mut counts) {
         let pattern = patterns[place].view();
         if is_answer(&rows[place], &probe, pattern, path, rules, &mut counts) {
             return Some(place);

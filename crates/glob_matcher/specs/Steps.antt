@@ -15,11 +15,12 @@ pub record NeverFall (before after : Counts) : Type 0 where
   pub steps : before.steps ≤ after.steps
   pub looks : before.looks ≤ after.looks
 
--- A blank that becomes the ledger of this name, of so many parts, one at least: a new count is made of it.
+-- A blank that becomes the ledger of this name, of so many parts, one for the steps and one for the looks at least: a new count is
+-- made of it.
 pub record IsBlankOf (name parts : ℕ) (blank : Blank) : Type 0 where
   pub same_name : blank.name ≡ name
   pub same_parts : blank.parts ≡ parts
-  pub some : 0 < blank.parts
+  pub both : 1 < blank.parts
 
 -- how many steps a match takes at most, in each mode
 abbrev pub step_limit : ℕ → ℕ → ℕ

@@ -1,6 +1,6 @@
 //! Matching of bytes against a glob pattern: the mode, and the matcher.
 ghost use Rattle.std.specs.Prelude.{◌↔◌, IsTrue};
-ghost use Rattle.glob_matcher.specs.Matching.{Splits, SplitsBy};
+ghost use Rattle.glob_matcher.specs.Matching.{Splits};
 ghost use Rattle.glob_matcher.specs.Steps.{IsBlankOf};
 
 mod any_of;
@@ -8,7 +8,7 @@ mod backtrack;
 mod barrier;
 mod counted_text;
 mod counted_texts;
-mod counts;
+mod counted_value;
 mod ends;
 mod engine;
 mod fitting;
@@ -26,6 +26,7 @@ mod set_apart;
 mod sets;
 pub(crate) mod slices;
 mod state;
+mod steps;
 #[cfg(test)]
 mod tests;
 mod texts;
@@ -34,15 +35,14 @@ mod turns;
 mod two_marks;
 mod way;
 
-pub use counted_text::CountedText;
 pub use counted_texts::CountedTexts;
-pub use counts::Counts;
 pub use mode::Mode;
 pub use pruned::{Answer, attempt, is_start, recursive};
 use std::marker::Brand;
 use std::sync::ledger::{Blank, Ledger};
+pub use steps::Steps;
 pub use texts::{Texts, text_is_short};
-pub use two_marks::marked;
+pub use two_marks::{marked, marked_by};
 pub use way::{Folding, Way};
 
 /// Whether `pattern` matches the whole of `value`, both as bytes of any kind, in `mode`.
@@ -52,22 +52,14 @@ pub use way::{Folding, Way};
 pub fn wildmatch(pattern: &[u8], value: &[u8], mode: Mode) -> bool
     ensures { IsTrue result ↔ Splits value.now pattern.now mode }
 {
-    let way = mode.way();
-    with_new_counts::<Brand, Brand>(pattern, value, way, (Blank::new(1), Blank::new(1)))
+    with_new_steps::<Brand>(pattern, value, mode, Blank::new(2))
 }
 
-/// The two marks, with new counts that no one asks for.
+/// The two marks, with a new count that no one asks for.
 #[inline(always)]
-fn with_new_counts<S: Ledger, L: Ledger>(
-    pattern: &[u8],
-    value: &[u8],
-    way: Way,
-    blanks: (Blank, Blank),
-) -> bool
-    requires steps { IsBlankOf S.name S.parts blanks.0 }
-    requires looks { IsBlankOf L.name L.parts blanks.1 }
-    ensures { IsTrue result ↔ SplitsBy value.now pattern.now way }
+fn with_new_steps<L: Ledger>(pattern: &[u8], value: &[u8], mode: Mode, blank: Blank) -> bool
+    requires { IsBlankOf L.name L.parts blank }
+    ensures { IsTrue result ↔ Splits value.now pattern.now mode }
 {
-    let mut counts = Counts::<S, L>::new(blanks.0, blanks.1);
-    marked(pattern, value, way, &mut counts)
+    marked(pattern, value, mode, &mut Steps::<L>::new(blank))
 }

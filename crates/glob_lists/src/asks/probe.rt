@@ -10,7 +10,7 @@ use crate::asks::literals::{
     ALL_BITS, ALL_PAIRS, LONGEST_END, bits_of, bytes_of, end_number, has_plain_end, without_bytes,
 };
 use crate::asks::part::{PARTS, Part};
-use gix_glob::wildmatch::Counts;
+use gix_glob::wildmatch::Steps;
 use std::sync::ledger::Ledger;
 
 /// What a path shows of itself.
@@ -30,11 +30,11 @@ impl Probe {
     /// What a path shows whose last part begins at `basename_start`. Where `has_sets` is false the sets have all.
     ///
     /// A look is counted at each byte that is read.
-    pub(crate) fn new<S: Ledger, L: Ledger>(
+    pub(crate) fn new<L: Ledger>(
         path: &[u8],
         basename_start: Option<usize>,
         has_sets: bool,
-        counts: &mut Counts<S, L>,
+        counts: &mut Steps<L>,
     ) -> Probe
         requires basename { IsBasenameStart path.now basename_start }
         ensures shows { Shows path.now result }
@@ -53,7 +53,7 @@ impl Probe {
     ///
     /// A look is counted at each byte that is read.
     #[inline(always)]
-    pub(crate) fn of_end<S: Ledger, L: Ledger>(path: &[u8], counts: &mut Counts<S, L>) -> Probe
+    pub(crate) fn of_end<L: Ledger>(path: &[u8], counts: &mut Steps<L>) -> Probe
         ensures shows { Shows path.now result }
         ensures looks { LooksUpTo counts.old counts.new (length path.now + 1) }
         ensures each { counts.old.looks + min (length path.now) LONGEST_END + 1 ≤ counts.new.looks }
@@ -70,11 +70,11 @@ impl Probe {
     /// The same, with the set of the last part of the path, which begins at `basename_start`. A look is counted at each of its
     /// bytes.
     #[inline(always)]
-    pub(crate) fn with_name<S: Ledger, L: Ledger>(
+    pub(crate) fn with_name<L: Ledger>(
         self,
         path: &[u8],
         basename_start: Option<usize>,
-        counts: &mut Counts<S, L>,
+        counts: &mut Steps<L>,
     ) -> Probe
         requires basename { IsBasenameStart path.now basename_start }
         requires shows { Shows path.now self }
@@ -93,11 +93,11 @@ impl Probe {
     /// The same, with the set of the whole path, whose last part begins at `basename_start`: what the set of that part has isn't
     /// read again. A look is counted at each byte of the path.
     #[inline(always)]
-    pub(crate) fn with_path<S: Ledger, L: Ledger>(
+    pub(crate) fn with_path<L: Ledger>(
         self,
         path: &[u8],
         basename_start: Option<usize>,
-        counts: &mut Counts<S, L>,
+        counts: &mut Steps<L>,
     ) -> Probe
         requires basename { IsBasenameStart path.now basename_start }
         requires shows { Shows path.now self }

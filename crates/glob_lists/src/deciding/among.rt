@@ -3,7 +3,7 @@ ghost use Rattle.std.specs.Prelude.{length};
 ghost use Rattle.glob_lists.specs.Deciding.{Decides};
 ghost use Rattle.glob_lists.specs.Private.Asked.{SpendsOnAllWith};
 
-use gix_glob::wildmatch::Counts;
+use gix_glob::wildmatch::Steps;
 use std::sync::ledger::Ledger;
 
 /// Lists, and the path that they are asked about.
@@ -34,7 +34,7 @@ pub(crate) trait AskedLists {
         ensures { result ≡ length (lists self.now) };
 
     /// The place of the last pattern of the list at place `i` that matches what the base of the list leaves of the path.
-    fn last_match<S: Ledger, L: Ledger>(&self, i: usize, counts: &mut Counts<S, L>) -> Option<usize>
+    fn last_match<L: Ledger>(&self, i: usize, counts: &mut Steps<L>) -> Option<usize>
         requires can { can_ask self.now }
         requires inside { i < length (lists self.now) }
         ensures last { IsLastOfList (lists self.now) (path self.now) (rules self.now) i result }
@@ -43,9 +43,9 @@ pub(crate) trait AskedLists {
 
 /// Which pattern decides about the path: the last match of the last list that has one.
 #[inline(always)]
-pub(crate) fn decide_among<A: AskedLists, S: Ledger, L: Ledger>(
+pub(crate) fn decide_among<A: AskedLists, L: Ledger>(
     asked: &A,
-    counts: &mut Counts<S, L>,
+    counts: &mut Steps<L>,
 ) -> Option<(usize, usize)>
     requires { A.can_ask asked.now }
     ensures exact { Decides (A.lists asked.now) (A.path asked.now).bytes (A.path asked.now).is_dir (A.rules asked.now) result }

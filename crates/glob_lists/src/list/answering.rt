@@ -1,7 +1,7 @@
 //! Whether one pattern of a list matches what its base leaves of a path.
 ghost use Rattle.std.specs.Prelude.{◌≡◌, ◌↔◌, ◌+◌, ◌-◌, ◌*◌, ◌≤◌, IsTrue, length};
-ghost use Rattle.gix_glob.specs.PatternLimits.{pattern_look_limit};
-ghost use Rattle.gix_glob.specs.Steps.{NeverFall, step_limit};
+ghost use Rattle.gix_glob.specs.PatternLimits.{pattern_look_limit, pattern_step_limit};
+ghost use Rattle.gix_glob.specs.Steps.{NeverFall};
 ghost use Rattle.glob_patterns.specs.Private.Fronts.{AgreeFrom};
 ghost use Rattle.glob_patterns.specs.Private.Insides.{HasInside};
 ghost use Rattle.gix_glob.specs.Ways.{way_of};
@@ -18,7 +18,7 @@ use crate::asks::row::Row;
 use crate::path::RepositoryPath;
 use crate::rules::Rules;
 use gix_glob::pattern::{Case, PatternView};
-use gix_glob::wildmatch::Counts;
+use gix_glob::wildmatch::Steps;
 use std::sync::ledger::Ledger;
 
 /// Whether a pattern matches what a base leaves of a path.
@@ -26,16 +26,16 @@ use std::sync::ledger::Ledger;
 /// It isn't tested where its row tells of the path that it matches. Where the case of letters counts, a literal between two stars is
 /// looked for in the last part of the path, which costs less than a test of the pattern.
 #[inline(always)]
-pub(crate) fn is_answer<S: Ledger, L: Ledger>(
+pub(crate) fn is_answer<L: Ledger>(
     row: &Row,
     probe: &Probe,
     pattern: PatternView<'_>,
     rest: &RepositoryPath<'_>,
     rules: Rules,
-    counts: &mut Counts<S, L>,
+    counts: &mut Steps<L>,
 ) -> bool
     ensures exact { Passes row.now probe.now → Asks pattern.entry.text.now pattern.entry.mode row.now → TellsBelow row.now probe.now pattern.entry.text.now pattern.entry.mode pattern.entry.first_wildcard_pos rest.now rules result }
-    ensures steps { counts.new.steps ≤ counts.old.steps + step_limit (length pattern.entry.text.now) (length rest.now.bytes) }
+    ensures steps { counts.new.steps ≤ counts.old.steps + pattern_step_limit (length pattern.entry.text.now) (length rest.now.bytes) }
     ensures looks { counts.new.looks ≤ counts.old.looks + pattern_look_limit (length pattern.entry.text.now) (length rest.now.bytes) }
     ensures grows { NeverFall counts.old counts.new }
 {
@@ -61,7 +61,7 @@ fn is_looked_for(row: &Row, text: &[u8], case: Case) -> bool
 /// Whether a value has the bytes between the first of a text and its last. At each place that is tried, two looks are counted for each
 /// of those.
 #[inline(always)]
-fn has_inside<S: Ledger, L: Ledger>(value: &[u8], text: &[u8], counts: &mut Counts<S, L>) -> bool
+fn has_inside<L: Ledger>(value: &[u8], text: &[u8], counts: &mut Steps<L>) -> bool
     requires { 3 ≤ length text.now }
     ensures exact { IsTrue result ↔ HasInside (way_of path_mode) value.now text.now }
     ensures looks { LooksUpTo counts.old counts.new (2 * length text.now * (length value.now + 1)) }

@@ -10,7 +10,7 @@ use crate::list::question::Question;
 use crate::list::rows::ListRows;
 use gix_glob::search;
 use gix_glob::search::pattern::List;
-use gix_glob::wildmatch::Counts;
+use gix_glob::wildmatch::Steps;
 use std::alloc::Global;
 use std::marker::Model;
 use std::sync::ledger::Ledger;
@@ -72,10 +72,10 @@ impl<T: search::Pattern> PreparedList<T> {
 
     /// The place of the last mapping that matches what the base of the list leaves of a path.
     #[inline(always)]
-    pub(crate) fn last_match<S: Ledger, L: Ledger>(
+    pub(crate) fn last_match<L: Ledger>(
         &self,
         question: &Question<'_, '_>,
-        counts: &mut Counts<S, L>,
+        counts: &mut Steps<L>,
     ) -> Option<usize>
         requires folder { HasFolder (entry_list_of T.seen self.now) }
         requires shows { Shows question.now.path.now.bytes question.now.probe }

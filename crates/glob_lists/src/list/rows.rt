@@ -23,7 +23,7 @@ use crate::list::walk::Walk;
 use crate::path::RepositoryPath;
 use gix_glob::search;
 use gix_glob::search::pattern::List;
-use gix_glob::wildmatch::Counts;
+use gix_glob::wildmatch::Steps;
 use std::alloc::{AllocError, Global};
 use std::sync::ledger::Ledger;
 
@@ -79,11 +79,11 @@ impl ListRows {
 
     /// The place of the last mapping of the list that matches what its base leaves of a path.
     #[inline(always)]
-    pub(crate) fn last_match<T: search::Pattern, S: Ledger, L: Ledger>(
+    pub(crate) fn last_match<T: search::Pattern, L: Ledger>(
         &self,
         list: &List<T>,
         question: &Question<'_, '_>,
-        counts: &mut Counts<S, L>,
+        counts: &mut Steps<L>,
     ) -> Option<usize>
         requires of { AreRowsOf (entry_list_of T.seen list.now) self.now }
         requires folder { HasFolder (entry_list_of T.seen list.now) }
@@ -99,11 +99,11 @@ impl ListRows {
     /// What the base of the list leaves of a path. `None` where no mapping matches, as the path tells at once: it shows nothing that the
     /// patterns ask for together, or doesn't begin with the base.
     #[inline(always)]
-    pub(crate) fn rest<'p, T: search::Pattern, S: Ledger, L: Ledger>(
+    pub(crate) fn rest<'p, T: search::Pattern, L: Ledger>(
         &self,
         list: &List<T>,
         question: &Question<'_, 'p>,
-        counts: &mut Counts<S, L>,
+        counts: &mut Steps<L>,
     ) -> Option<RepositoryPath<'p>>
         requires of { AreRowsOf (entry_list_of T.seen list.now) self.now }
         requires folder { HasFolder (entry_list_of T.seen list.now) }
@@ -151,13 +151,13 @@ impl ListRows {
     /// The place of the next mapping that matches, below where a path has come. A mapping isn't tested where it asks for what the path
     /// doesn't show; one look is counted at each that is passed, and those of the tests.
     #[inline(always)]
-    pub(crate) fn next_match<T: search::Pattern, S: Ledger, L: Ledger>(
+    pub(crate) fn next_match<T: search::Pattern, L: Ledger>(
         &self,
         list: &List<T>,
         question: &Question<'_, '_>,
         rest: &RepositoryPath<'_>,
         walk: &mut Walk,
-        counts: &mut Counts<S, L>,
+        counts: &mut Steps<L>,
     ) -> Option<usize>
         requires of { AreRowsOf (entry_list_of T.seen list.now) self.now }
         requires folder { HasFolder (entry_list_of T.seen list.now) }
@@ -177,7 +177,7 @@ impl ListRows {
         let rows = self.rows.as_slice();
         let heads = self.heads.as_slice();
         let probe = &question.probe;
-        'candidates: while let Some(m) = walk.next::<true, S, L>(rows, heads, probe, counts) {
+        'candidates: while let Some(m) = walk.next::<true, L>(rows, heads, probe, counts) {
             let row = &rows[m];
             let pattern = mappings[m].pattern.view();
             if is_answer(row, probe, pattern, rest, question.rules, counts) {

@@ -13,7 +13,7 @@ use crate::asks::probe::{Lacking, Probe};
 use crate::asks::row::Row;
 use crate::link::Link;
 use crate::list::chains::end_chain;
-use gix_glob::wildmatch::Counts;
+use gix_glob::wildmatch::Steps;
 use std::sync::ledger::Ledger;
 
 /// How far a walk for a path has come.
@@ -116,12 +116,12 @@ impl Walk {
     /// The next place of a walk whose row passes, over rows that are chained from these heads on; over all rows in turn where there are
     /// none. Links are believed only where the rows are known to be chained. A look is counted at each row that is met.
     #[inline(always)]
-    pub(crate) fn next<const IS_BELIEVED: bool, S: Ledger, L: Ledger>(
+    pub(crate) fn next<const IS_BELIEVED: bool, L: Ledger>(
         &mut self,
         rows: &[Row],
         heads: &[Link],
         probe: &Probe,
-        counts: &mut Counts<S, L>,
+        counts: &mut Steps<L>,
     ) -> Option<usize>
         requires inside { IsInside (length rows.now) self.old }
         requires other { 1 < length heads.now → self.old.other.0 ≤ self.old.passed_from }
@@ -139,17 +139,17 @@ impl Walk {
         if heads.len() < 2 {
             self.next_in_turn(rows, probe, counts)
         } else {
-            self.next_chained::<IS_BELIEVED, S, L>(rows, probe, counts)
+            self.next_chained::<IS_BELIEVED, L>(rows, probe, counts)
         }
     }
 
     /// The same, over all rows in turn.
     #[inline(always)]
-    fn next_in_turn<S: Ledger, L: Ledger>(
+    fn next_in_turn<L: Ledger>(
         &mut self,
         rows: &[Row],
         probe: &Probe,
-        counts: &mut Counts<S, L>,
+        counts: &mut Steps<L>,
     ) -> Option<usize>
         requires inside { self.old.passed_from ≤ length rows.now }
         ensures same { self.new ≡ record self.old { passed_from = self.new.passed_from } }
@@ -173,11 +173,11 @@ impl Walk {
 
     /// The same, over rows that are chained.
     #[inline(always)]
-    fn next_chained<const IS_BELIEVED: bool, S: Ledger, L: Ledger>(
+    fn next_chained<const IS_BELIEVED: bool, L: Ledger>(
         &mut self,
         rows: &[Row],
         probe: &Probe,
-        counts: &mut Counts<S, L>,
+        counts: &mut Steps<L>,
     ) -> Option<usize>
         requires inside { IsInside (length rows.now) self.old }
         requires other { self.old.other.0 ≤ self.old.passed_from }
@@ -192,7 +192,7 @@ impl Walk {
     {
         'chains: loop {
             let own = self.nexts[self.latest].among::<IS_BELIEVED>(self.passed_from);
-            if let Some(place) = self.next_other::<IS_BELIEVED, S, L>(own, rows, counts) {
+            if let Some(place) = self.next_other::<IS_BELIEVED, L>(own, rows, counts) {
                 return Some(place);
             }
             if !own.is_after(self.other) {
@@ -213,11 +213,11 @@ impl Walk {
     /// The next place of a row without an end that passes, among those after the next row of all other chains. Where there is none, the walk
     /// has come to that row.
     #[inline(always)]
-    fn next_other<const IS_BELIEVED: bool, S: Ledger, L: Ledger>(
+    fn next_other<const IS_BELIEVED: bool, L: Ledger>(
         &mut self,
         own: Link,
         rows: &[Row],
-        counts: &mut Counts<S, L>,
+        counts: &mut Steps<L>,
     ) -> Option<usize>
         requires within { self.old.passed_from ≤ length rows.now }
         requires latest { IsLatest self.old }

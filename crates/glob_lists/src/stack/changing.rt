@@ -14,7 +14,7 @@ use crate::list::question::Question;
 use crate::path::RepositoryPath;
 use crate::rules::Rules;
 use gix_glob::search;
-use gix_glob::wildmatch::Counts;
+use gix_glob::wildmatch::Steps;
 use std::marker::Brand;
 use std::sync::ledger::{Blank, Ledger};
 
@@ -28,23 +28,22 @@ pub fn decide_prepared<T: search::Pattern>(
     requires folders { BasesAreFolders (map (entry_list_of T.seen) lists.now) }
     ensures { Decides (map (entry_list_of T.seen) lists.now) path.now.bytes path.now.is_dir rules result }
 {
-    decide_with_new_counts::<T, Brand, Brand>(lists, path, rules, (Blank::new(1), Blank::new(1)))
+    decide_with_new_counts::<T, Brand>(lists, path, rules, Blank::new(2))
 }
 
 /// Which pattern decides about a path, with new counts that no one asks for.
 #[inline(always)]
-fn decide_with_new_counts<T: search::Pattern, S: Ledger, L: Ledger>(
+fn decide_with_new_counts<T: search::Pattern, L: Ledger>(
     lists: &[PreparedList<T>],
     path: &RepositoryPath<'_>,
     rules: Rules,
-    blanks: (Blank, Blank),
+    blank: Blank,
 ) -> Option<(usize, usize)>
     requires folders { BasesAreFolders (map (entry_list_of T.seen) lists.now) }
-    requires steps { IsBlankOf S.name S.parts blanks.0 }
-    requires looks { IsBlankOf L.name L.parts blanks.1 }
+    requires blank { IsBlankOf L.name L.parts blank }
     ensures { Decides (map (entry_list_of T.seen) lists.now) path.now.bytes path.now.is_dir rules result }
 {
-    let mut counts = Counts::<S, L>::new(blanks.0, blanks.1);
+    let mut counts = Steps::<L>::new(blank);
     let probe = probe_of(lists, path, &mut counts);
     let question = Question { path, probe, rules };
     let question = &question;
@@ -78,11 +77,7 @@ impl<'a, 'q, 'p, T: search::Pattern> AskedLists for Asked<'a, 'q, 'p, T> {
     }
 
     #[inline(always)]
-    fn last_match<S: Ledger, L: Ledger>(
-        &self,
-        i: usize,
-        counts: &mut Counts<S, L>,
-    ) -> Option<usize> {
+    fn last_match<L: Ledger>(&self, i: usize, counts: &mut Steps<L>) -> Option<usize> {
         self.lists[i].last_match(self.question, counts)
     }
 }
@@ -109,10 +104,10 @@ impl<'a, T: search::Pattern> ListStack for &'a [PreparedList<T>] {
 
 /// What a path shows. All its bytes are read only where a pattern may need some, which few lists have.
 #[inline(always)]
-fn probe_of<T: search::Pattern, S: Ledger, L: Ledger>(
+fn probe_of<T: search::Pattern, L: Ledger>(
     lists: &[PreparedList<T>],
     path: &RepositoryPath<'_>,
-    counts: &mut Counts<S, L>,
+    counts: &mut Steps<L>,
 ) -> Probe
     ensures { Shows path.now.bytes result }
 {

@@ -12,7 +12,7 @@ use crate::link::Link;
 use crate::stack::order::{FRONT, begins, front_key, is_up_to, is_up_to_past};
 use gix_glob::search;
 use gix_glob::search::pattern::List;
-use gix_glob::wildmatch::Counts;
+use gix_glob::wildmatch::Steps;
 use std::alloc::{AllocError, Global};
 use std::cmp::Ordering;
 use std::sync::ledger::Ledger;
@@ -181,11 +181,11 @@ fn last_beginning<T: search::Pattern>(folders: &[Folder], lists: &[List<T>], tex
 ///
 /// A look is counted at each byte that may be read: the first eight of the path, and of the path and each base that is read as many as
 /// both have behind those.
-pub(crate) fn last_up_to<T: search::Pattern, S: Ledger, L: Ledger>(
+pub(crate) fn last_up_to<T: search::Pattern, L: Ledger>(
     folders: &[Folder],
     lists: &[List<T>],
     path: &[u8],
-    counts: &mut Counts<S, L>,
+    counts: &mut Steps<L>,
 ) -> Link
     requires fits { length folders.now < 2 ^ 32 }
     requires forest { IsForest (map (entry_list_of T.seen) lists.now) folders.now }
@@ -210,12 +210,12 @@ pub(crate) fn last_up_to<T: search::Pattern, S: Ledger, L: Ledger>(
 
 /// Whether the base of a folder comes before a path or is the same. The path's first bytes make the number `key`.
 #[inline(always)]
-fn is_folder_up_to<T: search::Pattern, S: Ledger, L: Ledger>(
+fn is_folder_up_to<T: search::Pattern, L: Ledger>(
     folder: &Folder,
     lists: &[List<T>],
     path: &[u8],
     key: u64,
-    counts: &mut Counts<S, L>,
+    counts: &mut Steps<L>,
 ) -> bool
     requires of { IsFolderOf (map (entry_list_of T.seen) lists.now) folder.now }
     requires key { key ≡ front_key path.now 0 FRONT }
@@ -237,12 +237,12 @@ fn is_folder_up_to<T: search::Pattern, S: Ledger, L: Ledger>(
 
 /// The last folder whose base doesn't come after a path: one that was found for another path, where it is the same.
 #[inline(always)]
-pub(crate) fn last_near<T: search::Pattern, S: Ledger, L: Ledger>(
+pub(crate) fn last_near<T: search::Pattern, L: Ledger>(
     folders: &[Folder],
     lists: &[List<T>],
     path: &[u8],
     near: Link,
-    counts: &mut Counts<S, L>,
+    counts: &mut Steps<L>,
 ) -> Link
     requires fits { length folders.now < 2 ^ 32 }
     requires forest { IsForest (map (entry_list_of T.seen) lists.now) folders.now }

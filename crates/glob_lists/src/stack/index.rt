@@ -19,7 +19,7 @@ use crate::stack::lists::PreparedLists;
 use crate::stack::way::{decide_from, matches_from};
 use gix_glob::search;
 use gix_glob::search::pattern::List;
-use gix_glob::wildmatch::Counts;
+use gix_glob::wildmatch::Steps;
 use std::alloc::{AllocError, Global};
 use std::marker::{Brand, Model};
 use std::sync::ledger::{Blank, Ledger};
@@ -137,23 +137,21 @@ impl<'a, T: search::Pattern> ListIndex<'a, T> {
     ) -> Option<(usize, usize)>
         ensures { Decides (map (entry_list_of T.seen) self.now.lists) path.now.bytes path.now.is_dir self.now.rules result }
     {
-        self.decide_near_with_new_counts::<Brand, Brand>(path, cursor, Blank::new(1), Blank::new(1))
+        self.decide_near_with_new_counts::<Brand>(path, cursor, Blank::new(2))
     }
 
     /// Which pattern decides about a path, with new counts that no one asks for.
     #[inline(always)]
-    fn decide_near_with_new_counts<S: Ledger, L: Ledger>(
+    fn decide_near_with_new_counts<L: Ledger>(
         &self,
         path: &RepositoryPath<'_>,
         cursor: &mut Cursor,
-        steps: Blank,
-        looks: Blank,
+        blank: Blank,
     ) -> Option<(usize, usize)>
-        requires steps { IsBlankOf S.name S.parts steps }
-        requires looks { IsBlankOf L.name L.parts looks }
+        requires blank { IsBlankOf L.name L.parts blank }
         ensures { Decides (map (entry_list_of T.seen) self.now.lists) path.now.bytes path.now.is_dir self.now.rules result }
     {
-        let mut counts = Counts::<S, L>::new(steps, looks);
+        let mut counts = Steps::<L>::new(blank);
         let question = self.question(path, &mut counts);
         match &self.folders {
             Some(folders) => {
@@ -172,10 +170,10 @@ impl<'a, T: search::Pattern> ListIndex<'a, T> {
     /// The counts rise by at most what [`decide_with_counts`](crate::decide_with_counts) says for the lists, and that of looks by
     /// what the index reads besides: 68 times the path's length and 2, and a look for each row that it meets, of which there is
     /// one for each pattern.
-    pub fn decide_with_counts<S: Ledger, L: Ledger>(
+    pub fn decide_with_counts<L: Ledger>(
         &self,
         path: &RepositoryPath<'_>,
-        counts: &mut Counts<S, L>,
+        counts: &mut Steps<L>,
     ) -> Option<(usize, usize)>
         ensures exact { Decides (map (entry_list_of T.seen) self.now.lists) path.now.bytes path.now.is_dir self.now.rules result }
         ensures steps { counts.new.steps
@@ -198,10 +196,10 @@ impl<'a, T: search::Pattern> ListIndex<'a, T> {
     /// What the lists are asked. The sets of the path's bytes are made where that is less work than the patterns that they pass over. A
     /// look is counted at each byte that is read.
     #[inline(always)]
-    fn question<'q, 'p, S: Ledger, L: Ledger>(
+    fn question<'q, 'p, L: Ledger>(
         &self,
         path: &'q RepositoryPath<'p>,
-        counts: &mut Counts<S, L>,
+        counts: &mut Steps<L>,
     ) -> Question<'q, 'p>
         ensures path { (result.path.now ≡ path.entry.now) × (result.rules ≡ self.now.rules) }
         ensures shows { Shows result.path.now.bytes result.probe }
@@ -223,24 +221,22 @@ impl<'a, T: search::Pattern> ListIndex<'a, T> {
         ensures each_once { result.asked ≤ entry_count (map (entry_list_of T.seen) self.now.lists) }
         ensures some { IsSome result.pair → 0 < result.asked }
     {
-        self.decide_and_count_with_new_counts::<Brand, Brand>(path, Blank::new(1), Blank::new(1))
+        self.decide_and_count_with_new_counts::<Brand>(path, Blank::new(2))
     }
 
     /// Which pattern decides about a path, and how many were left to be asked, with new counts that no one asks for.
     #[inline(always)]
-    fn decide_and_count_with_new_counts<S: Ledger, L: Ledger>(
+    fn decide_and_count_with_new_counts<L: Ledger>(
         &self,
         path: &RepositoryPath<'_>,
-        steps: Blank,
-        looks: Blank,
+        blank: Blank,
     ) -> CountedDecision
-        requires steps { IsBlankOf S.name S.parts steps }
-        requires looks { IsBlankOf L.name L.parts looks }
+        requires blank { IsBlankOf L.name L.parts blank }
         ensures decides { Decides (map (entry_list_of T.seen) self.now.lists) path.now.bytes path.now.is_dir self.now.rules result.pair }
         ensures each_once { result.asked ≤ entry_count (map (entry_list_of T.seen) self.now.lists) }
         ensures some { IsSome result.pair → 0 < result.asked }
     {
-        let mut counts = Counts::<S, L>::new(steps, looks);
+        let mut counts = Steps::<L>::new(blank);
         let question = self.question(path, &mut counts);
         let pair = self.lists.decide(&question, &mut counts);
         let asked = match pair {
@@ -278,23 +274,21 @@ impl<'a, T: search::Pattern> ListIndex<'a, T> {
     ) -> Result<(), AllocError>
         ensures { OnOk result (AreMatches (map (entry_list_of T.seen) self.now.lists) path.now.bytes path.now.is_dir self.now.rules pairs.new.items) }
     {
-        self.matches_with_new_counts::<Brand, Brand>(path, pairs, Blank::new(1), Blank::new(1))
+        self.matches_with_new_counts::<Brand>(path, pairs, Blank::new(2))
     }
 
     /// Puts into `pairs` all patterns that match a path, with new counts that no one asks for.
     #[inline(always)]
-    fn matches_with_new_counts<S: Ledger, L: Ledger>(
+    fn matches_with_new_counts<L: Ledger>(
         &self,
         path: &RepositoryPath<'_>,
         pairs: &mut Vec<(usize, usize)>,
-        steps: Blank,
-        looks: Blank,
+        blank: Blank,
     ) -> Result<(), AllocError>
-        requires steps { IsBlankOf S.name S.parts steps }
-        requires looks { IsBlankOf L.name L.parts looks }
+        requires blank { IsBlankOf L.name L.parts blank }
         ensures { OnOk result (AreMatches (map (entry_list_of T.seen) self.now.lists) path.now.bytes path.now.is_dir self.now.rules pairs.new.items) }
     {
-        let mut counts = Counts::<S, L>::new(steps, looks);
+        let mut counts = Steps::<L>::new(blank);
         let question = self.question(path, &mut counts);
         match &self.folders {
             Some(folders) => {

@@ -14,7 +14,7 @@ use crate::list::question::Question;
 use crate::list::rows::ListRows;
 use gix_glob::search;
 use gix_glob::search::pattern::List;
-use gix_glob::wildmatch::Counts;
+use gix_glob::wildmatch::Steps;
 use std::alloc::{AllocError, Global};
 use std::marker::Model;
 use std::sync::ledger::Ledger;
@@ -93,11 +93,11 @@ impl<'a, T: search::Pattern> PreparedLists<'a, T> {
 
     /// The place of the last mapping of the list at place `i` that matches what its base leaves of a path.
     #[inline(always)]
-    pub(crate) fn last_match<S: Ledger, L: Ledger>(
+    pub(crate) fn last_match<L: Ledger>(
         &self,
         i: usize,
         question: &Question<'_, '_>,
-        counts: &mut Counts<S, L>,
+        counts: &mut Steps<L>,
     ) -> Option<usize>
         requires inside { i < length self.now }
         requires shows { Shows question.now.path.now.bytes question.now.probe }
@@ -108,10 +108,10 @@ impl<'a, T: search::Pattern> PreparedLists<'a, T> {
     }
 
     /// Which pattern decides about a path: all lists are gone through.
-    pub(crate) fn decide<S: Ledger, L: Ledger>(
+    pub(crate) fn decide<L: Ledger>(
         &self,
         question: &Question<'_, '_>,
-        counts: &mut Counts<S, L>,
+        counts: &mut Steps<L>,
     ) -> Option<(usize, usize)>
         requires shows { Shows question.now.path.now.bytes question.now.probe }
         ensures exact { Decides (map (entry_list_of T.seen) self.now) question.now.path.now.bytes question.now.path.now.is_dir question.now.rules result }
@@ -122,11 +122,11 @@ impl<'a, T: search::Pattern> PreparedLists<'a, T> {
     }
 
     /// Puts into `pairs` all patterns that match a path, in order, in place of what it held.
-    pub(crate) fn matches_into<S: Ledger, L: Ledger>(
+    pub(crate) fn matches_into<L: Ledger>(
         &self,
         question: &Question<'_, '_>,
         pairs: &mut Vec<(usize, usize)>,
-        counts: &mut Counts<S, L>,
+        counts: &mut Steps<L>,
     ) -> Result<(), AllocError>
         requires shows { Shows question.now.path.now.bytes question.now.probe }
         ensures { OnOk result (AreMatches (map (entry_list_of T.seen) self.now) question.now.path.now.bytes question.now.path.now.is_dir question.now.rules pairs.new.items) }
@@ -140,12 +140,12 @@ impl<'a, T: search::Pattern> PreparedLists<'a, T> {
     }
 
     /// Adds the pairs of the list at place `i` after those of the lists behind it, from the last one to the first.
-    pub(crate) fn push_matches<S: Ledger, L: Ledger>(
+    pub(crate) fn push_matches<L: Ledger>(
         &self,
         i: usize,
         question: &Question<'_, '_>,
         pairs: &mut Vec<(usize, usize)>,
-        counts: &mut Counts<S, L>,
+        counts: &mut Steps<L>,
     ) -> Result<(), AllocError>
         requires inside { i < length self.now }
         requires shows { Shows question.now.path.now.bytes question.now.probe }
@@ -191,11 +191,7 @@ impl<'a, 'l, 'q, 'p, T: search::Pattern> AskedLists for Asked<'a, 'l, 'q, 'p, T>
     }
 
     #[inline(always)]
-    fn last_match<S: Ledger, L: Ledger>(
-        &self,
-        i: usize,
-        counts: &mut Counts<S, L>,
-    ) -> Option<usize> {
+    fn last_match<L: Ledger>(&self, i: usize, counts: &mut Steps<L>) -> Option<usize> {
         self.lists.last_match(i, self.question, counts)
     }
 }

@@ -12,7 +12,7 @@ use crate::list::question::Question;
 use crate::stack::folders::Folder;
 use crate::stack::lists::PreparedLists;
 use gix_glob::search;
-use gix_glob::wildmatch::Counts;
+use gix_glob::wildmatch::Steps;
 use std::alloc::AllocError;
 use std::sync::ledger::Ledger;
 
@@ -20,12 +20,12 @@ use std::sync::ledger::Ledger;
 ///
 /// A list that lies above another one comes before it, so the first one that answers is the last of all.
 #[inline(always)]
-pub(crate) fn decide_from<T: search::Pattern, S: Ledger, L: Ledger>(
+pub(crate) fn decide_from<T: search::Pattern, L: Ledger>(
     lists: &PreparedLists<'_, T>,
     folders: &[Folder],
     last: Link,
     question: &Question<'_, '_>,
-    counts: &mut Counts<S, L>,
+    counts: &mut Steps<L>,
 ) -> Option<(usize, usize)>
     requires folders { AreFolderedBy (map (entry_list_of T.seen) lists.now) folders.now }
     requires last { IsLastUpTo (map (entry_list_of T.seen) lists.now) folders.now question.now.path.now.bytes last }
@@ -47,13 +47,13 @@ pub(crate) fn decide_from<T: search::Pattern, S: Ledger, L: Ledger>(
 
 /// Puts into `pairs` all patterns that match a path, in order, in place of what it held: from the last folder on that doesn't come after
 /// the path.
-pub(crate) fn matches_from<T: search::Pattern, S: Ledger, L: Ledger>(
+pub(crate) fn matches_from<T: search::Pattern, L: Ledger>(
     lists: &PreparedLists<'_, T>,
     folders: &[Folder],
     last: Link,
     question: &Question<'_, '_>,
     pairs: &mut Vec<(usize, usize)>,
-    counts: &mut Counts<S, L>,
+    counts: &mut Steps<L>,
 ) -> Result<(), AllocError>
     requires folders { AreFolderedBy (map (entry_list_of T.seen) lists.now) folders.now }
     requires last { IsLastUpTo (map (entry_list_of T.seen) lists.now) folders.now question.now.path.now.bytes last }

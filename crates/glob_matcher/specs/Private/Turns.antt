@@ -1,6 +1,6 @@
 -- What a turn of the engine with two marks, and a way back to a mark, are from a state: what they mean, and what they leave of
 -- the budget.
-use Rattle.std.specs.Prelude.{ℕ, ◌+◌, ◌<◌, ◌≤◌, List, Option, None, OnSome}
+use Rattle.std.specs.Prelude.{ℕ, ◌+◌, ◌<◌, ◌≤◌, List, length, Option, None, OnSome}
 use Rattle.glob_matcher.specs.declared.wildmatch.way.Way.{Way}
 use Rattle.glob_matcher.specs.declared.wildmatch.state.State.{State}
 use Rattle.glob_matcher.specs.declared.wildmatch.state.Turn.{Turn}
@@ -15,11 +15,13 @@ abbrev pub at_front : ℕ → State
 at_front k = record { place = k; at = k; crossing = crossing.Unmet; local = None }
 
 module _ (way : Way) (p v : List ℕ) where
-  -- So many bytes at the front of both texts are passed, from the start. The last byte that was tested may be looked at in vain.
+  -- So many bytes at the front of both texts are passed, from the start, each by a step at least. The last byte that was tested may
+  -- be one in vain, which no value without bytes has.
   pub record IsFront (passed : ℕ) (before after : Counts) : Type 0 where
     pub meaning : StandsAt way p v (at_front passed)
-    pub allows : (measure : Measure) (limit : ℕ) → AllowsAt measure way p v (at_front 0) (amount_of measure before + amount measure 0 2) limit
+    pub allows : (measure : Measure) (limit : ℕ) → AllowsAt measure way p v (at_front 0) (amount_of measure before + amount measure (length v) 2) limit
         → AllowsAt measure way p v (at_front passed) (amount_of measure after) limit
+    pub counted : before.steps + passed ≤ after.steps
     pub grows : NeverFall before after
 
   -- A turn from a state at whose token so many looks were taken already.

@@ -17,7 +17,7 @@ use super::state::{Crossing, State};
 use super::texts::Texts;
 use std::sync::ledger::Ledger;
 
-impl<'c, 'a, S: Ledger, L: Ledger, M: Texts> Engine<'c, 'a, S, L, M> {
+impl<'c, 'a, L: Ledger, M: Texts> Engine<'c, 'a, L, M> {
     /// Moves a mark to the next place after a slash.
     #[inline(always)]
     fn next_directory(&mut self, mark: Mark) -> Option<Mark>

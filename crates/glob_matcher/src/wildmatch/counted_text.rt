@@ -1,25 +1,26 @@
 //! What can read a byte of a match: a text that is read in counted looks.
 //!
 //! This module alone sees the slices of a match, and it hands out none: whoever has a text reads a byte of it in a look that
-//! its ledgers count, or not at all.
+//! its ledger counts, or not at all.
 ghost use Rattle.std.specs.Prelude.{◌≡◌, ◌<◌, ◌≤◌, ◌+◌, ◌-◌, MatchOption, length, slice_index};
 ghost use Rattle.glob_matcher.specs.Bytes.{HasByte};
 ghost use Rattle.glob_matcher.specs.Private.Finding.{HasComeTo};
 ghost use Rattle.glob_matcher.specs.Private.Takes.{TakesExactly, looks_at};
 
 use super::any_of::AnyOf;
-use super::counts::Counts;
+use super::steps::Steps;
 use std::marker::{Model, PhantomData};
 use std::sync::ledger::Ledger;
 
-/// The pattern or the value of a match. Its bytes are read in looks that are counted in two ledgers, and in no others.
+/// A text of a match. Its bytes are read in looks that are counted in one ledger, and in no others. The value of a match is a
+/// [`super::counted_value::CountedValue`] over it, whose looks are steps, too.
 #[derive(Drop)]
-pub struct CountedText<'a, S: Ledger, L: Ledger> {
+pub struct CountedText<'a, L: Ledger> {
     bytes: &'a [u8],
-    ledgers: PhantomData<(S, L)>,
+    ledger: PhantomData<L>,
 }
 
-impl<'a, S: Ledger, L: Ledger> Model for CountedText<'a, S, L> {
+impl<'a, L: Ledger> Model for CountedText<'a, L> {
     ghost use Rattle.std.specs.Prelude.{ℕ, List};
 
     ghost Value = { List ℕ };
@@ -27,7 +28,7 @@ impl<'a, S: Ledger, L: Ledger> Model for CountedText<'a, S, L> {
     ghost view = { λ t. t.bytes.now };
 }
 
-impl<'a, S: Ledger, L: Ledger> CountedText<'a, S, L> {
+impl<'a, L: Ledger> CountedText<'a, L> {
     /// A text with these bytes.
     #[inline(always)]
     pub fn new(bytes: &'a [u8]) -> Self
@@ -35,7 +36,7 @@ impl<'a, S: Ledger, L: Ledger> CountedText<'a, S, L> {
     {
         CountedText {
             bytes,
-            ledgers: PhantomData,
+            ledger: PhantomData,
         }
     }
 
@@ -57,7 +58,7 @@ impl<'a, S: Ledger, L: Ledger> CountedText<'a, S, L> {
 
     /// The byte at a place, in one look, which counts also past the text's end.
     #[inline(always)]
-    pub fn at(&self, place: usize, counts: &mut Counts<S, L>) -> Option<u8>
+    pub fn at(&self, place: usize, counts: &mut Steps<L>) -> Option<u8>
         ensures byte { MatchOption result (length self.now ≤ place) (HasByte self.now place) }
         ensures count { TakesExactly counts.old counts.new 0 1 }
     {
@@ -70,7 +71,7 @@ impl<'a, S: Ledger, L: Ledger> CountedText<'a, S, L> {
 
     /// The byte at a place inside the text, in one look.
     #[inline(always)]
-    pub fn byte(&self, place: usize, counts: &mut Counts<S, L>) -> u8
+    pub fn byte(&self, place: usize, counts: &mut Steps<L>) -> u8
         requires { place < length self.now }
         ensures byte { result ≡ slice_index self.now place }
         ensures count { TakesExactly counts.old counts.new 0 1 }
@@ -86,7 +87,7 @@ impl<'a, S: Ledger, L: Ledger> CountedText<'a, S, L> {
         &self,
         from: usize,
         wanted: AnyOf,
-        counts: &mut Counts<S, L>,
+        counts: &mut Steps<L>,
     ) -> (usize, Option<u8>)
         requires { from ≤ length self.now }
         ensures found { HasComeTo self.now wanted from result.0 result.1 }

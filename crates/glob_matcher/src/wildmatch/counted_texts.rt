@@ -1,27 +1,29 @@
-//! The texts of a match and its counts as one value. What reads a byte of one is `counted_text`.
-ghost use Rattle.std.specs.Prelude.{◌≡◌, ◌<◌, ◌≤◌, ◌+◌, ◌-◌, MatchOption, length, slice_index};
+//! The texts of a match and its counts as one value. What reads a byte of one is `counted_text`, of the value through
+//! `counted_value`.
+ghost use Rattle.std.specs.Prelude.{◌≡◌, ◌<◌, ◌≤◌, ◌+◌, ◌-◌, ◌*◌, MatchOption, length, slice_index};
 ghost use Rattle.glob_matcher.specs.Bytes.{HasByte};
 ghost use Rattle.glob_matcher.specs.Private.Finding.{HasComeTo};
 ghost use Rattle.glob_matcher.specs.Private.Takes.{TakesExactly, looks_at};
 
 use super::any_of::AnyOf;
 use super::counted_text::CountedText;
-use super::counts::Counts;
+use super::counted_value::CountedValue;
+use super::steps::Steps;
 use super::texts::Texts;
 use std::marker::{Model, PhantomData};
 use std::sync::ledger::Ledger;
 
-/// The pattern and the value of a match, which can be read in counted looks alone. Contracts see the counts as its value, and
-/// the two texts by `M`.
+/// The pattern and the value of a match, which can be read in counted looks alone; a look at the value is a step, too. Contracts
+/// see the counts as its value, and the two texts by `M`.
 #[derive(Drop)]
-pub struct CountedTexts<'c, 'a, S: Ledger, L: Ledger, M: Texts> {
-    pub(super) pattern: CountedText<'a, S, L>,
-    pub(super) value: CountedText<'a, S, L>,
-    pub(super) counts: &'c mut Counts<S, L>,
+pub struct CountedTexts<'c, 'a, L: Ledger, M: Texts> {
+    pub(super) pattern: CountedText<'a, L>,
+    pub(super) value: CountedValue<'a, L>,
+    pub(super) counts: &'c mut Steps<L>,
     of: PhantomData<M>,
 }
 
-impl<'c, 'a, S: Ledger, L: Ledger, M: Texts> Model for CountedTexts<'c, 'a, S, L, M> {
+impl<'c, 'a, L: Ledger, M: Texts> Model for CountedTexts<'c, 'a, L, M> {
     ghost use Rattle.std.specs.Prelude.{◌≡◌};
     ghost use Rattle.glob_matcher.specs.Steps.{Counts};
 
@@ -32,24 +34,24 @@ impl<'c, 'a, S: Ledger, L: Ledger, M: Texts> Model for CountedTexts<'c, 'a, S, L
     ghost invariant = { λ t. (t.pattern ≡ M.pattern) × (t.value ≡ M.value) × (t.counts.ghost_name ≡ M.counts) };
 }
 
-impl<'c, 'a, S: Ledger, L: Ledger, M: Texts> CountedTexts<'c, 'a, S, L, M> {
+impl<'c, 'a, L: Ledger, M: Texts> CountedTexts<'c, 'a, L, M> {
     /// The texts of a match, over its counts.
     #[inline(always)]
-    pub fn new(pattern: &'a [u8], value: &'a [u8], counts: &'c mut Counts<S, L>) -> Self
+    pub fn new(pattern: &'a [u8], value: &'a [u8], counts: &'c mut Steps<L>) -> Self
         requires pattern { pattern.now ≡ M.pattern }
         requires value { value.now ≡ M.value }
         requires counts { counts.ghost_name ≡ M.counts }
         ensures { result ≡ counts.old }
     {
-        CountedTexts::of(CountedText::new(pattern), CountedText::new(value), counts)
+        CountedTexts::of(CountedText::new(pattern), CountedValue::new(value), counts)
     }
 
     /// The same, of texts that are counted already.
     #[inline(always)]
-    pub fn of(
-        pattern: CountedText<'a, S, L>,
-        value: CountedText<'a, S, L>,
-        counts: &'c mut Counts<S, L>,
+    pub(super) fn of(
+        pattern: CountedText<'a, L>,
+        value: CountedValue<'a, L>,
+        counts: &'c mut Steps<L>,
     ) -> Self
         requires pattern { pattern ≡ M.pattern }
         requires value { value ≡ M.value }
@@ -66,7 +68,7 @@ impl<'c, 'a, S: Ledger, L: Ledger, M: Texts> CountedTexts<'c, 'a, S, L, M> {
 
     /// The counts, by the reference that they came by.
     #[inline(always)]
-    pub fn into_counts(self) -> &'c mut Counts<S, L>
+    pub fn into_counts(self) -> &'c mut Steps<L>
         ensures same { result.ghost_name ≡ M.counts }
         ensures counts { result.now ≡ self.entry }
     {
@@ -91,18 +93,10 @@ impl<'c, 'a, S: Ledger, L: Ledger, M: Texts> CountedTexts<'c, 'a, S, L, M> {
 
     /// Counts a step. No byte is read.
     #[inline(always)]
-    pub fn step(&mut self)
+    pub(super) fn step(&mut self)
         ensures { TakesExactly self.old self.new 1 0 }
     {
         self.counts.step();
-    }
-
-    /// Counts so many steps. No byte is read.
-    #[inline(always)]
-    pub(super) fn steps(&mut self, count: usize)
-        ensures { TakesExactly self.old self.new count 0 }
-    {
-        self.counts.steps(count);
     }
 
     /// The byte at a place of the pattern, in one look; `None` past its end, where there is nothing to look at.
@@ -127,32 +121,32 @@ impl<'c, 'a, S: Ledger, L: Ledger, M: Texts> CountedTexts<'c, 'a, S, L, M> {
         self.pattern.byte(place, self.counts)
     }
 
-    /// The byte at a place of the value, in one look, which counts also past its end.
+    /// The byte at a place of the value, in one step and one look, which count also past its end.
     #[inline(always)]
     pub fn value_at(&mut self, at: usize) -> Option<u8>
         ensures byte { MatchOption result (length M.value ≤ at) (HasByte M.value at) }
-        ensures count { TakesExactly self.old self.new 0 1 }
+        ensures count { TakesExactly self.old self.new 1 1 }
     {
         self.value.at(at, self.counts)
     }
 
-    /// The byte at a place inside the value, in one look.
+    /// The byte at a place inside the value, in one step and one look.
     #[inline(always)]
     pub fn value_byte(&mut self, at: usize) -> u8
         requires { at < length M.value }
         ensures here { result ≡ slice_index M.value at }
-        ensures count { TakesExactly self.old self.new 0 1 }
+        ensures count { TakesExactly self.old self.new 1 1 }
     {
         self.value.byte(at, self.counts)
     }
 
-    /// The first place of the value from one on that has one of these bytes, with the byte there, in a look at each byte up to
-    /// it; or the value's end, in a look at each byte before it.
+    /// The first place of the value from one on that has one of these bytes, with the byte there; or the value's end. As by single
+    /// bytes, that is a test and a move for each byte passed, and a test of the one that is met.
     #[inline(always)]
     pub(super) fn find_in_value(&mut self, from: usize, wanted: AnyOf) -> (usize, Option<u8>)
         requires { from ≤ length M.value }
         ensures found { HasComeTo M.value wanted from result.0 result.1 }
-        ensures count { TakesExactly self.old self.new 0 (result.0 - from + looks_at result.1) }
+        ensures count { TakesExactly self.old self.new (2 * (result.0 - from) + looks_at result.1) (result.0 - from + looks_at result.1) }
     {
         self.value.find(from, wanted, self.counts)
     }

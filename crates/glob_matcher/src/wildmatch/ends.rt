@@ -18,7 +18,7 @@ fn is_alone(byte: u8) -> bool
     !matches!(byte, b'*' | b'?' | b']' | b'/')
 }
 
-impl<'c, 'a, S: Ledger, L: Ledger, M: Texts> Engine<'c, 'a, S, L, M> {
+impl<'c, 'a, L: Ledger, M: Texts> Engine<'c, 'a, L, M> {
     /// Whether the pattern is one star that crosses slashes: it matches each value.
     #[inline(always)]
     fn is_lone_star(&mut self) -> bool

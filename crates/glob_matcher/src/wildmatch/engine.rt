@@ -5,7 +5,7 @@ ghost use Rattle.glob_matcher.specs.Bytes.{HasByte, folds, is_path};
 ghost use Rattle.glob_matcher.specs.Private.Takes.{TakesExactly, looks_at};
 
 use super::counted_texts::CountedTexts;
-use super::counts::Counts;
+use super::steps::Steps;
 use super::texts::Texts;
 use super::way::Way;
 use std::marker::Model;
@@ -13,12 +13,12 @@ use std::sync::ledger::Ledger;
 
 /// A match and its counts. Contracts see the counts alone, and the match by its type.
 #[derive(Drop)]
-pub struct Engine<'c, 'a, S: Ledger, L: Ledger, M: Texts> {
-    pub(super) texts: CountedTexts<'c, 'a, S, L, M>,
+pub struct Engine<'c, 'a, L: Ledger, M: Texts> {
+    pub(super) texts: CountedTexts<'c, 'a, L, M>,
     way: Way,
 }
 
-impl<'c, 'a, S: Ledger, L: Ledger, M: Texts> Model for Engine<'c, 'a, S, L, M> {
+impl<'c, 'a, L: Ledger, M: Texts> Model for Engine<'c, 'a, L, M> {
     ghost use Rattle.std.specs.Prelude.{◌≡◌};
     ghost use Rattle.glob_matcher.specs.Steps.{Counts};
 
@@ -29,10 +29,10 @@ impl<'c, 'a, S: Ledger, L: Ledger, M: Texts> Model for Engine<'c, 'a, S, L, M> {
     ghost invariant = { λ e. e.way ≡ M.way };
 }
 
-impl<'c, 'a, S: Ledger, L: Ledger, M: Texts> Engine<'c, 'a, S, L, M> {
+impl<'c, 'a, L: Ledger, M: Texts> Engine<'c, 'a, L, M> {
     /// The engine of a match.
     #[inline(always)]
-    pub fn new(texts: CountedTexts<'c, 'a, S, L, M>, way: Way) -> Self
+    pub fn new(texts: CountedTexts<'c, 'a, L, M>, way: Way) -> Self
         requires { way ≡ M.way }
         ensures { result ≡ texts.entry }
     {
@@ -41,7 +41,7 @@ impl<'c, 'a, S: Ledger, L: Ledger, M: Texts> Engine<'c, 'a, S, L, M> {
 
     /// The counts, by the reference that they came by.
     #[inline(always)]
-    pub fn into_counts(self) -> &'c mut Counts<S, L>
+    pub fn into_counts(self) -> &'c mut Steps<L>
         ensures same { result.ghost_name ≡ M.counts }
         ensures counts { result.now ≡ self.entry }
     {

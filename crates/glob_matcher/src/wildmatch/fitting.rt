@@ -15,7 +15,7 @@ use super::texts::Texts;
 use super::tokens::TokenKind;
 use std::sync::ledger::Ledger;
 
-impl<'c, 'a, S: Ledger, L: Ledger, M: Texts> Engine<'c, 'a, S, L, M> {
+impl<'c, 'a, L: Ledger, M: Texts> Engine<'c, 'a, L, M> {
     /// Tests the pattern's end: whether the value ends at this place, too.
     #[inline(always)]
     pub fn ends_at(&mut self, at: usize) -> bool
@@ -70,13 +70,12 @@ impl<'c, 'a, S: Ledger, L: Ledger, M: Texts> Engine<'c, 'a, S, L, M> {
         }
     }
 
-    /// Takes the byte at a place of the value, in a step of its own; `None` where the value ends.
+    /// Takes the byte at a place of the value, in a step; `None` where the value ends.
     #[inline(always)]
     pub(super) fn value_at(&mut self, at: usize) -> Option<u8>
         ensures byte { MatchOption result (length M.value ≤ at) (HasByte M.value at) }
         ensures count { TakesExactly self.old self.new 1 1 }
     {
-        self.texts.step();
         self.texts.value_at(at)
     }
 

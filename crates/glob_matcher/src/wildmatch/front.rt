@@ -7,9 +7,10 @@ ghost use Rattle.glob_matcher.specs.Private.Turns.{IsFront};
 
 use super::counted_text::CountedText;
 use super::counted_texts::CountedTexts;
-use super::counts::Counts;
+use super::counted_value::CountedValue;
 use super::engine::Engine;
 use super::needle::stands_within_component;
+use super::steps::Steps;
 use super::texts::Texts;
 use super::way::Way;
 use std::marker::Brand;
@@ -18,7 +19,7 @@ use std::sync::ledger::Ledger;
 /// A pattern of so many bytes has its front compared apart.
 const LONG: usize = 64;
 
-impl<'c, 'a, S: Ledger, L: Ledger, M: Texts> Engine<'c, 'a, S, L, M> {
+impl<'c, 'a, L: Ledger, M: Texts> Engine<'c, 'a, L, M> {
     /// How many bytes at the front of both texts are passed before the first turn. A short pattern has none passed.
     #[inline(always)]
     pub fn front(&mut self) -> usize
@@ -30,25 +31,17 @@ impl<'c, 'a, S: Ledger, L: Ledger, M: Texts> Engine<'c, 'a, S, L, M> {
         let way = self.way();
         let texts = &mut self.texts;
         let (pattern, value) = (texts.pattern.again(), texts.value.again());
-        compare_fronts::<S, L, Brand>(pattern, value, way, &mut *texts.counts).0
+        compare_fronts::<L, Brand>(pattern, value, way, &mut *texts.counts).0
     }
 
-    /// Whether the value has a byte at a place inside it, up to folding, in one look.
+    /// Tests a byte that is a token by itself at a place inside the value.
     #[inline(always)]
     fn value_has(&mut self, at: usize, wanted: u8) -> bool
         requires { at < length M.value }
         ensures answer { IsTrue result ↔ Fits M.way (Byte wanted) (slice_index M.value at) }
-        ensures count { TakesExactly self.old self.new 0 1 }
+        ensures count { TakesExactly self.old self.new 1 1 }
     {
         self.way().alike(self.texts.value_byte(at), wanted)
-    }
-
-    /// Counts the test of a byte that is passed: a step, whose looks were counted.
-    #[inline(always)]
-    fn count_passed(&mut self)
-        ensures { TakesExactly self.old self.new 1 0 }
-    {
-        self.texts.step();
     }
 
     /// Passes the bytes at the front of the pattern that are tokens by themselves, up to a slash, and that the value has too.
@@ -66,7 +59,6 @@ impl<'c, 'a, S: Ledger, L: Ledger, M: Texts> Engine<'c, 'a, S, L, M> {
             if !self.value_has(passed, byte) {
                 break;
             }
-            self.count_passed();
             passed += 1;
         }
         passed
@@ -76,12 +68,12 @@ impl<'c, 'a, S: Ledger, L: Ledger, M: Texts> Engine<'c, 'a, S, L, M> {
 /// How many bytes at the fronts are passed, by an engine of its own, and the counts of what it took.
 #[cold]
 #[inline(never)]
-fn compare_fronts<'c, 'a, S: Ledger, L: Ledger, M: Texts>(
-    pattern: CountedText<'a, S, L>,
-    value: CountedText<'a, S, L>,
+fn compare_fronts<'c, 'a, L: Ledger, M: Texts>(
+    pattern: CountedText<'a, L>,
+    value: CountedValue<'a, L>,
     way: Way,
-    counts: &'c mut Counts<S, L>,
-) -> (usize, &'c mut Counts<S, L>)
+    counts: &'c mut Steps<L>,
+) -> (usize, &'c mut Steps<L>)
     requires pattern { pattern ≡ M.pattern }
     requires value { value ≡ M.value }
     requires way { way ≡ M.way }
@@ -89,7 +81,7 @@ fn compare_fronts<'c, 'a, S: Ledger, L: Ledger, M: Texts>(
     ensures front { IsFront M.way M.pattern M.value result.0 counts.old result.1.now }
     ensures same { result.1.ghost_name ≡ counts.entry.ghost_name }
 {
-    let texts = CountedTexts::<'c, 'a, S, L, M>::of(pattern, value, counts);
+    let texts = CountedTexts::<'c, 'a, L, M>::of(pattern, value, counts);
     let mut engine = Engine::new(texts, way);
     let passed = engine.pass_front();
     (passed, engine.into_counts())

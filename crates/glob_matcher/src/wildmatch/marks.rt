@@ -36,7 +36,7 @@ impl Mark {
     }
 }
 
-impl<'c, 'a, S: Ledger, L: Ledger, M: Texts> Engine<'c, 'a, S, L, M> {
+impl<'c, 'a, L: Ledger, M: Texts> Engine<'c, 'a, L, M> {
     /// Sets a mark.
     #[inline(always)]
     pub fn set_mark(&mut self, place: usize, at: usize) -> Mark
@@ -81,33 +81,20 @@ impl<'c, 'a, S: Ledger, L: Ledger, M: Texts> Engine<'c, 'a, S, L, M> {
     }
 
     /// Moves a mark to the next place of the value that has one of these bytes, and tells which; or to the value's end. As by
-    /// single bytes, that is a test and a move for each byte passed.
+    /// single bytes, that is a test and a move for each byte passed, and a test of the one that is met.
     #[inline(always)]
     pub fn pass_to(&mut self, mark: Mark, wanted: AnyOf) -> (Mark, Option<u8>)
         requires { mark.at ≤ length M.value }
         ensures place { result.0.place ≡ mark.place }
         ensures found { HasComeTo M.value wanted mark.at result.0.at result.1 }
-        ensures count { TakesExactly self.old self.new (2 * (result.0.at - mark.at)) (result.0.at - mark.at + looks_at result.1) }
+        ensures count { TakesExactly self.old self.new (2 * (result.0.at - mark.at) + looks_at result.1) (result.0.at - mark.at + looks_at result.1) }
     {
         let (at, met) = self.texts.find_in_value(mark.at, wanted);
-        let passed = at - mark.at;
-        self.texts.steps(passed);
-        self.texts.steps(passed);
         let moved = Mark {
             place: mark.place,
             at,
         };
         (moved, met)
-    }
-
-    /// Tests a byte that the mark was moved to.
-    #[inline(always)]
-    pub fn suits_found<N: Needle>(&mut self, byte: u8, needle: N) -> bool
-        ensures answer { IsTrue result ↔ N.suits needle byte }
-        ensures count { TakesExactly self.old self.new 1 0 }
-    {
-        self.texts.step();
-        needle.suits(byte)
     }
 
     /// Finds a mark unable to move.
@@ -126,7 +113,6 @@ impl<'c, 'a, S: Ledger, L: Ledger, M: Texts> Engine<'c, 'a, S, L, M> {
         ensures unable { IfNone result (slice_index M.value mark.at ≡ slash) }
         ensures count { TakesExactly self.old self.new 1 1 }
     {
-        self.texts.step();
         if self.texts.value_byte(mark.at) == b'/' {
             return None;
         }
@@ -166,7 +152,6 @@ impl<'c, 'a, S: Ledger, L: Ledger, M: Texts> Engine<'c, 'a, S, L, M> {
         ensures answer { IsTrue result ↔ N.suits needle (slice_index M.value mark.at) }
         ensures count { TakesExactly self.old self.new 1 1 }
     {
-        self.texts.step();
         needle.suits(self.texts.value_byte(mark.at))
     }
 }

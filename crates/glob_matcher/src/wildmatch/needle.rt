@@ -123,7 +123,7 @@ pub fn stands_within_component(byte: u8) -> bool
     byte > b'\\' || (byte != b'/' && stands_for_itself(byte))
 }
 
-impl<'c, 'a, S: Ledger, L: Ledger, M: Texts> Engine<'c, 'a, S, L, M> {
+impl<'c, 'a, L: Ledger, M: Texts> Engine<'c, 'a, L, M> {
     /// What follows at a place of the pattern; `None` where it is a token of another kind.
     #[inline(always)]
     pub fn follow_at(&mut self, place: usize) -> Option<Follow>

@@ -26,7 +26,7 @@ pub enum Scan {
     Undecided(Mark),
 }
 
-impl<'c, 'a, S: Ledger, L: Ledger, M: Texts> Engine<'c, 'a, S, L, M> {
+impl<'c, 'a, L: Ledger, M: Texts> Engine<'c, 'a, L, M> {
     /// Tries the place of a mark inside the value.
     #[inline(always)]
     fn try_place<N: Needle, B: Barrier>(&mut self, mark: Mark, needle: N, barrier: B) -> Scan
@@ -74,7 +74,7 @@ impl<'c, 'a, S: Ledger, L: Ledger, M: Texts> Engine<'c, 'a, S, L, M> {
         let Some(byte) = met else {
             return Scan::Undecided(reached);
         };
-        if self.suits_found(byte, needle) {
+        if needle.suits(byte) {
             return Scan::Found(reached);
         }
         self.stay();

@@ -9,7 +9,7 @@ use super::state::{Crossing, State, Turn};
 use super::texts::Texts;
 use std::sync::ledger::Ledger;
 
-impl<'c, 'a, S: Ledger, L: Ledger, M: Texts> Engine<'c, 'a, S, L, M> {
+impl<'c, 'a, L: Ledger, M: Texts> Engine<'c, 'a, L, M> {
     /// Whether the pattern matches the value.
     #[inline(always)]
     pub fn search(&mut self) -> bool

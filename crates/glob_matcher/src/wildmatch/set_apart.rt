@@ -7,15 +7,16 @@ ghost use Rattle.glob_matcher.specs.Private.Reader.{IsSetRead};
 
 use super::counted_text::CountedText;
 use super::counted_texts::CountedTexts;
-use super::counts::Counts;
+use super::counted_value::CountedValue;
 use super::engine::Engine;
 use super::sets::SetRead;
+use super::steps::Steps;
 use super::texts::Texts;
 use super::way::Way;
 use std::marker::Brand;
 use std::sync::ledger::Ledger;
 
-impl<'c, 'a, S: Ledger, L: Ledger, M: Texts> Engine<'c, 'a, S, L, M> {
+impl<'c, 'a, L: Ledger, M: Texts> Engine<'c, 'a, L, M> {
     /// Reads the set whose bracket stands at a place of the pattern, apart from this engine; `None` where no set begins.
     #[inline(always)]
     pub fn set_apart(&mut self, place: usize, byte: u8) -> Option<SetRead>
@@ -26,19 +27,19 @@ impl<'c, 'a, S: Ledger, L: Ledger, M: Texts> Engine<'c, 'a, S, L, M> {
     {
         let way = self.way();
         let texts = &mut self.texts;
-        read_set::<S, L, Brand>(texts.pattern.again(), place, byte, way, &mut *texts.counts).0
+        read_set::<L, Brand>(texts.pattern.again(), place, byte, way, &mut *texts.counts).0
     }
 }
 
 /// Reads a set by an engine without a value, and hands the counts back.
 #[inline(never)]
-fn read_set<'c, 'a, S: Ledger, L: Ledger, M: Texts>(
-    pattern: CountedText<'a, S, L>,
+fn read_set<'c, 'a, L: Ledger, M: Texts>(
+    pattern: CountedText<'a, L>,
     place: usize,
     byte: u8,
     way: Way,
-    counts: &'c mut Counts<S, L>,
-) -> (Option<SetRead>, &'c mut Counts<S, L>)
+    counts: &'c mut Steps<L>,
+) -> (Option<SetRead>, &'c mut Steps<L>)
     requires pattern { pattern ≡ M.pattern }
     requires value { M.value ≡ [] }
     requires way { way ≡ M.way }
@@ -49,7 +50,7 @@ fn read_set<'c, 'a, S: Ledger, L: Ledger, M: Texts>(
     ensures count { LookedOver 4 counts.old result.1.now place (read_end M.pattern result.0) }
     ensures looked { IfSome result.0 (λ set. counts.old.looks < result.1.now.looks) }
 {
-    let texts = CountedTexts::<'c, 'a, S, L, M>::of(pattern, CountedText::new(&[]), counts);
+    let texts = CountedTexts::<'c, 'a, L, M>::of(pattern, CountedValue::new(&[]), counts);
     let mut engine = Engine::new(texts, way);
     let set = engine.set_at(place, byte);
     (set, engine.into_counts())

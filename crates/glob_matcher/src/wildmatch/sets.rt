@@ -103,7 +103,7 @@ fn decides_set(is_held: bool, is_negated: bool, byte: u8, way: Way) -> bool
     !(way.is_path() && byte == b'/') && is_held != is_negated
 }
 
-impl<'c, 'a, S: Ledger, L: Ledger, M: Texts> Engine<'c, 'a, S, L, M> {
+impl<'c, 'a, L: Ledger, M: Texts> Engine<'c, 'a, L, M> {
     /// The byte that the backslash at this place escapes.
     pub fn escaped_at(&mut self, place: usize) -> Option<u8>
         requires { HasByte M.pattern place backslash }

@@ -1,4 +1,4 @@
-//! The readers of tokens over slices, for what counts nothing: each asks an engine with new counts that no one looks at.
+//! The readers of tokens over slices, for what counts nothing: each asks an engine with a new count that no one looks at.
 ghost use Rattle.std.specs.Prelude.{◌≡◌, ◌↔◌, ℕ, ◌<◌, IsTrue, [], length};
 ghost use Rattle.glob_matcher.specs.Bytes.{HasByte, open_bracket};
 ghost use Rattle.glob_matcher.specs.Tokens.{Token, TokenAt};
@@ -7,9 +7,9 @@ ghost use Rattle.glob_matcher.specs.Private.Fitting.{Fits};
 ghost use Rattle.glob_matcher.specs.Steps.{IsBlankOf};
 
 use super::counted_texts::CountedTexts;
-use super::counts::Counts;
 use super::engine::Engine;
 use super::sets::SetRead;
+use super::steps::Steps;
 use super::texts::{Texts, text_is_short};
 use super::tokens::{TokenKind, TokenRead};
 use super::way::Way;
@@ -21,35 +21,29 @@ pub fn token_at(pattern: &[u8], place: usize, way: Way) -> TokenRead
     requires { place < length pattern.now }
     ensures { IsToken way pattern.now place result.kind result.end }
 {
-    token_with_counts::<Brand, Brand>(pattern, place, way, (Blank::new(1), Blank::new(1)))
+    token_with_steps::<Brand>(pattern, place, way, Blank::new(2))
 }
 
-/// The same, with new counts.
+/// The same, with a new count.
 #[inline(always)]
-fn token_with_counts<S: Ledger, L: Ledger>(
-    pattern: &[u8],
-    place: usize,
-    way: Way,
-    blanks: (Blank, Blank),
-) -> TokenRead
-    requires steps { IsBlankOf S.name S.parts blanks.0 }
-    requires looks { IsBlankOf L.name L.parts blanks.1 }
+fn token_with_steps<L: Ledger>(pattern: &[u8], place: usize, way: Way, blank: Blank) -> TokenRead
+    requires blank { IsBlankOf L.name L.parts blank }
     requires inside { place < length pattern.now }
     ensures { IsToken way pattern.now place result.kind result.end }
 {
     text_is_short(pattern);
-    let mut counts = Counts::new(blanks.0, blanks.1);
-    token_over::<S, L, Brand>(pattern, place, way, &mut counts).0
+    let mut counts = Steps::new(blank);
+    token_over::<L, Brand>(pattern, place, way, &mut counts).0
 }
 
 /// The same, of the pattern in counted looks; and the counts.
 #[inline(always)]
-fn token_over<'c, 'a, S: Ledger, L: Ledger, M: Texts>(
+fn token_over<'c, 'a, L: Ledger, M: Texts>(
     pattern: &'a [u8],
     place: usize,
     way: Way,
-    counts: &'c mut Counts<S, L>,
-) -> (TokenRead, &'c mut Counts<S, L>)
+    counts: &'c mut Steps<L>,
+) -> (TokenRead, &'c mut Steps<L>)
     requires pattern { pattern.now ≡ M.pattern }
     requires value { M.value ≡ [] }
     requires way { way ≡ M.way }
@@ -57,7 +51,7 @@ fn token_over<'c, 'a, S: Ledger, L: Ledger, M: Texts>(
     requires inside { place < length pattern.now }
     ensures { IsToken way pattern.now place result.0.kind result.0.end }
 {
-    let texts = CountedTexts::<'c, 'a, S, L, M>::new(pattern, &[], counts);
+    let texts = CountedTexts::<'c, 'a, L, M>::new(pattern, &[], counts);
     let mut engine = Engine::new(texts, way);
     let token = engine.token_at(place);
     (token, engine.into_counts())
@@ -78,28 +72,27 @@ impl<'a> AskedSet<'a> {
         requires { HasByte self.pattern.now self.place open_bracket }
         ensures { IsSetRead self.entry.way self.entry.pattern.now self.entry.place self.entry.byte result }
     {
-        self.read_with_counts::<Brand, Brand>((Blank::new(1), Blank::new(1)))
+        self.read_with_steps::<Brand>(Blank::new(2))
     }
 
-    /// The same, with new counts.
+    /// The same, with a new count.
     #[inline(always)]
-    fn read_with_counts<S: Ledger, L: Ledger>(self, blanks: (Blank, Blank)) -> Option<SetRead>
-        requires steps { IsBlankOf S.name S.parts blanks.0 }
-        requires looks { IsBlankOf L.name L.parts blanks.1 }
+    fn read_with_steps<L: Ledger>(self, blank: Blank) -> Option<SetRead>
+        requires blank { IsBlankOf L.name L.parts blank }
         requires bracket { HasByte self.pattern.now self.place open_bracket }
         ensures { IsSetRead self.entry.way self.entry.pattern.now self.entry.place self.entry.byte result }
     {
         text_is_short(self.pattern);
-        let mut counts = Counts::new(blanks.0, blanks.1);
-        self.read_over::<S, L, Brand>(&mut counts).0
+        let mut counts = Steps::new(blank);
+        self.read_over::<L, Brand>(&mut counts).0
     }
 
     /// The same, of the pattern in counted looks; and the counts.
     #[inline(always)]
-    fn read_over<'c, S: Ledger, L: Ledger, M: Texts>(
+    fn read_over<'c, L: Ledger, M: Texts>(
         self,
-        counts: &'c mut Counts<S, L>,
-    ) -> (Option<SetRead>, &'c mut Counts<S, L>)
+        counts: &'c mut Steps<L>,
+    ) -> (Option<SetRead>, &'c mut Steps<L>)
         requires pattern { self.pattern.now ≡ M.pattern }
         requires value { M.value ≡ [] }
         requires way { self.way ≡ M.way }
@@ -107,7 +100,7 @@ impl<'a> AskedSet<'a> {
         requires bracket { HasByte self.pattern.now self.place open_bracket }
         ensures { IsSetRead self.entry.way self.entry.pattern.now self.entry.place self.entry.byte result.0 }
     {
-        let texts = CountedTexts::<'c, 'a, S, L, M>::new(self.pattern, &[], counts);
+        let texts = CountedTexts::<'c, 'a, L, M>::new(self.pattern, &[], counts);
         let mut engine = Engine::new(texts, self.way);
         let set = engine.set_apart(self.place, self.byte);
         (set, engine.into_counts())

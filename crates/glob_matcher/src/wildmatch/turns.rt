@@ -14,7 +14,7 @@ use super::texts::Texts;
 use super::tokens::TokenKind;
 use std::sync::ledger::Ledger;
 
-impl<'c, 'a, S: Ledger, L: Ledger, M: Texts> Engine<'c, 'a, S, L, M> {
+impl<'c, 'a, L: Ledger, M: Texts> Engine<'c, 'a, L, M> {
     /// A turn at a question mark or an escaped byte.
     #[inline(always)]
     fn single_turn(&mut self, state: State, kind: TokenKind, after: usize) -> Turn

@@ -7,13 +7,15 @@
 //! A match runs downwards: `ends` tells what the ends show, `search` takes the turns of `turns` and the ways back of
 //! `backtrack`, which scans by `scan`. They test the value by `fitting` and `marks`, and read the pattern by `tokens` and `sets`.
 ghost use Rattle.std.specs.Prelude.{◌≡◌, ◌↔◌, ◌+◌, ◌≤◌, IsTrue, IfSome, length};
-ghost use Rattle.glob_matcher.specs.Matching.{SplitsBy};
+ghost use Rattle.glob_matcher.specs.Matching.{Splits, SplitsBy};
 ghost use Rattle.glob_matcher.specs.Steps.{NeverFall, look_limit, step_limit};
 
 use super::counted_text::CountedText;
 use super::counted_texts::CountedTexts;
-use super::counts::Counts;
+use super::counted_value::CountedValue;
 use super::engine::Engine;
+use super::mode::Mode;
+use super::steps::Steps;
 use super::texts::{Texts, text_is_short};
 use super::way::Way;
 use std::marker::Brand;
@@ -24,12 +26,18 @@ use std::sync::ledger::Ledger;
 /// The count of steps rises by at most `2 * (p + 1) * (v + 1)` in both modes, `p` and `v` being the lengths in bytes of pattern
 /// and value, and the count of looks by at most `8 * (p + 1) * (v + 1)`. It takes no memory, and no recursion. The rules are
 /// in `docs/MATCHING.md`.
-pub fn marked<S: Ledger, L: Ledger>(
-    pattern: &[u8],
-    value: &[u8],
-    way: Way,
-    counts: &mut Counts<S, L>,
-) -> bool
+#[inline(always)]
+pub fn marked<L: Ledger>(pattern: &[u8], value: &[u8], mode: Mode, steps: &mut Steps<L>) -> bool
+    ensures exact { IsTrue result ↔ Splits value.now pattern.now mode }
+    ensures limit { steps.new.steps ≤ steps.old.steps + step_limit (length pattern.now) (length value.now) }
+    ensures looks { steps.new.looks ≤ steps.old.looks + look_limit (length pattern.now) (length value.now) }
+    ensures grows { NeverFall steps.old steps.new }
+{
+    marked_by(pattern, value, mode.way(), steps)
+}
+
+/// The same in a way to match, also one that no mode asks for.
+pub fn marked_by<L: Ledger>(pattern: &[u8], value: &[u8], way: Way, counts: &mut Steps<L>) -> bool
     ensures exact { IsTrue result ↔ SplitsBy value.now pattern.now way }
     ensures limit { counts.new.steps ≤ counts.old.steps + step_limit (length pattern.now) (length value.now) }
     ensures looks { counts.new.looks ≤ counts.old.looks + look_limit (length pattern.now) (length value.now) }
@@ -37,9 +45,9 @@ pub fn marked<S: Ledger, L: Ledger>(
 {
     text_is_short(pattern);
     text_is_short(value);
-    ends_then_search::<S, L, Brand>(
+    ends_then_search::<L, Brand>(
         CountedText::new(pattern),
-        CountedText::new(value),
+        CountedValue::new(value),
         way,
         counts,
     )
@@ -48,12 +56,12 @@ pub fn marked<S: Ledger, L: Ledger>(
 
 /// Whether the pattern matches the value, by what their ends tell, or else by the search; and the counts of what it took.
 #[inline(always)]
-fn ends_then_search<'c, 'a, S: Ledger, L: Ledger, M: Texts>(
-    pattern: CountedText<'a, S, L>,
-    value: CountedText<'a, S, L>,
+fn ends_then_search<'c, 'a, L: Ledger, M: Texts>(
+    pattern: CountedText<'a, L>,
+    value: CountedValue<'a, L>,
     way: Way,
-    counts: &'c mut Counts<S, L>,
-) -> (bool, &'c mut Counts<S, L>)
+    counts: &'c mut Steps<L>,
+) -> (bool, &'c mut Steps<L>)
     requires pattern { pattern ≡ M.pattern }
     requires value { value ≡ M.value }
     requires way { way ≡ M.way }
@@ -64,23 +72,23 @@ fn ends_then_search<'c, 'a, S: Ledger, L: Ledger, M: Texts>(
     ensures looks { result.1.now.looks ≤ counts.old.looks + look_limit (length pattern.entry) (length value.entry) }
     ensures grows { NeverFall counts.old result.1.now }
 {
-    let (told, counts) = compare_ends::<S, L, M>(pattern.again(), value.again(), way, counts);
+    let (told, counts) = compare_ends::<L, M>(pattern.again(), value.again(), way, counts);
     // Each arm names its answer: a bit that is handed on costs every call an instruction.
     match told {
         Some(true) => (true, counts),
         Some(false) => (false, counts),
-        None => search_whole::<S, L, M>(pattern, value, way, counts),
+        None => search_whole::<L, M>(pattern, value, way, counts),
     }
 }
 
 /// What the ends of both texts tell of the match, and the counts of what it took.
 #[inline(always)]
-fn compare_ends<'c, 'a, S: Ledger, L: Ledger, M: Texts>(
-    pattern: CountedText<'a, S, L>,
-    value: CountedText<'a, S, L>,
+fn compare_ends<'c, 'a, L: Ledger, M: Texts>(
+    pattern: CountedText<'a, L>,
+    value: CountedValue<'a, L>,
     way: Way,
-    counts: &'c mut Counts<S, L>,
-) -> (Option<bool>, &'c mut Counts<S, L>)
+    counts: &'c mut Steps<L>,
+) -> (Option<bool>, &'c mut Steps<L>)
     requires pattern { pattern ≡ M.pattern }
     requires value { value ≡ M.value }
     requires way { way ≡ M.way }
@@ -91,7 +99,7 @@ fn compare_ends<'c, 'a, S: Ledger, L: Ledger, M: Texts>(
     ensures looks { result.1.now.looks ≤ counts.old.looks + 2 }
     ensures grows { NeverFall counts.old result.1.now }
 {
-    let texts = CountedTexts::<'c, 'a, S, L, M>::of(pattern, value, counts);
+    let texts = CountedTexts::<'c, 'a, L, M>::of(pattern, value, counts);
     let mut ends = Engine::new(texts, way);
     let answer = ends.ends_tell();
     (answer, ends.into_counts())
@@ -100,12 +108,12 @@ fn compare_ends<'c, 'a, S: Ledger, L: Ledger, M: Texts>(
 /// Whether the search says that the pattern matches the value, and the counts of what it took. It is not inlined, so that a
 /// match that the ends tell doesn't pay for the registers of the search.
 #[inline(never)]
-fn search_whole<'c, 'a, S: Ledger, L: Ledger, M: Texts>(
-    pattern: CountedText<'a, S, L>,
-    value: CountedText<'a, S, L>,
+fn search_whole<'c, 'a, L: Ledger, M: Texts>(
+    pattern: CountedText<'a, L>,
+    value: CountedValue<'a, L>,
     way: Way,
-    counts: &'c mut Counts<S, L>,
-) -> (bool, &'c mut Counts<S, L>)
+    counts: &'c mut Steps<L>,
+) -> (bool, &'c mut Steps<L>)
     requires pattern { pattern ≡ M.pattern }
     requires value { value ≡ M.value }
     requires way { way ≡ M.way }
@@ -116,7 +124,7 @@ fn search_whole<'c, 'a, S: Ledger, L: Ledger, M: Texts>(
     ensures looks { result.1.now.looks + 2 ≤ counts.old.looks + look_limit (length pattern.entry) (length value.entry) }
     ensures grows { NeverFall counts.old result.1.now }
 {
-    let texts = CountedTexts::<'c, 'a, S, L, M>::of(pattern, value, counts);
+    let texts = CountedTexts::<'c, 'a, L, M>::of(pattern, value, counts);
     let mut engine = Engine::new(texts, way);
     let answer = engine.search();
     (answer, engine.into_counts())

@@ -3,10 +3,11 @@ use Rattle.std.proofs.Common.{◌≡◌, ℕ, ◌+◌, ◌-◌, ◌*◌, ◌≤�
 use Rattle.std.proofs.Math.Nat.{mul-le-mul, mul-le-mul_left, mul_assoc}
 use Rattle.std.proofs.lemmas.List.{length-drop, length-take}
 use Rattle.glob_matcher.specs.Steps.{look_limit, step_limit}
-use Rattle.glob_patterns.specs.PatternLimits.{pattern_look_limit}
+use Rattle.glob_patterns.specs.PatternLimits.{pattern_look_limit, pattern_step_limit}
 
-pub step_limit-le : (p v w : ℕ) → v ≤ w → step_limit p v ≤ step_limit p w
-step_limit-le p v w shorter = mul-le-mul_left (2 * (p + 1)) (omega (arith, shorter))
+pub pattern_step_limit-le : (p v w : ℕ) → v ≤ w → pattern_step_limit p v ≤ pattern_step_limit p w
+pattern_step_limit-le p v w shorter =
+    let matched : step_limit p v ≤ step_limit p w = mul-le-mul_left (2 * (p + 1)) (omega (arith, shorter)) in omega (arith, matched, shorter)
 
 pub pattern_look_limit-le : (p v w : ℕ) → v ≤ w → pattern_look_limit p v ≤ pattern_look_limit p w
 pattern_look_limit-le p v w shorter = mul-le-mul_left (10 * (p + 1)) (omega (arith, shorter))
@@ -24,7 +25,7 @@ pub within_both : (after between before first second limit : ℕ) → between �
 within_both after between before first second limit begins ends both = omega (arith, begins, ends, both)
 
 -- what follows a front takes no more than the whole, also with the front compared
-pub steps_behind : (p q v w : ℕ) → p ≤ q → v ≤ w → 0 + step_limit p v ≤ step_limit q w
+pub steps_behind : (p q v w : ℕ) → p ≤ q → v ≤ w → w + step_limit p v ≤ pattern_step_limit q w
 steps_behind p q v w shorter lower = let both : 2 * (p + 1) * (v + 1) ≤ 2 * (q + 1) * (w + 1) = mul-le-mul {n₁ = 2 * (p + 1)} {m₁ = v + 1} {n₂ = 2 * (q + 1)} {m₂ = w + 1} (omega arith) (omega arith) in omega (arith, both)
 
 pub looks_behind : (p q v w : ℕ) → p ≤ q → v ≤ w → 2 * q + look_limit p v ≤ pattern_look_limit q w

@@ -17,7 +17,11 @@ pub record HasInside (way : Way) (value text : List ℕ) : Type 0 where
   pub fits : place + (length text - 2) ≤ length value
   pub agree : AgreeFrom way text value 1 place (length text - 2)
 
--- how many looks an answer takes at most: more where there is one, since the matcher is then not asked
-abbrev pub answer_limit : Option Bool → ℕ → ℕ → ℕ
-answer_limit None p v = 2 * p + v
-answer_limit (Some _) p v = 3 * (p + 1) * (v + 1)
+-- how many steps and looks an answer takes at most: more where there is one, since the matcher is then not asked
+abbrev pub answer_step_limit : Option Bool → ℕ → ℕ → ℕ
+answer_step_limit None p v = 2 * v
+answer_step_limit (Some _) p v = (p + 2) * (v + 1)
+
+abbrev pub answer_look_limit : Option Bool → ℕ → ℕ → ℕ
+answer_look_limit None p v = 2 * p + v
+answer_look_limit (Some _) p v = 3 * (p + 1) * (v + 1)

@@ -1,4 +1,5 @@
-//! The comparisons that decide without the matcher whether a value matches. They read both texts in counted looks alone.
+//! The comparisons that decide without the matcher whether a value matches. They read both texts in counted looks alone, each look at
+//! the value being a step, too.
 ghost use Rattle.std.specs.Prelude.{◌≡◌, ◌↔◌, ◌||◌, ◌+◌, ◌*◌, ◌<◌, ◌≤◌, false, not, IsTrue, IfSome, length, slice_index, take, drop};
 ghost use Rattle.glob_matcher.specs.Bytes.{HasByte, fold, has_slash, is_path, slash, star};
 ghost use Rattle.glob_matcher.specs.Matching.{SplitsBy};
@@ -6,13 +7,13 @@ ghost use Rattle.glob_matcher.specs.Private.Takes.{Takes};
 ghost use Rattle.glob_patterns.specs.Laws.LiteralBytes.{AreAlike, EndsAlike};
 ghost use Rattle.glob_patterns.specs.Patterns.{IsPattern};
 ghost use Rattle.glob_patterns.specs.Private.Fronts.{AgreeFrom, BeginsAlike};
-ghost use Rattle.glob_patterns.specs.Private.Insides.{HasInside, IsBetweenStars, answer_limit};
-ghost use Rattle.glob_patterns.specs.Private.Shown.{IsShown, shown_limit};
+ghost use Rattle.glob_patterns.specs.Private.Insides.{HasInside, IsBetweenStars, answer_look_limit, answer_step_limit};
+ghost use Rattle.glob_patterns.specs.Private.Shown.{IsShown, TakesUpTo, shown_look_limit, shown_step_limit};
 
 use crate::byte_tests::is_special;
 use crate::mode::Mode;
 use bitflags::Flags;
-use glob_matcher::wildmatch::{CountedTexts, Counts, Texts};
+use glob_matcher::wildmatch::{CountedTexts, Steps, Texts};
 use glob_matcher::{laws, wildmatch};
 use std::marker::Model;
 use std::sync::ledger::Ledger;
@@ -33,14 +34,14 @@ pub(super) enum Shown {
 
 /// The text of a pattern beside a value. Contracts see the counts, and the two texts by `M`.
 #[derive(Drop)]
-pub(super) struct Comparison<'c, 'a, S: Ledger, L: Ledger, M: Texts> {
-    texts: CountedTexts<'c, 'a, S, L, M>,
+pub(super) struct Comparison<'c, 'a, L: Ledger, M: Texts> {
+    texts: CountedTexts<'c, 'a, L, M>,
     /// Whether it is known that the value has no slash.
     is_bare: bool,
     way: wildmatch::Way,
 }
 
-impl<'c, 'a, S: Ledger, L: Ledger, M: Texts> Model for Comparison<'c, 'a, S, L, M> {
+impl<'c, 'a, L: Ledger, M: Texts> Model for Comparison<'c, 'a, L, M> {
     ghost use Rattle.std.specs.Prelude.{◌≡◌, false, IsTrue};
     ghost use Rattle.glob_matcher.specs.Bytes.{has_slash};
     ghost use Rattle.glob_matcher.specs.Steps.{Counts};
@@ -52,14 +53,10 @@ impl<'c, 'a, S: Ledger, L: Ledger, M: Texts> Model for Comparison<'c, 'a, S, L, 
     ghost invariant = { λ c. (c.way ≡ M.way) × (IsTrue c.is_bare → has_slash M.value ≡ false) };
 }
 
-impl<'c, 'a, S: Ledger, L: Ledger, M: Texts> Comparison<'c, 'a, S, L, M> {
+impl<'c, 'a, L: Ledger, M: Texts> Comparison<'c, 'a, L, M> {
     /// Two texts that are to be compared. Where `is_bare`, the value has no slash.
     #[inline(always)]
-    pub(super) fn new(
-        texts: CountedTexts<'c, 'a, S, L, M>,
-        is_bare: bool,
-        way: wildmatch::Way,
-    ) -> Self
+    pub(super) fn new(texts: CountedTexts<'c, 'a, L, M>, is_bare: bool, way: wildmatch::Way) -> Self
         requires way { way ≡ M.way }
         requires bare { IsTrue is_bare → has_slash M.value ≡ false }
         ensures { result ≡ texts.entry }
@@ -73,7 +70,7 @@ impl<'c, 'a, S: Ledger, L: Ledger, M: Texts> Comparison<'c, 'a, S, L, M> {
 
     /// The counts, by the reference that they came by.
     #[inline(always)]
-    pub(super) fn into_counts(self) -> &'c mut Counts<S, L>
+    pub(super) fn into_counts(self) -> &'c mut Steps<L>
         ensures same { result.ghost_name ≡ M.counts }
         ensures counts { result.now ≡ self.entry }
     {
@@ -84,7 +81,7 @@ impl<'c, 'a, S: Ledger, L: Ledger, M: Texts> Comparison<'c, 'a, S, L, M> {
     #[inline(always)]
     pub(super) fn shown(&mut self, pattern_mode: Mode, first_wildcard_pos: Option<usize>) -> Shown
         ensures meaning { IsPattern M.pattern pattern_mode first_wildcard_pos → IsShown result M.value M.pattern M.way }
-        ensures count { Takes self.old self.new 0 (shown_limit result (length M.pattern) (length M.value)) }
+        ensures count { TakesUpTo self.old self.new (shown_step_limit result (length M.pattern) (length M.value)) (shown_look_limit result (length M.pattern) (length M.value)) }
     {
         match self.answer(pattern_mode, first_wildcard_pos) {
             Some(true) => Shown::Match,
@@ -99,7 +96,7 @@ impl<'c, 'a, S: Ledger, L: Ledger, M: Texts> Comparison<'c, 'a, S, L, M> {
     fn answer(&mut self, pattern_mode: Mode, first_wildcard_pos: Option<usize>) -> Option<bool>
         ensures meaning { IsPattern M.pattern pattern_mode first_wildcard_pos →
             IfSome result (λ answer. IsTrue answer ↔ SplitsBy M.value M.pattern M.way) }
-        ensures count { Takes self.old self.new 0 (answer_limit result (length M.pattern) (length M.value)) }
+        ensures count { TakesUpTo self.old self.new (answer_step_limit result (length M.pattern) (length M.value)) (answer_look_limit result (length M.pattern) (length M.value)) }
     {
         let Some(pos) = first_wildcard_pos else {
             return Some(self.are_alike());
@@ -127,7 +124,7 @@ impl<'c, 'a, S: Ledger, L: Ledger, M: Texts> Comparison<'c, 'a, S, L, M> {
     #[inline(always)]
     fn between_stars(&mut self) -> Option<bool>
         ensures meaning { IfSome result (λ answer. IsTrue answer ↔ SplitsBy M.value M.pattern M.way) }
-        ensures count { Takes self.old self.new 0 (answer_limit result (length M.pattern) (length M.value)) }
+        ensures count { TakesUpTo self.old self.new (answer_step_limit result (length M.pattern) (length M.value)) (answer_look_limit result (length M.pattern) (length M.value)) }
     {
         if self.texts.value_len() > LONGEST_SEARCHED
             || !self.is_between_stars()
@@ -161,7 +158,7 @@ impl<'c, 'a, S: Ledger, L: Ledger, M: Texts> Comparison<'c, 'a, S, L, M> {
     fn has_inside(&mut self) -> bool
         requires { 3 ≤ length M.pattern }
         ensures exact { IsTrue result ↔ HasInside M.way M.value M.pattern }
-        ensures count { Takes self.old self.new 0 (2 * length M.pattern * (length M.value + 1)) }
+        ensures count { TakesUpTo self.old self.new (length M.pattern * (length M.value + 1)) (2 * length M.pattern * (length M.value + 1)) }
     {
         let len = self.texts.pattern_len() - 2;
         let value_len = self.texts.value_len();
@@ -180,7 +177,7 @@ impl<'c, 'a, S: Ledger, L: Ledger, M: Texts> Comparison<'c, 'a, S, L, M> {
     #[inline(always)]
     fn are_alike(&mut self) -> bool
         ensures exact { IsTrue result ↔ AreAlike M.way M.pattern M.value }
-        ensures count { Takes self.old self.new 0 (2 * length M.pattern) }
+        ensures count { TakesUpTo self.old self.new (length M.value) (2 * length M.pattern) }
     {
         let len = self.texts.pattern_len();
         if self.texts.value_len() != len {
@@ -193,7 +190,7 @@ impl<'c, 'a, S: Ledger, L: Ledger, M: Texts> Comparison<'c, 'a, S, L, M> {
     #[inline(always)]
     pub(super) fn begins_alike(&mut self, place: usize) -> bool
         ensures exact { IsTrue result ↔ BeginsAlike M.way M.value (take place M.pattern) }
-        ensures count { Takes self.old self.new 0 (2 * length M.pattern) }
+        ensures count { TakesUpTo self.old self.new (length M.value) (2 * length M.pattern) }
     {
         let len = place.min(self.texts.pattern_len());
         if self.texts.value_len() < len {
@@ -206,7 +203,7 @@ impl<'c, 'a, S: Ledger, L: Ledger, M: Texts> Comparison<'c, 'a, S, L, M> {
     #[inline(always)]
     fn ends_alike(&mut self) -> bool
         ensures exact { IsTrue result ↔ EndsAlike M.way M.value (drop 1 M.pattern) }
-        ensures count { Takes self.old self.new 0 (2 * length M.pattern) }
+        ensures count { TakesUpTo self.old self.new (length M.value) (2 * length M.pattern) }
     {
         let from = self.texts.pattern_len().min(1);
         let len = self.texts.pattern_len() - from;
@@ -224,7 +221,7 @@ impl<'c, 'a, S: Ledger, L: Ledger, M: Texts> Comparison<'c, 'a, S, L, M> {
         requires pattern { place + count ≤ length M.pattern }
         requires value { at + count ≤ length M.value }
         ensures exact { IsTrue result ↔ AgreeFrom M.way M.pattern M.value place at count }
-        ensures count { Takes self.old self.new 0 (2 * count) }
+        ensures count { TakesUpTo self.old self.new count (2 * count) }
     {
         'bytes: for i in 0..count {
             if !self.agree_at(place + i, at + i) {
@@ -240,7 +237,7 @@ impl<'c, 'a, S: Ledger, L: Ledger, M: Texts> Comparison<'c, 'a, S, L, M> {
         requires pattern { place < length M.pattern }
         requires value { at < length M.value }
         ensures exact { IsTrue result ↔ (fold M.way (slice_index M.pattern place) ≡ fold M.way (slice_index M.value at)) }
-        ensures count { Takes self.old self.new 0 2 }
+        ensures count { Takes self.old self.new 1 2 }
     {
         let one = self.texts.pattern_byte(place);
         let other = self.texts.value_byte(at);
@@ -261,7 +258,7 @@ impl<'c, 'a, S: Ledger, L: Ledger, M: Texts> Comparison<'c, 'a, S, L, M> {
     #[inline(always)]
     fn is_one_component(&mut self) -> bool
         ensures exact { result ≡ (not (is_path M.way) || not (has_slash M.value)) }
-        ensures count { Takes self.old self.new 0 (length M.value) }
+        ensures count { TakesUpTo self.old self.new (length M.value) (length M.value) }
     {
         if self.is_bare || !self.way.is_path() {
             return true;
@@ -280,7 +277,7 @@ impl<'c, 'a, S: Ledger, L: Ledger, M: Texts> Comparison<'c, 'a, S, L, M> {
     fn is_slash(&mut self, at: usize) -> bool
         requires { at < length M.value }
         ensures exact { IsTrue result ↔ (slice_index M.value at ≡ slash) }
-        ensures count { Takes self.old self.new 0 1 }
+        ensures count { Takes self.old self.new 1 1 }
     {
         self.texts.value_byte(at) == b'/'
     }

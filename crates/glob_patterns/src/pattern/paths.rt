@@ -6,7 +6,7 @@ ghost use Rattle.glob_patterns.specs.RepositoryPaths.{IsBasenameStart, with_case
 use super::{Case, Mode, Pattern};
 use bitflags::Flags;
 use glob_matcher::wildmatch;
-use glob_matcher::wildmatch::{Counts, Way};
+use glob_matcher::wildmatch::{Steps, Way};
 use memchr::memrchr;
 use std::sync::ledger::Ledger;
 
@@ -90,8 +90,8 @@ impl Pattern {
     ghost use Rattle.std.specs.Prelude.{◌+◌, ◌≤◌, length};
     ghost use Rattle.std.specs.Option.{ForSome};
     ghost use Rattle.glob_matcher.specs.Bytes.{HasByte, slash};
-    ghost use Rattle.glob_matcher.specs.Steps.{NeverFall, step_limit};
-    ghost use Rattle.glob_patterns.specs.PatternLimits.{pattern_look_limit};
+    ghost use Rattle.glob_matcher.specs.Steps.{NeverFall};
+    ghost use Rattle.glob_patterns.specs.PatternLimits.{pattern_look_limit, pattern_step_limit};
     ghost use Rattle.glob_patterns.specs.PatternParts.{text_of, mode_of};
     ghost use Rattle.glob_patterns.specs.RepositoryPaths.{IsAfterLastSlash, Answers};
 
@@ -119,21 +119,21 @@ impl Pattern {
     /// Whether a path of a repository matches, as [`Pattern::matches_repo_relative_path`] answers it, with its steps and
     /// looks counted.
     ///
-    /// The count of steps rises by at most `2 * (p + 1) * (v + 1)`, and that of looks by at most `10 * (p + 1) * (v + 1)`, `p` and
-    /// `v` being the lengths in bytes of text and path. No count falls.
-    pub fn matches_repo_relative_path_with_counts<S: Ledger, L: Ledger>(
+    /// The count of steps rises by at most `2 * (p + 1) * (v + 1) + 2 * v`, and that of looks by at most `10 * (p + 1) * (v + 1)`, `p`
+    /// and `v` being the lengths in bytes of text and path. No count falls.
+    pub fn matches_repo_relative_path_with_counts<L: Ledger>(
         &self,
         path: &[u8],
         basename_start_pos: Option<usize>,
         is_dir: Option<bool>,
         case: Case,
         mode: wildmatch::Mode,
-        counts: &mut Counts<S, L>,
+        counts: &mut Steps<L>,
     ) -> bool
         requires relative { ¬ HasByte path.now 0 slash }
         requires basename { ForSome basename_start_pos (IsAfterLastSlash path.now) }
         ensures exact { IsTrue result ↔ Answers (text_of self.now) (mode_of self.now) path.now basename_start_pos is_dir case mode }
-        ensures steps { counts.new.steps ≤ counts.old.steps + step_limit (length (text_of self.now)) (length path.now) }
+        ensures steps { counts.new.steps ≤ counts.old.steps + pattern_step_limit (length (text_of self.now)) (length path.now) }
         ensures looks { counts.new.looks ≤ counts.old.looks + pattern_look_limit (length (text_of self.now)) (length path.now) }
         ensures grows { NeverFall counts.old counts.new }
     {

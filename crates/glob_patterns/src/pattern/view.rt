@@ -3,14 +3,13 @@ ghost use Rattle.std.specs.Prelude.{◌≡◌, ◌↔◌, ◌+◌, ◌*◌, ◌�
 ghost use Rattle.std.specs.Option.{ForSome};
 ghost use Rattle.glob_matcher.specs.Bytes.{HasByte, has_slash, slash};
 ghost use Rattle.glob_matcher.specs.Matching.{Splits, SplitsBy};
-ghost use Rattle.glob_matcher.specs.Private.Takes.{Takes};
-ghost use Rattle.glob_matcher.specs.Steps.{IsBlankOf, NeverFall, step_limit};
-ghost use Rattle.glob_patterns.specs.PatternLimits.{pattern_look_limit};
+ghost use Rattle.glob_matcher.specs.Steps.{IsBlankOf, NeverFall};
+ghost use Rattle.glob_patterns.specs.PatternLimits.{pattern_look_limit, pattern_step_limit};
 ghost use Rattle.glob_patterns.specs.GitLines.{GitReads};
 ghost use Rattle.glob_patterns.specs.Patterns.{HasReading, IsPattern, Reads, is_blank, without_negation};
 ghost use Rattle.glob_patterns.specs.RepositoryPaths.{Answers, IsAfterLastSlash};
 ghost use Rattle.glob_patterns.specs.Private.Asked.{IsAnswered, IsAnsweredAsGit};
-ghost use Rattle.glob_patterns.specs.Private.Shown.{IsShown, shown_limit};
+ghost use Rattle.glob_patterns.specs.Private.Shown.{IsShown, TakesUpTo, shown_look_limit, shown_step_limit};
 
 use super::comparisons::{Comparison, Shown};
 use super::paths::Asked;
@@ -18,7 +17,7 @@ use super::{Case, Mode};
 use crate::parse;
 use bitflags::Flags;
 use glob_matcher::wildmatch;
-use glob_matcher::wildmatch::{CountedTexts, Counts, Texts, text_is_short};
+use glob_matcher::wildmatch::{CountedTexts, Steps, Texts, text_is_short};
 use std::marker::Brand;
 use std::sync::ledger::{Blank, Ledger};
 
@@ -73,39 +72,38 @@ impl<'a> PatternView<'a> {
         ensures { IsPattern self.entry.text.now self.entry.mode self.entry.first_wildcard_pos →
             IsTrue result ↔ Splits value.now self.entry.text.now mode }
     {
-        self.matches_with_new_counts::<Brand, Brand>(value, mode, (Blank::new(1), Blank::new(1)))
+        self.matches_with_new_steps::<Brand>(value, mode, Blank::new(2))
     }
 
-    /// Whether the text matches the value, with new counts that no one asks for.
+    /// Whether the text matches the value, with a new count that no one asks for.
     #[inline(always)]
-    fn matches_with_new_counts<S: Ledger, L: Ledger>(
+    fn matches_with_new_steps<L: Ledger>(
         self,
         value: &[u8],
         mode: wildmatch::Mode,
-        blanks: (Blank, Blank),
+        blank: Blank,
     ) -> bool
-        requires steps { IsBlankOf S.name S.parts blanks.0 }
-        requires looks { IsBlankOf L.name L.parts blanks.1 }
+        requires { IsBlankOf L.name L.parts blank }
         ensures { IsPattern self.entry.text.now self.entry.mode self.entry.first_wildcard_pos →
             IsTrue result ↔ Splits value.now self.entry.text.now mode }
     {
-        self.matches_with_counts(value, mode, &mut Counts::<S, L>::new(blanks.0, blanks.1))
+        self.matches_with_counts(value, mode, &mut Steps::<L>::new(blank))
     }
 
     /// Whether the text matches the value, as [`PatternView::matches`] answers it, with its steps and looks counted.
     ///
-    /// The count of steps rises by at most `2 * (p + 1) * (v + 1)`, and that of looks by at most `10 * (p + 1) * (v + 1)`, `p` and
-    /// `v` being the lengths in bytes of text and value. No count falls.
+    /// The count of steps rises by at most `2 * (p + 1) * (v + 1) + 2 * v`, and that of looks by at most `10 * (p + 1) * (v + 1)`, `p`
+    /// and `v` being the lengths in bytes of text and value. No count falls.
     #[inline(always)]
-    pub fn matches_with_counts<S: Ledger, L: Ledger>(
+    pub fn matches_with_counts<L: Ledger>(
         self,
         value: &[u8],
         mode: wildmatch::Mode,
-        counts: &mut Counts<S, L>,
+        counts: &mut Steps<L>,
     ) -> bool
         ensures exact { IsPattern self.entry.text.now self.entry.mode self.entry.first_wildcard_pos →
             IsTrue result ↔ Splits value.now self.entry.text.now mode }
-        ensures steps { counts.new.steps ≤ counts.old.steps + step_limit (length self.entry.text.now) (length value.now) }
+        ensures steps { counts.new.steps ≤ counts.old.steps + pattern_step_limit (length self.entry.text.now) (length value.now) }
         ensures looks { counts.new.looks
             ≤ counts.old.looks + pattern_look_limit (length self.entry.text.now) (length value.now) }
         ensures grows { NeverFall counts.old counts.new }
@@ -116,41 +114,41 @@ impl<'a> PatternView<'a> {
     /// Whether the text matches the value, as [`PatternView::matches_with_counts`] answers it. Where `is_bare`, the value has no
     /// slash.
     #[inline(always)]
-    pub(super) fn decide<S: Ledger, L: Ledger>(
+    pub(super) fn decide<L: Ledger>(
         self,
         value: &[u8],
         is_bare: bool,
         way: wildmatch::Way,
-        counts: &mut Counts<S, L>,
+        counts: &mut Steps<L>,
     ) -> bool
         requires { IsTrue is_bare → has_slash value.now ≡ false }
         ensures exact { IsPattern self.entry.text.now self.entry.mode self.entry.first_wildcard_pos →
             IsTrue result ↔ SplitsBy value.now self.entry.text.now way }
-        ensures steps { counts.new.steps ≤ counts.old.steps + step_limit (length self.entry.text.now) (length value.now) }
+        ensures steps { counts.new.steps ≤ counts.old.steps + pattern_step_limit (length self.entry.text.now) (length value.now) }
         ensures looks { counts.new.looks
             ≤ counts.old.looks + pattern_look_limit (length self.entry.text.now) (length value.now) }
         ensures grows { NeverFall counts.old counts.new }
     {
         text_is_short(self.text);
         text_is_short(value);
-        let (shown, counts) = self.compared::<S, L, Brand>(value, is_bare, way, counts);
+        let (shown, counts) = self.compared::<L, Brand>(value, is_bare, way, counts);
         // Each arm names its answer: a bit that is handed on costs every call an instruction.
         match shown {
             Shown::Match => true,
             Shown::Miss => false,
-            Shown::Open(way) => wildmatch::marked(self.text, value, way, counts),
+            Shown::Open(way) => wildmatch::marked_by(self.text, value, way, counts),
         }
     }
 
     /// What a comparison of text and value shows, and the counts of what it took.
     #[inline(always)]
-    fn compared<'c, S: Ledger, L: Ledger, M: Texts>(
+    fn compared<'c, L: Ledger, M: Texts>(
         self,
         value: &'a [u8],
         is_bare: bool,
         way: wildmatch::Way,
-        counts: &'c mut Counts<S, L>,
-    ) -> (Shown, &'c mut Counts<S, L>)
+        counts: &'c mut Steps<L>,
+    ) -> (Shown, &'c mut Steps<L>)
         requires pattern { self.text.now ≡ M.pattern }
         requires value { value.now ≡ M.value }
         requires way { way ≡ M.way }
@@ -159,9 +157,10 @@ impl<'a> PatternView<'a> {
         ensures meaning { IsPattern self.entry.text.now self.entry.mode self.entry.first_wildcard_pos →
             IsShown result.0 value.now self.entry.text.now way }
         ensures same { result.1.ghost_name ≡ counts.entry.ghost_name }
-        ensures count { Takes counts.old result.1.now 0 (shown_limit result.0 (length self.entry.text.now) (length value.now)) }
+        ensures count { TakesUpTo counts.old result.1.now (shown_step_limit result.0 (length self.entry.text.now) (length value.now))
+            (shown_look_limit result.0 (length self.entry.text.now) (length value.now)) }
     {
-        let texts = CountedTexts::<'c, 'a, S, L, M>::new(self.text, value, counts);
+        let texts = CountedTexts::<'c, 'a, L, M>::new(self.text, value, counts);
         let mut comparison = Comparison::new(texts, is_bare, way);
         let shown = comparison.shown(self.mode, self.first_wildcard_pos);
         (shown, comparison.into_counts())
@@ -190,25 +189,20 @@ impl<'a> PatternView<'a> {
             mode,
             as_git: false,
         };
-        self.answers_with_new_counts::<Brand, Brand>(asked, (Blank::new(1), Blank::new(1)))
+        self.answers_with_new_steps::<Brand>(asked, Blank::new(2))
     }
 
-    /// Whether a path of a repository matches, with new counts that no one asks for.
+    /// Whether a path of a repository matches, with a new count that no one asks for.
     #[inline(always)]
-    pub(super) fn answers_with_new_counts<S: Ledger, L: Ledger>(
-        self,
-        asked: Asked<'_>,
-        blanks: (Blank, Blank),
-    ) -> bool
+    pub(super) fn answers_with_new_steps<L: Ledger>(self, asked: Asked<'_>, blank: Blank) -> bool
         requires basename { ForSome asked.basename_start_pos (IsAfterLastSlash asked.path.now) }
-        requires steps { IsBlankOf S.name S.parts blanks.0 }
-        requires looks { IsBlankOf L.name L.parts blanks.1 }
+        requires blank { IsBlankOf L.name L.parts blank }
         ensures by_crate { IsPattern self.entry.text.now self.entry.mode self.entry.first_wildcard_pos → asked.entry.as_git ≡ false →
             IsTrue result ↔ IsAnswered self.entry.text.now self.entry.mode asked.entry }
         ensures by_git { IsPattern self.entry.text.now self.entry.mode self.entry.first_wildcard_pos → IsTrue asked.entry.as_git →
             IsTrue result ↔ IsAnsweredAsGit self.entry.text.now self.entry.mode asked.entry }
     {
-        self.answers(asked, &mut Counts::<S, L>::new(blanks.0, blanks.1))
+        self.answers(asked, &mut Steps::<L>::new(blank))
     }
 
     /// Whether a path of a repository matches, as [`PatternView::matches_repo_relative_path`] answers it, with its steps and
@@ -216,20 +210,20 @@ impl<'a> PatternView<'a> {
     ///
     /// The counts rise by no more than those of [`PatternView::matches_with_counts`] for the whole path may. No count falls.
     #[inline(always)]
-    pub fn matches_repo_relative_path_with_counts<S: Ledger, L: Ledger>(
+    pub fn matches_repo_relative_path_with_counts<L: Ledger>(
         self,
         path: &[u8],
         basename_start_pos: Option<usize>,
         is_dir: Option<bool>,
         case: Case,
         mode: wildmatch::Mode,
-        counts: &mut Counts<S, L>,
+        counts: &mut Steps<L>,
     ) -> bool
         requires relative { ¬ HasByte path.now 0 slash }
         requires basename { ForSome basename_start_pos (IsAfterLastSlash path.now) }
         ensures exact { IsPattern self.entry.text.now self.entry.mode self.entry.first_wildcard_pos →
             IsTrue result ↔ Answers self.entry.text.now self.entry.mode path.now basename_start_pos is_dir case mode }
-        ensures steps { counts.new.steps ≤ counts.old.steps + step_limit (length self.entry.text.now) (length path.now) }
+        ensures steps { counts.new.steps ≤ counts.old.steps + pattern_step_limit (length self.entry.text.now) (length path.now) }
         ensures looks { counts.new.looks
             ≤ counts.old.looks + pattern_look_limit (length self.entry.text.now) (length path.now) }
         ensures grows { NeverFall counts.old counts.new }
@@ -249,17 +243,13 @@ impl<'a> PatternView<'a> {
     ///
     /// It is one body for both readings: a caller that takes either has `decide` in line once, and stays small enough to be inlined.
     #[inline(always)]
-    pub(super) fn answers<S: Ledger, L: Ledger>(
-        self,
-        asked: Asked<'_>,
-        counts: &mut Counts<S, L>,
-    ) -> bool
+    pub(super) fn answers<L: Ledger>(self, asked: Asked<'_>, counts: &mut Steps<L>) -> bool
         requires { ForSome asked.basename_start_pos (IsAfterLastSlash asked.path.now) }
         ensures by_crate { IsPattern self.entry.text.now self.entry.mode self.entry.first_wildcard_pos → asked.entry.as_git ≡ false →
             IsTrue result ↔ IsAnswered self.entry.text.now self.entry.mode asked.entry }
         ensures by_git { IsPattern self.entry.text.now self.entry.mode self.entry.first_wildcard_pos → IsTrue asked.entry.as_git →
             IsTrue result ↔ IsAnsweredAsGit self.entry.text.now self.entry.mode asked.entry }
-        ensures steps { counts.new.steps ≤ counts.old.steps + step_limit (length self.entry.text.now) (length asked.entry.path.now) }
+        ensures steps { counts.new.steps ≤ counts.old.steps + pattern_step_limit (length self.entry.text.now) (length asked.entry.path.now) }
         ensures looks { counts.new.looks
             ≤ counts.old.looks + pattern_look_limit (length self.entry.text.now) (length asked.entry.path.now) }
         ensures grows { NeverFall counts.old counts.new }

@@ -6,7 +6,7 @@ ghost use Rattle.gix_glob.specs.Stripping.{RestOf, NothingLeft, IsPlaced, place_
 use super::{Mapping, strip_base_handle_recompute_basename_pos, strip_base_with_counts};
 use crate::pattern::Case;
 use crate::search::Pattern;
-use crate::wildmatch::Counts;
+use crate::wildmatch::Steps;
 use std::alloc::{AllocError, Global};
 use std::sync::ledger::Ledger;
 
@@ -82,12 +82,12 @@ impl<T: Pattern> List<T> {
 
     /// What is left of `relative_path` under the base of this list, as [`List::strip_base_handle_recompute_basename_pos`]
     /// answers it, under its condition, with looks counted as [`strip_base_with_counts`] does. Without a base there are none.
-    pub fn strip_base_with_counts<'a, S: Ledger, L: Ledger>(
+    pub fn strip_base_with_counts<'a, L: Ledger>(
         &self,
         relative_path: &'a [u8],
         basename_pos: Option<usize>,
         case: Case,
-        counts: &mut Counts<S, L>,
+        counts: &mut Steps<L>,
     ) -> Option<(&'a [u8], Option<usize>)>
         requires { IsPlaced case (option_map vec_items self.now.base) relative_path.now basename_pos }
         ensures rest { MatchOption result

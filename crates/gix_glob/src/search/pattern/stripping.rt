@@ -4,7 +4,7 @@ ghost use Rattle.std.specs.Option.{ForSome};
 ghost use Rattle.gix_glob.specs.Stripping.{Rest, NothingLeft, IsPlaced, stripped_place, strip_looks};
 
 use crate::pattern::Case;
-use crate::wildmatch::Counts;
+use crate::wildmatch::Steps;
 use std::sync::ledger::Ledger;
 
 /// Strips `base` from the front of `relative_path`, and answers what follows it, a part of the given path, with the
@@ -30,12 +30,12 @@ pub fn strip_base_handle_recompute_basename_pos<'a>(
 
 /// Strips `base` as [`strip_base_handle_recompute_basename_pos`] does, under its condition, and counts a look at each byte that
 /// it may read: those of the base as far as the path goes, and those of the path beside them. No step is counted.
-pub fn strip_base_with_counts<'a, S: Ledger, L: Ledger>(
+pub fn strip_base_with_counts<'a, L: Ledger>(
     base: &[u8],
     relative_path: &'a [u8],
     basename_pos: Option<usize>,
     case: Case,
-    counts: &mut Counts<S, L>,
+    counts: &mut Steps<L>,
 ) -> Option<(&'a [u8], Option<usize>)>
     requires { IsPlaced case (Some base.now) relative_path.now basename_pos }
     ensures rest { MatchOption result

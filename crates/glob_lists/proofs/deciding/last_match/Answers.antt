@@ -6,8 +6,7 @@ use Rattle.glob_lists.specs.Deciding.{AnswersAt, AnswersUnder}
 use Rattle.gix_glob.specs.Entries.{entry_of}
 use Rattle.gix_glob.specs.EntryLists.{entry_list_of}
 use Rattle.gix_glob.specs.PatternParts.{mode_of, text_of}
-use Rattle.gix_glob.specs.Steps.{step_limit}
-use Rattle.gix_glob.specs.PatternLimits.{pattern_look_limit}
+use Rattle.gix_glob.specs.PatternLimits.{pattern_look_limit, pattern_step_limit}
 use Rattle.gix_glob.specs.Stripping.{strip_looks}
 use Rattle.glob_lists.proofs.lemmas.Deciding.Answering.{AnswersAt-only, AnswersAt-yes, AnswersUnder-tested}
 use Rattle.glob_lists.proofs.lemmas.Deciding.DecisionSums.{counted-all, counted-all_after, counted-from, looks-under, steps-under}
@@ -43,11 +42,11 @@ told g c =
 -- what the mappings from the tested one on have taken
 tested_steps : (g : Over) (c : After-is_matched_with_counts g) → c.is_matched_with_counts.new.counts.steps
     ≤ c.args.counts.now.steps
-    + sum_by (λ entry. step_limit (length entry.text) (length c.args.path.now.bytes)) (drop (c.loop-m.m - 1) (map (entry_of g.T.Pattern.seen) c.args.list.now.patterns.items))
+    + sum_by (λ entry. pattern_step_limit (length entry.text) (length c.args.path.now.bytes)) (drop (c.loop-m.m - 1) (map (entry_of g.T.Pattern.seen) c.args.list.now.patterns.items))
 tested_steps g c =
     let next : c.loop-m.m ≡ c.loop-m.m - 1 + 1 = omega arith in
     let counted = rw (tested_text g c) at c.is_matched_with_counts.ensures.steps in
-    counted-from (λ entry. step_limit (length entry.text) (length c.args.path.now.bytes)) _ _ _ _ _ _ (entry_of g.T.Pattern.seen c.index-mappings-m.result) next (tested_entry g c)
+    counted-from (λ entry. pattern_step_limit (length entry.text) (length c.args.path.now.bytes)) _ _ _ _ _ _ (entry_of g.T.Pattern.seen c.index-mappings-m.result) next (tested_entry g c)
     c.loop-m.invariant.steps
     (steps-under c.args.rules.case _ _ _ c.in_ok-rest.ensures.rest.0 (length (text_of c.index-mappings-m.result.pattern)) _ _ counted)
 
@@ -73,7 +72,7 @@ returns-then-is_matched_with_counts-clause-last g c =
 
 pub returns-then-is_matched_with_counts-clause-steps : goal.returns-then-is_matched_with_counts-clause-steps
 returns-then-is_matched_with_counts-clause-steps g c =
-    counted-all (λ entry. step_limit (length entry.text) (length c.args.path.now.bytes)) (map (entry_of g.T.Pattern.seen) c.args.list.now.patterns.items) _ _ (c.loop-m.m - 1)
+    counted-all (λ entry. pattern_step_limit (length entry.text) (length c.args.path.now.bytes)) (map (entry_of g.T.Pattern.seen) c.args.list.now.patterns.items) _ _ (c.loop-m.m - 1)
     (tested_steps g (goal.at.returns-then-is_matched_with_counts-clause-steps g c).After-is_matched_with_counts)
 
 pub returns-then-is_matched_with_counts-clause-looks : goal.returns-then-is_matched_with_counts-clause-looks

@@ -4,8 +4,8 @@ use Rattle.std.specs.Vec.{vec_items}
 use Rattle.glob_lists.specs.Deciding.{AnswersAt}
 use Rattle.gix_glob.specs.Entries.{entry_of}
 use Rattle.gix_glob.specs.EntryLists.{entry_list_of}
-use Rattle.gix_glob.specs.Steps.{NeverFall, step_limit}
-use Rattle.gix_glob.specs.PatternLimits.{pattern_look_limit}
+use Rattle.gix_glob.specs.Steps.{NeverFall}
+use Rattle.gix_glob.specs.PatternLimits.{pattern_look_limit, pattern_step_limit}
 use Rattle.gix_glob.specs.Stripping.{strip_looks}
 use Rattle.glob_lists.proofs.lemmas.Deciding.LastNumbers.{NoneFrom}
 use Rattle.glob_lists.proofs.deciding.last_match.Given as goal
@@ -17,7 +17,7 @@ invariant-loop-m g l = record {
   grows : NeverFall l.fn.counts l.counts;
   steps : l.counts.steps
       ≤ l.fn.counts.steps
-      + sum_by (λ entry. step_limit (length entry.text) (length l.path.bytes)) (drop l.m (map (entry_of g.T.Pattern.seen) l.list.patterns.items));
+      + sum_by (λ entry. pattern_step_limit (length entry.text) (length l.path.bytes)) (drop l.m (map (entry_of g.T.Pattern.seen) l.list.patterns.items));
   looks : l.counts.looks
       ≤ l.fn.counts.looks + strip_looks (option_map vec_items l.list.base) (length l.path.bytes)
       + sum_by (λ entry. pattern_look_limit (length entry.text) (length l.path.bytes)) (drop l.m (map (entry_of g.T.Pattern.seen) l.list.patterns.items));

@@ -4,10 +4,9 @@ use Rattle.std.specs.Prelude.{slice_get, sum_by}
 use Rattle.std.proofs.lemmas.List.{drop-drop}
 use Rattle.std.proofs.lemmas.List.Sums.{sum_by-drop_more, sum_by-le, sum_by-take-drop}
 use Rattle.std.proofs.lemmas.Option.{get_or_from_slice_get, slice_get_within}
-use Rattle.gix_glob.specs.Steps.{step_limit}
-use Rattle.gix_glob.specs.PatternLimits.{pattern_look_limit}
+use Rattle.gix_glob.specs.PatternLimits.{pattern_look_limit, pattern_step_limit}
 use Rattle.gix_glob.specs.declared.pattern.Case.{Case}
-use Rattle.gix_glob.proofs.lemmas.Limits.{pattern_look_limit-le, step_limit-le, within_more}
+use Rattle.gix_glob.proofs.lemmas.Limits.{pattern_look_limit-le, pattern_step_limit-le, within_more}
 use Rattle.gix_glob.specs.Stripping.{RestOf}
 
 -- ---- sums from an element on
@@ -53,8 +52,8 @@ length-RestOf case None path rest left = omega (arith, ap length left)
 length-RestOf case (Some base) path rest left = omega (arith, ap length left.joined, length-append left.front rest)
 
 module _ (case : Case) (base : Option (List ℕ)) (path rest : List ℕ) (left : RestOf case base path rest) (p total counted : ℕ) where
-  pub steps-under : total ≤ counted + step_limit p (length rest) → total ≤ counted + step_limit p (length path)
-  steps-under within = within_more _ _ _ _ within (step_limit-le p _ _ (length-RestOf case base path rest left))
+  pub steps-under : total ≤ counted + pattern_step_limit p (length rest) → total ≤ counted + pattern_step_limit p (length path)
+  steps-under within = within_more _ _ _ _ within (pattern_step_limit-le p _ _ (length-RestOf case base path rest left))
 
   pub looks-under : total ≤ counted + pattern_look_limit p (length rest) → total ≤ counted + pattern_look_limit p (length path)
   looks-under within = within_more _ _ _ _ within (pattern_look_limit-le p _ _ (length-RestOf case base path rest left))

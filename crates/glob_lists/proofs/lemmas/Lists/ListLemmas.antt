@@ -8,8 +8,8 @@ use Rattle.std.proofs.lemmas.Option.{slice_get_within}
 use Rattle.glob_lists.specs.declared.rules.Rules.{Rules}
 use Rattle.gix_glob.specs.Entries.{Entry}
 use Rattle.gix_glob.specs.EntryLists.{EntryList}
-use Rattle.gix_glob.specs.PatternLimits.{pattern_look_limit}
-use Rattle.gix_glob.specs.Steps.{Counts, NeverFall, step_limit}
+use Rattle.gix_glob.specs.PatternLimits.{pattern_look_limit, pattern_step_limit}
+use Rattle.gix_glob.specs.Steps.{Counts, NeverFall}
 use Rattle.gix_glob.specs.Stripping.{strip_looks}
 use Rattle.glob_lists.specs.Deciding.{AnswersAt}
 use Rattle.glob_lists.specs.Paths.{Path}
@@ -73,7 +73,7 @@ module _ {V : Type 0} (list : EntryList V) (v : ℕ) where
   -- so many rows more were passed, and the entry of the last of them may have been asked
   pub SpendsDown-passed : (from middle to : ℕ) (start before after : Counts) → to ≤ middle → SpendsDown list v from middle start before → LooksUpTo before after (middle - to) → SpendsDown list v from to start after
   SpendsDown-passed from middle to start before after low spent looked =
-      let steps_less = sum_by-drop-le (λ (entry : Entry V). step_limit (length entry.text) v) list.entries to middle low in
+      let steps_less = sum_by-drop-le (λ (entry : Entry V). pattern_step_limit (length entry.text) v) list.entries to middle low in
       let looks_less = sum_by-drop-le (λ (entry : Entry V). pattern_look_limit (length entry.text) v) list.entries to middle low in
       let steps = spent.steps in
       let looks = spent.looks in
@@ -87,12 +87,12 @@ module _ {V : Type 0} (list : EntryList V) (v : ℕ) where
       }
 
   pub SpendsDown-asked : (from middle to : ℕ) (entry : Entry V) (start before met after : Counts) → to < middle → slice_get list.entries to ≡ Some entry → SpendsDown list v from middle start before
-      → LooksUpTo before met (middle - to) → NeverFall met after → after.steps ≤ met.steps + step_limit (length entry.text) v → after.looks ≤ met.looks + pattern_look_limit (length entry.text) v
+      → LooksUpTo before met (middle - to) → NeverFall met after → after.steps ≤ met.steps + pattern_step_limit (length entry.text) v → after.looks ≤ met.looks + pattern_look_limit (length entry.text) v
       → SpendsDown list v from to start after
   SpendsDown-asked from middle to entry start before met after low here spent looked grows one_steps one_looks =
-      let steps_less = sum_by-drop-le (λ (entry : Entry V). step_limit (length entry.text) v) list.entries (to + 1) middle (omega arith) in
+      let steps_less = sum_by-drop-le (λ (entry : Entry V). pattern_step_limit (length entry.text) v) list.entries (to + 1) middle (omega arith) in
       let looks_less = sum_by-drop-le (λ (entry : Entry V). pattern_look_limit (length entry.text) v) list.entries (to + 1) middle (omega arith) in
-      let steps_here = sum_by-from (λ (entry : Entry V). step_limit (length entry.text) v) list.entries to (to + 1) entry refl here in
+      let steps_here = sum_by-from (λ (entry : Entry V). pattern_step_limit (length entry.text) v) list.entries to (to + 1) entry refl here in
       let looks_here = sum_by-from (λ (entry : Entry V). pattern_look_limit (length entry.text) v) list.entries to (to + 1) entry refl here in
       let steps = spent.steps in
       let looks = spent.looks in
@@ -113,7 +113,7 @@ module _ {V : Type 0} (list : EntryList V) (v : ℕ) where
   -- the base was taken off, and entries were asked from the last one on
   pub Spends-down : (from to : ℕ) (start entered after : Counts) → from ≡ length list.entries → LooksUpTo start entered (strip_looks list.base v) → SpendsDown list v from to entered after → Spends list v start after
   Spends-down from to start entered after all looked spent =
-      let steps_all = sum_by-take-drop (λ (entry : Entry V). step_limit (length entry.text) v) list.entries to in
+      let steps_all = sum_by-take-drop (λ (entry : Entry V). pattern_step_limit (length entry.text) v) list.entries to in
       let looks_all = sum_by-take-drop (λ (entry : Entry V). pattern_look_limit (length entry.text) v) list.entries to in
       let steps = spent.steps in
       let looks = spent.looks in

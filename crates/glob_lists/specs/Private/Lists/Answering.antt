@@ -4,9 +4,9 @@ use Rattle.std.specs.Option.{ForSome}
 use Rattle.glob_lists.specs.declared.rules.Rules.{Rules}
 use Rattle.gix_glob.specs.EntryLists.{EntryList}
 use Rattle.gix_glob.specs.Paths.{IsFolder}
-use Rattle.gix_glob.specs.PatternLimits.{pattern_look_limit}
+use Rattle.gix_glob.specs.PatternLimits.{pattern_look_limit, pattern_step_limit}
 use Rattle.gix_glob.specs.Patterns.{IsPattern}
-use Rattle.gix_glob.specs.Steps.{Counts, NeverFall, step_limit}
+use Rattle.gix_glob.specs.Steps.{Counts, NeverFall}
 use Rattle.gix_glob.specs.Stripping.{RestOf}
 use Rattle.gix_glob.specs.declared.pattern.Mode as pattern
 use Rattle.glob_lists.specs.declared.asks.probe.Probe.{Probe}
@@ -55,7 +55,7 @@ pub record IsWalkOf (rows : ListRows) (probe : Probe) (walk : Walk) : Type 0 whe
 
 -- how many steps the entries of a list from place m on take at most, and how many looks, v being the length of the path
 abbrev pub steps_from : {V : Type 0} → EntryList V → ℕ → ℕ → ℕ
-steps_from list v m = sum_by (λ entry. step_limit (length entry.text) v) (drop m list.entries)
+steps_from list v m = sum_by (λ entry. pattern_step_limit (length entry.text) v) (drop m list.entries)
 
 abbrev pub looks_from : {V : Type 0} → EntryList V → ℕ → ℕ → ℕ
 looks_from list v m = sum_by (λ entry. pattern_look_limit (length entry.text) v) (drop m list.entries)

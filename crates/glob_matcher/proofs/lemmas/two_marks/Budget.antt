@@ -19,7 +19,7 @@ use Rattle.glob_matcher.proofs.lemmas.two_marks.States.{state_of}
 
 -- the engine at its start, after the look at the last byte, and with two looks to spare
 pub allows_start : (measure : Measure) (way : Way) (p v : List ℕ) (before : Counts)
-    → AllowsAt measure way p v (state_of 0 0 crossing.Unmet None) (amount_of measure before + amount measure 0 2)
+    → AllowsAt measure way p v (state_of 0 0 crossing.Unmet None) (amount_of measure before + amount measure (length v) 2)
     (amount_of measure before + amount measure (step_limit (length p) (length v) - 1) (look_limit (length p) (length v) - 2))
 allows_start measure way p v before = record {
   all = λ xs read.

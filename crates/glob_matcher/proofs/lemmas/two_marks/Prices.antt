@@ -211,7 +211,7 @@ tests_after-mono way v false k e low = low
 pub separates-or_not : (way : Way) (t : Token) → (separates way t ≡ true) ⊎ (separates way t ≡ false)
 separates-or_not way t = cases_Bool (separates way t)
 
-limit-high : (measure : Measure) (p v n : ℕ) → n ≤ (amount measure 2 8 * p + 1) * (v + 1) → n + amount measure 0 2 + amount measure 1 2 ≤ amount measure (step_limit p v) (look_limit p v)
+limit-high : (measure : Measure) (p v n : ℕ) → n ≤ (amount measure 2 8 * p + 1) * (v + 1) → n + amount measure v 2 + amount measure 1 2 ≤ amount measure (step_limit p v) (look_limit p v)
 unfolding amount
 limit-high Steps p v n all = omega arith
 limit-high Looks p v n all = omega arith
@@ -374,6 +374,6 @@ module _ (measure : Measure) (way : Way) (v : List ℕ) where
 
   -- how much a match may take in all
   pub cost-limit : (p : List ℕ) (xs : List SizedToken) → SizedTokensFrom way p 0 xs
-      → cost measure way v xs 0 + amount measure 0 2 + amount measure 1 2 ≤ amount measure (step_limit (length p) (length v)) (look_limit (length p) (length v))
+      → cost measure way v xs 0 + amount measure (length v) 2 + amount measure 1 2 ≤ amount measure (step_limit (length p) (length v)) (look_limit (length p) (length v))
   cost-limit p xs read =
       limit-high measure (length p) (length v) (cost measure way v xs 0) (omega (arith, cost-all p 0 xs 0 read))

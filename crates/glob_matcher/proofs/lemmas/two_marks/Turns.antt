@@ -1,5 +1,5 @@
 -- A turn of the engine with two marks, after looks at its token; and the front that is passed before the first turn.
-use Rattle.std.proofs.Common.{◌≡◌, ℕ, ◌+◌, ◌-◌, ◌*◌, ◌<◌, ◌≤◌, Bool, true, false, List, refl, arith}
+use Rattle.std.proofs.Common.{◌≡◌, ℕ, ◌+◌, ◌-◌, ◌*◌, ◌<◌, ◌≤◌, Bool, true, false, List, length, refl, arith}
 use Rattle.glob_matcher.specs.declared.wildmatch.way.Way.{Way}
 use Rattle.glob_matcher.specs.declared.wildmatch.state.State.{State}
 use Rattle.glob_matcher.specs.declared.wildmatch.state.Turn.{Turn}
@@ -47,16 +47,17 @@ star_looks {i = i} {j = j} past star read = record { steps = omega (arith, read.
 pub set_looks : {before after : Counts} {i j : ℕ} → i ≤ j → IsSetPaid before after i j → Takes before after 1 (4 * (j - i) + 1)
 set_looks {i = i} {j} inside paid = record { steps = paid.steps; looks = omega (arith, paid.looks); low = omega (arith, paid.low) }
 
--- The front of both texts is passed, each byte by a step and two looks, and the next one was looked at.
-pub front_passed : {way : Way} {p v : List ℕ} {k : ℕ} {before after : Counts} → StandsAt way p v (at_front k)
+-- The front of both texts is passed, each byte by a step and two looks, and the next one was looked at, and maybe tested.
+pub front_passed : {way : Way} {p v : List ℕ} {k tests : ℕ} {before after : Counts} → StandsAt way p v (at_front k)
     → ((measure : Measure) (spent limit : ℕ) → AllowsAt measure way p v (at_front 0) spent limit
     → AllowsAt measure way p v (at_front k) (spent + amount measure k (8 * k)) limit)
-    → Takes before after k (2 * k + 2) → IsFront way p v k before after
-front_passed {k = k} {before} stands allows takes = record {
+    → Takes before after (k + tests) (2 * k + 2) → tests ≤ length v → IsFront way p v k before after
+front_passed {v = v} {k} {tests} {before} stands allows takes in_vain = record {
   meaning = stands;
   allows = λ measure limit a.
-      let all = Takes-within measure (amount_of measure before) 0 0 {e = k} {f = 2 * k + 2} (omega arith) takes (omega arith) (omega arith) in
-      let sum = amount-sum measure 0 2 k (8 * k) {e = k} {f = 2 * k + 2} (omega arith) (omega arith) in
-      allows_less (omega (arith, all, sum)) (allows measure (amount_of measure before + amount measure 0 2) limit a);
+      let all = Takes-within measure (amount_of measure before) 0 0 {e = k + tests} {f = 2 * k + 2} (omega arith) takes (omega arith) (omega arith) in
+      let sum = amount-sum measure (length v) 2 k (8 * k) {e = k + tests} {f = 2 * k + 2} (omega (arith, in_vain)) (omega arith) in
+      allows_less (omega (arith, all, sum)) (allows measure (amount_of measure before + amount measure (length v) 2) limit a);
+  counted = omega (arith, takes.steps);
   grows = Takes-grows takes;
 }

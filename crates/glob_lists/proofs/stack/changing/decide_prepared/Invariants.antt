@@ -1,8 +1,5 @@
--- The counts are kept in the ledgers that the blank ones become.
+-- The counts are kept in the ledger that the blank one becomes.
 use Rattle.glob_lists.proofs.stack.changing.decide_prepared.Given as goal
 
-abbrev pub ghosts-decide_with_new_counts-S-Ledger : goal.ghosts-decide_with_new_counts-S-Ledger
-ghosts-decide_with_new_counts-S-Ledger g a = record { name = a.blanks.0.name; parts = a.blanks.0.parts }
-
-abbrev pub ghosts-decide_with_new_counts-L-Ledger : goal.ghosts-decide_with_new_counts-L-Ledger
-ghosts-decide_with_new_counts-L-Ledger g a = record { name = a.blanks.1.name; parts = a.blanks.1.parts }
+abbrev pub ghosts-decide_with_new_counts : goal.ghosts-decide_with_new_counts
+ghosts-decide_with_new_counts g a = record { name = a.blank.name; parts = a.blank.parts }

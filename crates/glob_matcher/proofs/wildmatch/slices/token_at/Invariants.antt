@@ -1,8 +1,5 @@
--- The counts are kept in the ledgers that the blank ones become.
+-- The count is kept in the ledger that the blank one becomes.
 use Rattle.glob_matcher.proofs.wildmatch.slices.token_at.Given as goal
 
-abbrev pub ghosts-token_with_counts-S-Ledger : goal.ghosts-token_with_counts-S-Ledger
-ghosts-token_with_counts-S-Ledger a = record { name = a.blanks.0.name; parts = a.blanks.0.parts }
-
-abbrev pub ghosts-token_with_counts-L-Ledger : goal.ghosts-token_with_counts-L-Ledger
-ghosts-token_with_counts-L-Ledger a = record { name = a.blanks.1.name; parts = a.blanks.1.parts }
+abbrev pub ghosts-token_with_steps : goal.ghosts-token_with_steps
+ghosts-token_with_steps a = record { name = a.blank.name; parts = a.blank.parts }

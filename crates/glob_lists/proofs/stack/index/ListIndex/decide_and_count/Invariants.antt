@@ -1,8 +1,5 @@
--- The counts are kept in the ledgers that the blank ones become.
+-- The counts are kept in the ledger that the blank one becomes.
 use Rattle.glob_lists.proofs.stack.index.ListIndex.decide_and_count.Given as goal
 
-abbrev pub ghosts-decide_and_count_with_new_counts-S-Ledger : goal.ghosts-decide_and_count_with_new_counts-S-Ledger
-ghosts-decide_and_count_with_new_counts-S-Ledger g a = record { name = a.steps.name; parts = a.steps.parts }
-
-abbrev pub ghosts-decide_and_count_with_new_counts-L-Ledger : goal.ghosts-decide_and_count_with_new_counts-L-Ledger
-ghosts-decide_and_count_with_new_counts-L-Ledger g a = record { name = a.looks.name; parts = a.looks.parts }
+abbrev pub ghosts-decide_and_count_with_new_counts : goal.ghosts-decide_and_count_with_new_counts
+ghosts-decide_and_count_with_new_counts g a = record { name = a.blank.name; parts = a.blank.parts }

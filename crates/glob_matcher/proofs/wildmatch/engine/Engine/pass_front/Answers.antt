@@ -49,20 +49,22 @@ bytes-preserved g c =
       within = c.bytes.invariant.within;
       count =
           Takes-on c.bytes.invariant.count
-          (Takes-both (Takes-both (TakesExactly-at_most c.pattern_byte-byte.ensures.count) (TakesExactly-at_most c.value_has.ensures.count)) (TakesExactly-at_most c.count_passed.ensures))
+          (Takes-both (TakesExactly-at_most c.pattern_byte-byte.ensures.count) (TakesExactly-at_most c.value_has.ensures.count))
           (omega arith) (omega arith);
     }
 
 pub returns-after-bytes : goal.returns-after-bytes
 returns-after-bytes g c =
-    front_passed c.bytes.invariant.stands c.bytes.invariant.allows (Takes-on c.bytes.invariant.count Takes-none (omega arith) (omega arith))
+    front_passed {tests = 0} c.bytes.invariant.stands c.bytes.invariant.allows (Takes-on c.bytes.invariant.count Takes-none (omega arith) (omega arith))
+    (omega arith)
 
 pub returns-then-not-stands_within_component : goal.returns-then-not-stands_within_component
 returns-then-not-stands_within_component g c =
-    front_passed c.bytes.invariant.stands c.bytes.invariant.allows
-    (Takes-on c.bytes.invariant.count (TakesExactly-at_most c.pattern_byte-byte.ensures.count) (omega arith) (omega arith))
+    front_passed {tests = 0} c.bytes.invariant.stands c.bytes.invariant.allows
+    (Takes-on c.bytes.invariant.count (TakesExactly-at_most c.pattern_byte-byte.ensures.count) (omega arith) (omega arith)) (omega arith)
 
 pub returns-then-not-value_has : goal.returns-then-not-value_has
 returns-then-not-value_has g c =
-    front_passed c.bytes.invariant.stands c.bytes.invariant.allows
+    front_passed {tests = 1} c.bytes.invariant.stands c.bytes.invariant.allows
     (Takes-on c.bytes.invariant.count (Takes-both (TakesExactly-at_most c.pattern_byte-byte.ensures.count) (TakesExactly-at_most c.value_has.ensures.count)) (omega arith) (omega arith))
+    (omega (arith, c.bytes-test.true, c.bytes.invariant.within))

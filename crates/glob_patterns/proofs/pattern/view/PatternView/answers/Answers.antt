@@ -6,7 +6,7 @@ use Rattle.glob_matcher.specs.Matching.{SplitsBy}
 use Rattle.glob_patterns.specs.GitPaths.{AnswersAsGit, git_way}
 use Rattle.glob_patterns.specs.Patterns.{is_for_directories, looks_at_name}
 use Rattle.glob_patterns.specs.RepositoryPaths.{subject}
-use Rattle.glob_patterns.proofs.lemmas.PathLimits.{length-from, pattern_look_limit-le, step_limit-le, within_more}
+use Rattle.glob_patterns.proofs.lemmas.PathLimits.{length-from, pattern_look_limit-le, pattern_step_limit-le, within_more}
 use Rattle.glob_patterns.proofs.lemmas.WholeFronts.{subject_whole}
 use Rattle.glob_patterns.proofs.pattern.view.PatternView.answers.Goals.{else-contains-via-then-contains+else-ne, else-contains-via-else-contains}
 use Rattle.glob_patterns.proofs.pattern.view.PatternView.answers.Goals as goal
@@ -50,7 +50,7 @@ returns-clause-by_git g c = λ lawful as_git.
 pub returns-clause-steps : goal.returns-clause-steps
 returns-clause-steps g c =
     within_more _ _ _ _ c.decide.ensures.steps
-    (step_limit-le (length c.args.self.text.now) _ _ (length-from c.args.asked.path.now c.subject_start-start.result))
+    (pattern_step_limit-le (length c.args.self.text.now) _ _ (length-from c.args.asked.path.now c.subject_start-start.result))
 
 pub returns-clause-looks : goal.returns-clause-looks
 returns-clause-looks g c =

@@ -25,8 +25,8 @@ returns-clause-exact g c = λ lawful.
 
 pub returns-clause-steps : goal.returns-clause-steps
 returns-clause-steps g c =
-    let taken : c.front_compared-begins.result.1.now.steps ≤ c.args.counts.now.steps + 0 = omega (arith, c.front_compared-begins.ensures.count.steps) in
-    let within = within_both _ _ _ _ _ _ taken c.decide_rest.ensures.limit (steps_behind _ _ _ _ (length-from c.args.self.text.now c.args.front_end) (length-from c.args.value.now c.args.front_end)) in search (rules, within)
+    let within = within_both _ _ _ _ _ _ c.front_compared-begins.ensures.count.steps c.decide_rest.ensures.limit
+    (steps_behind _ _ _ _ (length-from c.args.self.text.now c.args.front_end) (length-from c.args.value.now c.args.front_end)) in search (rules, within)
 
 pub returns-clause-looks : goal.returns-clause-looks
 returns-clause-looks g c =

@@ -1,7 +1,7 @@
 -- The match is that of the call, and the count is kept behind the reference that is passed.
 use Rattle.std.proofs.Common.{◌-◌, ◌^◌, take}
 use Rattle.glob_matcher.proofs.lemmas.two_marks.Texts.{short}
-use Rattle.glob_matcher.proofs.wildmatch.two_marks.marked.Given as goal
+use Rattle.glob_matcher.proofs.wildmatch.two_marks.marked_by.Given as goal
 
 abbrev pub ghosts-ends_then_search : goal.ghosts-ends_then_search
 ghosts-ends_then_search g a = record {
