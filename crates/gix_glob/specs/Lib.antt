@@ -22,3 +22,4 @@ pub use Rattle.glob_matcher.specs.Tokens
 pub use Rattle.glob_matcher.specs.Matching
 pub use Rattle.glob_matcher.specs.Pruning
 pub use Rattle.glob_matcher.specs.Steps
+pub use Rattle.glob_matcher.specs.ExactFolding

@@ -1,6 +1,6 @@
 -- Bytes at places of a text, ways to match, and folding.
-use Rattle.std.specs.Prelude.{◌≡◌, ◌≢◌, ℕ, ◌+◌, ◌<◌, ◌≤◌, Bool, false, true, ◌&&◌, List, [], ◌∷◌, ◌++◌, length, slice_index, ◌==◌, ◌||◌, if◌then◌else◌}
-use Rattle.std.specs.Char.{is_ascii_uppercase, to_ascii_lowercase}
+use Rattle.std.specs.Prelude.{◌≡◌, ◌≢◌, ℕ, ◌+◌, ◌<◌, ◌≤◌, Bool, false, true, List, [], ◌∷◌, ◌++◌, length, slice_index, ◌==◌, ◌||◌, if◌then◌else◌}
+use Rattle.std.specs.Char.{to_ascii_lowercase}
 use Rattle.std.specs.List.{list_any}
 use Rattle.std.specs.Str.{byte}
 use Rattle.glob_matcher.specs.declared.wildmatch.way.Folding.{Folding}
@@ -83,33 +83,16 @@ way_with true Both = FoldedPath
 way_with false Exact = ExactPlain
 way_with true Exact = ExactPath
 
--- whether folding is on, and whether it is exact
+-- whether folding is on
 abbrev pub is_on : Folding → Bool
 is_on Off = false
 is_on Both = true
 is_on Exact = true
 
-abbrev pub is_exact_one : Folding → Bool
-is_exact_one Off = false
-is_exact_one Both = false
-is_exact_one Exact = true
-
 -- whether the case of ASCII letters doesn't count
 abbrev pub folds : Way → Bool
 folds way = is_on (folding way)
 
--- whether only the value, and what stands for itself in the pattern, is folded
-abbrev pub is_exact : Way → Bool
-is_exact way = is_exact_one (folding way)
-
--- a byte after folding, where it is folded: of the value, or one that stands for itself in the pattern
+-- a byte after folding, where the way asks for it
 abbrev pub fold : Way → ℕ → ℕ
 fold way b = if folds way then to_ascii_lowercase b else b
-
--- the same of a byte that is escaped, or that a set has
-abbrev pub fold_inner : Way → ℕ → ℕ
-fold_inner way b = if is_exact way then b else fold way b
-
--- an escaped byte that matches nothing: a capital, where folding is exact
-abbrev pub is_dead : Way → ℕ → Bool
-is_dead way b = is_exact way && is_ascii_uppercase b

@@ -6,4 +6,5 @@ pub mod Matching
 pub mod Rests
 pub mod Pruning
 pub mod Steps
+pub mod ExactFolding
 pub mod Private

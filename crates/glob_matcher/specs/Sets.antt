@@ -1,29 +1,33 @@
 -- Bracket sets: how a set is spelled, and which bytes it holds. A set is read from the pattern alone.
 use Rattle.std.specs.Prelude.{◌≡◌, ◌≢◌, ◌↔◌, ◌⊎◌, ℕ, ◌+◌, ◌-◌, ◌<◌, ◌≤◌, Bool, true, false, not, ◌&&◌, ◌||◌, ◌==◌, nat_le, IsTrue, List, [], ◌∷◌, length, slice_range, Option, Some, None, IsSomeAnd, if◌then◌else◌, codes}
 use Rattle.std.specs.List.{list_any}
-use Rattle.std.specs.Char.{to_ascii_uppercase, is_ascii_alphabetic, is_ascii_alphanumeric, is_ascii_control, is_ascii_digit, is_ascii_graphic, is_ascii_hexdigit, is_ascii_lowercase, is_ascii_punctuation, is_ascii_uppercase}
+use Rattle.std.specs.Char.{to_ascii_uppercase, is_ascii_lowercase}
+use Rattle.std.specs.Int.{is_in_range}
 use Rattle.glob_matcher.specs.declared.wildmatch.way.Way.{Way}
 use Rattle.glob_matcher.specs.declared.wildmatch.items.Class.{Class}
 use Rattle.glob_matcher.specs.declared.wildmatch.items.Class.TheVariants as class
 use Rattle.glob_matcher.specs.declared.wildmatch.items.Item.{Item}
 use Rattle.glob_matcher.specs.declared.wildmatch.items.Item.TheVariants as item
-use Rattle.glob_matcher.specs.Bytes.{HasByte, IsEscaped, fold, fold_inner, folds, is_exact, is_path, open_bracket, backslash, slash}
+use Rattle.glob_matcher.specs.Bytes.{HasByte, IsEscaped, fold, folds, is_path, open_bracket, backslash, slash}
+use Rattle.glob_matcher.specs.ExactFolding.{fold_inner, is_exact}
 use Rattle.std.specs.Str.{byte}
 
--- The classes: the name that stands for one between `[:` and `:]`, and its bytes, which are folded already.
+-- The classes: the name that stands for one between `[:` and `:]`, and its bytes, which are folded already. Digits are 48 to 57,
+-- capitals 65 to 90, and small letters 97 to 122.
 abbrev pub class_row : Class → List ℕ × (Way → ℕ → Bool)
-class_row class.Alnum = (codes "alnum", λ way b. is_ascii_alphanumeric b)
-class_row class.Alpha = (codes "alpha", λ way b. is_ascii_alphabetic b)
+class_row class.Alnum = (codes "alnum", λ way b. (is_in_range 48 57 b || is_in_range 65 90 b) || is_in_range 97 122 b)
+class_row class.Alpha = (codes "alpha", λ way b. is_in_range 65 90 b || is_in_range 97 122 b)
 class_row class.Blank = (codes "blank", λ way b. b == 32 || b == 9)
-class_row class.Cntrl = (codes "cntrl", λ way b. is_ascii_control b)
-class_row class.Digit = (codes "digit", λ way b. is_ascii_digit b)
-class_row class.Graph = (codes "graph", λ way b. is_ascii_graphic b)
-class_row class.Lower = (codes "lower", λ way b. is_ascii_lowercase b)
-class_row class.Print = (codes "print", λ way b. b == 32 || is_ascii_graphic b)
-class_row class.Punct = (codes "punct", λ way b. is_ascii_punctuation b)
+class_row class.Cntrl = (codes "cntrl", λ way b. is_in_range 0 31 b || b == 127)
+class_row class.Digit = (codes "digit", λ way b. is_in_range 48 57 b)
+class_row class.Graph = (codes "graph", λ way b. is_in_range 33 126 b)
+class_row class.Lower = (codes "lower", λ way b. is_in_range 97 122 b)
+class_row class.Print = (codes "print", λ way b. is_in_range 32 126 b)
+class_row class.Punct =
+    (codes "punct", λ way b. is_in_range 33 126 b && not ((is_in_range 48 57 b || is_in_range 65 90 b) || is_in_range 97 122 b))
 class_row class.Space = (codes "space", λ way b. (b == 32 || b == 9) || (b == 10 || b == 13))
-class_row class.Upper = (codes "upper", λ way b. is_ascii_uppercase b || (folds way && is_ascii_lowercase b))
-class_row class.Xdigit = (codes "xdigit", λ way b. is_ascii_hexdigit b)
+class_row class.Upper = (codes "upper", λ way b. is_in_range 65 90 b || (folds way && is_in_range 97 122 b))
+class_row class.Xdigit = (codes "xdigit", λ way b. (is_in_range 48 57 b || is_in_range 65 70 b) || is_in_range 97 102 b)
 
 abbrev pub name_of : Class → List ℕ
 name_of class = (class_row class).0

@@ -1,7 +1,8 @@
 -- The tokens of a pattern, by the places where they are spelled.
 use Rattle.std.specs.Prelude.{not, ◌≡◌, ◌⊎◌, ℕ, ◌+◌, ◌-◌, ◌<◌, ◌≤◌, IsTrue, List, [], ◌∷◌, length}
 use Rattle.glob_matcher.specs.declared.wildmatch.way.Way.{Way}
-use Rattle.glob_matcher.specs.Bytes.{HasByte, IsEscaped, StandsForItself, is_dead, is_path, star, open_bracket, backslash, slash}
+use Rattle.glob_matcher.specs.Bytes.{HasByte, IsEscaped, StandsForItself, is_path, star, open_bracket, backslash, slash}
+use Rattle.glob_matcher.specs.ExactFolding.{is_dead}
 use Rattle.glob_matcher.specs.Sets.{Set, SetAt}
 use Rattle.std.specs.Str.{byte}
 

@@ -52,12 +52,12 @@ pub use way::{Folding, Way};
 pub fn wildmatch(pattern: &[u8], value: &[u8], mode: Mode) -> bool
     ensures { IsTrue result ↔ Splits value.now pattern.now mode }
 {
-    with_new_steps::<Brand>(pattern, value, mode, Blank::new(2))
+    with_new_counts::<Brand>(pattern, value, mode, Blank::new(2))
 }
 
-/// The two marks, with a new count that no one asks for.
+/// The two marks, with new counts that no one asks for.
 #[inline(always)]
-fn with_new_steps<L: Ledger>(pattern: &[u8], value: &[u8], mode: Mode, blank: Blank) -> bool
+fn with_new_counts<L: Ledger>(pattern: &[u8], value: &[u8], mode: Mode, blank: Blank) -> bool
     requires { IsBlankOf L.name L.parts blank }
     ensures { IsTrue result ↔ Splits value.now pattern.now mode }
 {

@@ -18,11 +18,11 @@ use std::alloc::{AllocError, Global};
 ///
 /// With `may_alter` a leading `!` is taken off and negates, and the backslash of a leading `\!` or `\#` is taken off.
 /// One leading and one trailing slash are taken off in any case. The rule is "reading a pattern" in `docs/PATTERNS.md`.
-pub fn pattern(line: &[u8], may_alter: bool) -> Option<(&[u8], Mode, Option<usize>)>
-    ensures reads { MatchOption result (¬ HasReading line.now may_alter) (λ found. Reads line.now may_alter found.0.now found.1 found.2) }
-    ensures blank { IsNone result ↔ IsTrue (is_blank (if may_alter then without_negation line.now else line.now)) }
+pub fn pattern(pat: &[u8], may_alter: bool) -> Option<(&[u8], Mode, Option<usize>)>
+    ensures reads { MatchOption result (¬ HasReading pat.now may_alter) (λ found. Reads pat.now may_alter found.0.now found.1 found.2) }
+    ensures blank { IsNone result ↔ IsTrue (is_blank (if may_alter then without_negation pat.now else pat.now)) }
 {
-    let (rest, negative) = after_sign(line, may_alter);
+    let (rest, negative) = after_sign(pat, may_alter);
     if is_blank(rest) {
         return None;
     }
@@ -48,11 +48,11 @@ pub fn git_pattern(line: &[u8]) -> (&[u8], Mode, Option<usize>)
 
 /// Reads a pattern line, with its leading `!`, as [`Pattern::from_bytes`] does: `None` where it is blank. The error is
 /// want of memory for the text.
-pub fn parse(alloc: Global, line: &[u8]) -> Result<Option<Pattern>, AllocError>
-    ensures reads { IfOk result (λ read. MatchOption read (¬ HasReading line.now true) (IsReadFrom line.now true)) }
-    ensures blank { IsOkAnd result IsNone ↔ IsTrue (is_blank (without_negation line.now)) }
+pub fn parse(alloc: Global, text: &[u8]) -> Result<Option<Pattern>, AllocError>
+    ensures reads { IfOk result (λ read. MatchOption read (¬ HasReading text.now true) (IsReadFrom text.now true)) }
+    ensures blank { IsOkAnd result IsNone ↔ IsTrue (is_blank (without_negation text.now)) }
 {
-    Pattern::from_bytes(alloc, line)
+    Pattern::from_bytes(alloc, text)
 }
 
 /// What follows the sign of a line, and whether the sign negates.

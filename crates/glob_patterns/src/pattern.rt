@@ -41,23 +41,23 @@ impl Pattern {
     ghost use Rattle.glob_patterns.specs.PatternParts.{text_of, mode_of, place_of, IsReadFrom};
 
     /// Reads a pattern line, with its leading `!`: `None` where it is blank. The error is want of memory for the text.
-    pub fn from_bytes(alloc: Global, line: &[u8]) -> Result<Option<Pattern>, AllocError>
-        ensures reads { IfOk result (λ read. MatchOption read (¬ HasReading line.now true) (IsReadFrom line.now true)) }
-        ensures blank { IsOkAnd result IsNone ↔ IsTrue (is_blank (without_negation line.now)) }
+    pub fn from_bytes(alloc: Global, text: &[u8]) -> Result<Option<Pattern>, AllocError>
+        ensures reads { IfOk result (λ read. MatchOption read (¬ HasReading text.now true) (IsReadFrom text.now true)) }
+        ensures blank { IsOkAnd result IsNone ↔ IsTrue (is_blank (without_negation text.now)) }
     {
-        Pattern::read(alloc, line, true)
+        Pattern::read(alloc, text, true)
     }
 
     /// Reads a pattern line in which `!`, `\!` and `\#` have no meaning of their own: `None` where it is blank. One leading
     /// and one trailing slash are taken off all the same. The error is want of memory for the text.
     pub fn from_bytes_without_negation(
         alloc: Global,
-        line: &[u8],
+        text: &[u8],
     ) -> Result<Option<Pattern>, AllocError>
-        ensures reads { IfOk result (λ read. MatchOption read (¬ HasReading line.now false) (IsReadFrom line.now false)) }
-        ensures blank { IsOkAnd result IsNone ↔ IsTrue (is_blank line.now) }
+        ensures reads { IfOk result (λ read. MatchOption read (¬ HasReading text.now false) (IsReadFrom text.now false)) }
+        ensures blank { IsOkAnd result IsNone ↔ IsTrue (is_blank text.now) }
     {
-        Pattern::read(alloc, line, false)
+        Pattern::read(alloc, text, false)
     }
 
     /// Reads a pattern line as Git does: each is a pattern, also one without bytes. Only a leading `!` and one slash at each end are

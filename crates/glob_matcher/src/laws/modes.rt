@@ -2,7 +2,8 @@
 ghost use Rattle.std.specs.Prelude.{◌≡◌, ◌↔◌, ℕ, false, List};
 ghost use Rattle.glob_matcher.specs.declared.wildmatch.mode.Mode.{Mode};
 ghost use Rattle.glob_matcher.specs.declared.wildmatch.way.Way.{Way};
-ghost use Rattle.glob_matcher.specs.Bytes.{HasByte, folding, folds, has_slash, is_exact, star};
+ghost use Rattle.glob_matcher.specs.Bytes.{HasByte, folding, folds, has_slash, star};
+ghost use Rattle.glob_matcher.specs.ExactFolding.{NoModeFoldsExactly};
 ghost use Rattle.glob_matcher.specs.Matching.{Splits, SplitsBy};
 ghost use Rattle.glob_matcher.specs.Ways.{way_of};
 
@@ -25,5 +26,5 @@ pub fn no_slash_is_special_in_ways_that_fold_alike()
 
 /// No mode asks for exact folding.
 pub fn modes_never_fold_exactly()
-    ensures { (mode : Mode) → is_exact (way_of mode) ≡ false }
+    ensures { NoModeFoldsExactly }
 {}

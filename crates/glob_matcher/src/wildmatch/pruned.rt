@@ -48,10 +48,10 @@ fn ends_at_slash(kind: TokenKind, next: usize, slash: usize) -> bool
 
 /// Whether an attempt may begin at a place of the pattern, counted in bytes from 0: where a token starts, at the slash that
 /// ends a double star's token, and at the pattern's end.
-pub fn is_start(pattern: &[u8], place: usize, mode: Mode) -> bool
-    ensures { IsTrue result ↔ IsStart pattern.now place (way_of mode) }
+pub fn is_start(pattern: &[u8], from: usize, mode: Mode) -> bool
+    ensures { IsTrue result ↔ IsStart pattern.now from (way_of mode) }
 {
-    is_start_by(pattern, place, mode.way())
+    is_start_by(pattern, from, mode.way())
 }
 
 /// Whether an attempt may begin at a place of the pattern, in this way to match.
@@ -267,25 +267,25 @@ impl<'a> Level<'a> {
     }
 }
 
-/// One attempt to match the value from the place `at` on with the tokens from the place `place` of the pattern on.
+/// One attempt to match the value from the place `at` on with the tokens from the place `from` of the pattern on.
 ///
-/// Places are counted in bytes from 0. `place` is one where [`is_start`] answers true, `at` is inside the value or its end,
+/// Places are counted in bytes from 0. `from` is one where [`is_start`] answers true, `at` is inside the value or its end,
 /// and `depth`, the number of star tokens that the attempt stands below, is at most 64. Where `depth` and the star tokens
-/// from `place` on make at most 63, each answer means what [`Answer`] says, and an abort comes where one must; with more,
+/// from `from` on make at most 63, each answer means what [`Answer`] says, and an abort comes where one must; with more,
 /// only a [`Answer::Match`] says anything. It takes no memory. The rules are in `docs/ENGINES.md`, "The pruned recursive
 /// engine".
 pub fn attempt(
     pattern: &[u8],
-    place: usize,
+    from: usize,
     value: &[u8],
     at: usize,
     mode: Mode,
     depth: usize,
 ) -> Answer
-    requires start { IsStart pattern.now place (way_of mode) }
+    requires start { IsStart pattern.now from (way_of mode) }
     requires inside { at ≤ length value.now }
     requires shallow { depth ≤ 64 }
-    ensures { IsAttempt result pattern.now place value.now at (way_of mode) depth }
+    ensures { IsAttempt result pattern.now from value.now at (way_of mode) depth }
 {
     let way = mode.way();
     let level = Level {
@@ -294,7 +294,7 @@ pub fn attempt(
         way,
         depth,
     };
-    level.attempt(place, at)
+    level.attempt(from, at)
 }
 
 /// Whether `pattern` matches the whole of `value`, by the pruned recursive engine: one [`attempt`] from both starts.

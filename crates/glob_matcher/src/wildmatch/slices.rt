@@ -1,4 +1,4 @@
-//! The readers of tokens over slices, for what counts nothing: each asks an engine with a new count that no one looks at.
+//! The readers of tokens over slices, for what counts nothing: each asks an engine with new counts that no one looks at.
 ghost use Rattle.std.specs.Prelude.{◌≡◌, ◌↔◌, ℕ, ◌<◌, IsTrue, [], length};
 ghost use Rattle.glob_matcher.specs.Bytes.{HasByte, open_bracket};
 ghost use Rattle.glob_matcher.specs.Tokens.{Token, TokenAt};
@@ -21,12 +21,12 @@ pub fn token_at(pattern: &[u8], place: usize, way: Way) -> TokenRead
     requires { place < length pattern.now }
     ensures { IsToken way pattern.now place result.kind result.end }
 {
-    token_with_steps::<Brand>(pattern, place, way, Blank::new(2))
+    token_with_counts::<Brand>(pattern, place, way, Blank::new(2))
 }
 
-/// The same, with a new count.
+/// The same, with new counts.
 #[inline(always)]
-fn token_with_steps<L: Ledger>(pattern: &[u8], place: usize, way: Way, blank: Blank) -> TokenRead
+fn token_with_counts<L: Ledger>(pattern: &[u8], place: usize, way: Way, blank: Blank) -> TokenRead
     requires blank { IsBlankOf L.name L.parts blank }
     requires inside { place < length pattern.now }
     ensures { IsToken way pattern.now place result.kind result.end }
@@ -72,12 +72,12 @@ impl<'a> AskedSet<'a> {
         requires { HasByte self.pattern.now self.place open_bracket }
         ensures { IsSetRead self.entry.way self.entry.pattern.now self.entry.place self.entry.byte result }
     {
-        self.read_with_steps::<Brand>(Blank::new(2))
+        self.read_with_counts::<Brand>(Blank::new(2))
     }
 
-    /// The same, with a new count.
+    /// The same, with new counts.
     #[inline(always)]
-    fn read_with_steps<L: Ledger>(self, blank: Blank) -> Option<SetRead>
+    fn read_with_counts<L: Ledger>(self, blank: Blank) -> Option<SetRead>
         requires blank { IsBlankOf L.name L.parts blank }
         requires bracket { HasByte self.pattern.now self.place open_bracket }
         ensures { IsSetRead self.entry.way self.entry.pattern.now self.entry.place self.entry.byte result }

@@ -44,7 +44,8 @@ fn is_small_of(small: u8, capital: u8) -> bool
 }
 
 impl Way {
-    ghost use Rattle.glob_matcher.specs.Bytes.{is_path, folding, folds, is_exact, fold, fold_inner, is_dead, way_with};
+    ghost use Rattle.glob_matcher.specs.Bytes.{is_path, folding, folds, fold, way_with};
+    ghost use Rattle.glob_matcher.specs.ExactFolding.{fold_inner, is_dead, is_exact};
 
     /// A way: whether no wildcard matches a slash, and how case is folded.
     #[inline(always)]

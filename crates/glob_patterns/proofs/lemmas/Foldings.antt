@@ -4,7 +4,8 @@ use Rattle.std.specs.Char.{to_ascii_lowercase}
 use Rattle.std.proofs.lemmas.Bool.{cases_Bool, false≢true}
 use Rattle.glob_matcher.specs.declared.wildmatch.way.Folding.TheVariants.{Both, Exact}
 use Rattle.glob_matcher.specs.declared.wildmatch.way.Way.{Way}
-use Rattle.glob_matcher.specs.Bytes.{IsEscaped, fold, folds, is_dead, is_path, way_with}
+use Rattle.glob_matcher.specs.Bytes.{IsEscaped, fold, folds, is_path, way_with}
+use Rattle.glob_matcher.specs.ExactFolding.{is_dead}
 use Rattle.glob_matcher.specs.Matching.{IsCut, Lang, SplitsBy}
 use Rattle.glob_matcher.specs.Sets.{Set, SetAt, set_holds}
 use Rattle.glob_matcher.specs.Tokens.{Token, Byte, Any, OneOf, Free, Local, Dirs, Nothing, Spells, TokenAt}

@@ -149,7 +149,7 @@ impl<'a> PatternView<'a> {
             mode: wildmatch::Mode::NO_MATCH_SLASH_LITERAL,
             as_git,
         };
-        self.answers_with_new_steps::<Brand>(asked, Blank::new(2))
+        self.answers_with_new_counts::<Brand>(asked, Blank::new(2))
     }
 
     /// Whether a path of a repository matches, as [`PatternView::matches_path_by_reading`] answers it, with its steps and looks counted.

@@ -72,12 +72,12 @@ impl<'a> PatternView<'a> {
         ensures { IsPattern self.entry.text.now self.entry.mode self.entry.first_wildcard_pos →
             IsTrue result ↔ Splits value.now self.entry.text.now mode }
     {
-        self.matches_with_new_steps::<Brand>(value, mode, Blank::new(2))
+        self.matches_with_new_counts::<Brand>(value, mode, Blank::new(2))
     }
 
-    /// Whether the text matches the value, with a new count that no one asks for.
+    /// Whether the text matches the value, with new counts that no one asks for.
     #[inline(always)]
-    fn matches_with_new_steps<L: Ledger>(
+    fn matches_with_new_counts<L: Ledger>(
         self,
         value: &[u8],
         mode: wildmatch::Mode,
@@ -189,12 +189,12 @@ impl<'a> PatternView<'a> {
             mode,
             as_git: false,
         };
-        self.answers_with_new_steps::<Brand>(asked, Blank::new(2))
+        self.answers_with_new_counts::<Brand>(asked, Blank::new(2))
     }
 
-    /// Whether a path of a repository matches, with a new count that no one asks for.
+    /// Whether a path of a repository matches, with new counts that no one asks for.
     #[inline(always)]
-    pub(super) fn answers_with_new_steps<L: Ledger>(self, asked: Asked<'_>, blank: Blank) -> bool
+    pub(super) fn answers_with_new_counts<L: Ledger>(self, asked: Asked<'_>, blank: Blank) -> bool
         requires basename { ForSome asked.basename_start_pos (IsAfterLastSlash asked.path.now) }
         requires blank { IsBlankOf L.name L.parts blank }
         ensures by_crate { IsPattern self.entry.text.now self.entry.mode self.entry.first_wildcard_pos → asked.entry.as_git ≡ false →

@@ -9,7 +9,8 @@ use Rattle.glob_matcher.specs.declared.wildmatch.items.Class.{Class}
 use Rattle.glob_matcher.specs.declared.wildmatch.items.Class.TheVariants as class
 use Rattle.glob_matcher.specs.declared.wildmatch.items.Item.{Item}
 use Rattle.glob_matcher.specs.declared.wildmatch.items.Item.TheVariants as item
-use Rattle.glob_matcher.specs.Bytes.{HasByte, IsEscaped, NoSlash, backslash, fold, folding, is_exact_one, has_slash, is_path, slash, star}
+use Rattle.glob_matcher.specs.Bytes.{HasByte, IsEscaped, NoSlash, backslash, fold, folding, has_slash, is_path, slash, star}
+use Rattle.glob_matcher.specs.ExactFolding.{is_exact_one}
 use Rattle.glob_matcher.specs.Sets.{Set, class_holds, item_holds, set_holds}
 use Rattle.glob_matcher.specs.Tokens.{Token, Byte, Any, OneOf, Free, Local, Dirs, Nothing, TokenAt, DirsAt, IsRun, IsBounded, From}
 use Rattle.glob_matcher.specs.Matching.{SplitsBy, SplitsFrom}

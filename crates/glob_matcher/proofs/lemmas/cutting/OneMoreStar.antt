@@ -7,7 +7,8 @@ use Rattle.glob_matcher.specs.declared.wildmatch.mode.Mode.{Mode}
 use Rattle.glob_matcher.specs.declared.wildmatch.way.Way.{Way}
 use Rattle.glob_matcher.specs.Ways.{way_of}
 use Rattle.glob_matcher.proofs.lemmas.reading.WayLemmas.{modes_are_inexact}
-use Rattle.glob_matcher.specs.Bytes.{HasByte, is_path, star, slash, is_exact}
+use Rattle.glob_matcher.specs.Bytes.{HasByte, is_path, star, slash}
+use Rattle.glob_matcher.specs.ExactFolding.{is_exact}
 use Rattle.glob_matcher.specs.Tokens.{Token, Byte, Free, TokenAt, IsRun, Spells, From, Tokens}
 use Rattle.glob_matcher.specs.Matching.{SplitsBy}
 use Rattle.glob_matcher.specs.Pruning.{HasStars, IsBoundary, star_count}

@@ -2,7 +2,8 @@
 use Rattle.std.proofs.Common.{◌≡◌, ◌⊎◌, inl, inr, ℕ, zero, suc, ◌+◌, ◌-◌, ◌<◌, ◌≤◌, List, [], ◌∷◌, length, get_or, refl, sym, ◌∙◌, ap, subst, arith}
 use Rattle.std.proofs.lemmas.Bool.{cases_lt}
 use Rattle.glob_matcher.specs.declared.wildmatch.way.Way.{Way}
-use Rattle.glob_matcher.specs.Bytes.{HasByte, NoSlash, backslash, open_bracket, slash, star, is_exact}
+use Rattle.glob_matcher.specs.Bytes.{HasByte, NoSlash, backslash, open_bracket, slash, star}
+use Rattle.glob_matcher.specs.ExactFolding.{is_exact}
 use Rattle.glob_matcher.specs.Private.Spelling.{question_mark}
 use Rattle.glob_matcher.specs.Tokens.{Token, Byte, Any, OneOf, Free, Local, Dirs, Nothing, TokenAt, IsRun, IsBroken, From}
 use Rattle.glob_matcher.specs.Matching.{SplitsFrom}

@@ -7,7 +7,8 @@ use Rattle.glob_matcher.specs.declared.wildmatch.way.Way.{Way}
 use Rattle.glob_matcher.specs.Ways.{way_of}
 use Rattle.glob_matcher.specs.declared.wildmatch.pruned.Answer.{Answer}
 use Rattle.glob_matcher.specs.declared.wildmatch.pruned.Answer.TheVariants.{Match, NoMatch, AbortAll}
-use Rattle.glob_matcher.specs.Bytes.{HasByte, star, is_exact}
+use Rattle.glob_matcher.specs.Bytes.{HasByte, star}
+use Rattle.glob_matcher.specs.ExactFolding.{is_exact}
 use Rattle.glob_matcher.specs.Tokens.{Token, Free, Dirs, Nothing, TokenAt, From}
 use Rattle.glob_matcher.specs.Matching.{SplitsBy, SplitsFrom}
 use Rattle.glob_matcher.specs.Private.Fitting.{Fits}

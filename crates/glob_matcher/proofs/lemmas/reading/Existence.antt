@@ -6,7 +6,8 @@ use Rattle.std.proofs.lemmas.Bool.Decides.{eqb_tells}
 use Rattle.glob_matcher.specs.declared.wildmatch.way.Way.{Way}
 use Rattle.glob_matcher.specs.declared.wildmatch.items.Item.{Item}
 use Rattle.glob_matcher.specs.declared.wildmatch.items.Item.TheVariants as item
-use Rattle.glob_matcher.specs.Bytes.{HasByte, IsEscaped, is_dead, is_path, star, open_bracket, backslash}
+use Rattle.glob_matcher.specs.Bytes.{HasByte, IsEscaped, is_path, star, open_bracket, backslash}
+use Rattle.glob_matcher.specs.ExactFolding.{is_dead}
 use Rattle.glob_matcher.specs.Private.Spelling.{question_mark, close_bracket}
 use Rattle.glob_matcher.specs.Sets.{Set, SetAt, ItemAt, ItemsAt, IsUpperEnd, member_of}
 use Rattle.glob_matcher.specs.Tokens.{Token, Byte, Any, OneOf, Free, Local, Dirs, Nothing, TokenAt, IsRun, IsBounded, From, Tokens}

@@ -2,7 +2,8 @@
 use Rattle.std.proofs.Common.{◌≡◌, inl, inr, ℕ, ◌+◌, ◌<◌, ◌≤◌, true, false, not, IsTrue, List, length, get_or, refl, ap, arith}
 use Rattle.glob_matcher.specs.declared.wildmatch.way.Way.{Way}
 use Rattle.glob_matcher.specs.declared.wildmatch.tokens.TokenKind.TheVariants as kind
-use Rattle.glob_matcher.specs.Bytes.{HasByte, IsEscaped, StandsForItself, is_dead, is_path, backslash, slash}
+use Rattle.glob_matcher.specs.Bytes.{HasByte, IsEscaped, StandsForItself, is_path, backslash, slash}
+use Rattle.glob_matcher.specs.ExactFolding.{is_dead}
 use Rattle.glob_matcher.specs.Private.Spelling.{question_mark}
 use Rattle.glob_matcher.specs.Sets.{Set, SetAt}
 use Rattle.glob_matcher.specs.Tokens.{Byte, Any, OneOf, Free, Local, Dirs, Nothing, TokenAt, IsRun, IsBounded, IsBroken}

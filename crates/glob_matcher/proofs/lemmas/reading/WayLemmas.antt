@@ -6,7 +6,8 @@ use Rattle.glob_matcher.specs.declared.wildmatch.mode.Mode.{Mode}
 use Rattle.glob_matcher.specs.declared.wildmatch.way.Folding.{Folding}
 use Rattle.glob_matcher.specs.declared.wildmatch.way.Folding.TheVariants.{Off, Both, Exact}
 use Rattle.glob_matcher.specs.declared.wildmatch.way.Way.{Way}
-use Rattle.glob_matcher.specs.Bytes.{folding, folds, is_dead, is_exact, is_on, slash, way_with}
+use Rattle.glob_matcher.specs.Bytes.{folding, folds, is_on, slash, way_with}
+use Rattle.glob_matcher.specs.ExactFolding.{is_dead, is_exact}
 use Rattle.glob_matcher.specs.Ways.{way_of}
 
 pub folding_with : (path : Bool) (how : Folding) → folding (way_with path how) ≡ how

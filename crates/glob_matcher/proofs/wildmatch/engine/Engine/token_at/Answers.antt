@@ -1,6 +1,6 @@
 use Rattle.std.proofs.Common.{◌≡◌, ℕ, inr, true, false, sym, ap, ◌∙◌, subst, arith}
 use Rattle.glob_matcher.specs.declared.wildmatch.way.Way.{Way}
-use Rattle.glob_matcher.specs.Bytes.{is_dead}
+use Rattle.glob_matcher.specs.ExactFolding.{is_dead}
 use Rattle.glob_matcher.specs.declared.wildmatch.tokens.TokenKind.TheVariants as kind
 use Rattle.glob_matcher.specs.Private.Reader.{IsToken}
 use Rattle.glob_matcher.proofs.lemmas.reading.TokenLemmas.{stands_for_itself}

@@ -1,5 +1,5 @@
--- The count is kept in the ledger that the blank one becomes.
+-- The counts are kept in the ledger that the blank one becomes.
 use Rattle.glob_patterns.proofs.pattern.view.PatternView.matches_repo_relative_path.Given as goal
 
-abbrev pub ghosts-answers_with_new_steps : goal.ghosts-answers_with_new_steps
-ghosts-answers_with_new_steps a = record { name = a.blank.name; parts = a.blank.parts }
+abbrev pub ghosts-answers_with_new_counts : goal.ghosts-answers_with_new_counts
+ghosts-answers_with_new_counts a = record { name = a.blank.name; parts = a.blank.parts }
