@@ -3,6 +3,7 @@ use super::{add_list, list_of};
 use crate::compare::same;
 use crate::told::{count_of, same_words};
 use gix_glob::search::pattern::List;
+use glob_lines::PlainLines;
 use glob_uses::Whole;
 use std::alloc::{AllocError, Global};
 use std::os::unix::fs::{PermissionsExt, symlink};
@@ -132,6 +133,25 @@ fn a_file_without_permission_is_no_missing_one(rt: HostRuntime) -> Result<(), Fa
         "reading patterns: Permission denied (os error 13)"
     };
     Ok(same_words(&rt, count_of(answer), words, 0)?)
+}
+
+/// Of three lines the second has no pattern.
+#[test]
+fn lines_of_a_file_are_numbered(rt: HostRuntime) -> Result<(), Fail> {
+    let path = path_of(&rt, "lines")?;
+    fs::write(&rt, path.as_str(), "*.rs\n\nsrc/\n")?;
+    let (source, mut buf) = (path.clone()?, Vec::new(rt.alloc()));
+    let answer = List::from_file(&rt, rt.alloc(), source, Some(""), &mut buf, PlainLines);
+    fs::remove_file(&rt, path.as_str())?;
+    let list = answer?.ok_or("no list")?;
+    let [first, third] = list.patterns.as_slice() else {
+        return Err("not two patterns")?;
+    };
+    let are_numbered = first.sequence_number == 1 && third.sequence_number == 3;
+    same(&rt, are_numbered, "the numbers", 0);
+    let are_read = first.pattern.text() == b"*.rs" && third.pattern.text() == b"src";
+    same(&rt, are_read, "the texts", 0);
+    Ok(())
 }
 
 #[test]

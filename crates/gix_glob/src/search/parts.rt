@@ -93,3 +93,27 @@ impl<'a> Iterator for Parts<'a> {
         self.next_named()
     }
 }
+
+#[cfg(test)]
+mod tests {
+    use super::Parts;
+
+    /// Texts, and the parts of each.
+    const ROWS: &[(&[u8], &[&[u8]])] = &[
+        (b"", &[]),
+        (b"/", &[b"/"]),
+        (b"//", &[b"/"]),
+        (b"/.", &[b"/"]),
+        (b"./a", &[b".", b"a"]),
+        (b"/./a", &[b"/", b"a"]),
+        (b"a/./b/.", &[b"a", b"b"]),
+        (b"a/../b", &[b"a", b"..", b"b"]),
+    ];
+
+    #[test]
+    fn parts_of_texts(rt: HostRuntime) {
+        for (text, parts) in ROWS {
+            assert!(rt; Parts::new(text).eq(parts.iter().copied()));
+        }
+    }
+}
