@@ -57,8 +57,8 @@ pub(crate) struct Sink {
 }
 
 impl Sink {
-    /// Takes at most `piece` bytes a write, onto `taken`. So many writes succeed, the next one fails, and those after it
-    /// succeed again. A flush fails where the next write would.
+    /// Takes at most `piece` bytes a write, onto `taken`. So many writes and flushes succeed, the next one fails, and those after it
+    /// succeed again.
     pub(crate) fn new(taken: Vec<u8>, piece: usize, successes: usize) -> Sink {
         Sink {
             taken,
@@ -77,24 +77,27 @@ impl Sink {
     pub(crate) fn taken(&self) -> &[u8] {
         &self.taken
     }
-}
 
-impl Write for Sink {
-    fn write(&mut self, buf: &[u8]) -> io::Result<usize> {
+    /// Counts a call, and fails where it is the chosen one.
+    fn count_call(&mut self) -> io::Result<()> {
         if self.calls_left == 0 {
             self.calls_left = usize::MAX;
             return Err(io::Error::from(self.kind));
         }
         self.calls_left -= 1;
+        Ok(())
+    }
+}
+
+impl Write for Sink {
+    fn write(&mut self, buf: &[u8]) -> io::Result<usize> {
+        self.count_call()?;
         let count = buf.len().min(self.piece);
         self.taken.extend_from_slice(&buf[..count])?;
         Ok(count)
     }
 
     fn flush(&mut self) -> io::Result<()> {
-        if self.calls_left == 0 {
-            return Err(io::Error::from(self.kind));
-        }
-        Ok(())
+        self.count_call()
     }
 }

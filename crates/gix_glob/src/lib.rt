@@ -5,5 +5,5 @@ pub mod laws;
 pub mod search;
 
 pub use glob_matcher::wildmatch;
-pub use glob_patterns::pattern::Pattern;
+pub use glob_patterns::pattern::{Pattern, basename_start};
 pub use glob_patterns::{parse, pattern};

@@ -12,8 +12,8 @@ use std::io::{Read, Write};
 /// A call fails where it answers an error, and a write also where it takes 0 bytes of a piece that is not empty. The flag
 /// never turns back.
 ///
-/// Each call is one call of the value inside. Contracts say so of the bytes, where that value tells them; tests show it of
-/// the answers.
+/// Each call is one call of the value inside, and answers as that did. Contracts say so of the bytes, where that value tells them; tests
+/// show it of errors.
 #[derive(Debug, Drop)]
 pub struct Watched<D> {
     inner: D,
@@ -46,14 +46,16 @@ impl<D> Watched<D> {
         self.inner
     }
 
-    /// Remembers whether a call has failed.
-    fn note(&mut self, is_failure: bool)
+    /// Hands on what the value inside answered, and remembers whether the call has failed.
+    fn hand_on<T>(&mut self, answer: io::Result<T>, took_nothing: bool) -> io::Result<T>
+        ensures answer { result ≡ answer }
         ensures kept { inner self.new ≡ inner self.old }
-        ensures flag { has_failed self.new ≡ (has_failed self.old || is_failure) }
+        ensures flag { has_failed self.new ≡ (has_failed self.old || (took_nothing || is_err answer)) }
     {
-        if is_failure {
+        if took_nothing || answer.is_err() {
             self.failed = true;
         }
+        answer
     }
 }
 
@@ -66,8 +68,7 @@ impl<R: Read> Read for Watched<R> {
         ensures flag { has_failed self.new ≡ (has_failed self.old || is_err result) }
     {
         let answer = self.inner.read(buf);
-        self.note(answer.is_err());
-        answer
+        self.hand_on(answer, false)
     }
 
     fn read_exact(&mut self, buf: &mut [u8]) -> io::Result<()>
@@ -75,8 +76,7 @@ impl<R: Read> Read for Watched<R> {
         ensures flag { has_failed self.new ≡ (has_failed self.old || is_err result) }
     {
         let answer = self.inner.read_exact(buf);
-        self.note(answer.is_err());
-        answer
+        self.hand_on(answer, false)
     }
 }
 
@@ -90,8 +90,7 @@ impl<W: Write> Write for Watched<W> {
     {
         let answer = self.inner.write(buf);
         let took_nothing = matches!(answer, Ok(0)) && !buf.is_empty();
-        self.note(answer.is_err() || took_nothing);
-        answer
+        self.hand_on(answer, took_nothing)
     }
 
     fn flush(&mut self) -> io::Result<()>
@@ -99,8 +98,7 @@ impl<W: Write> Write for Watched<W> {
         ensures flag { has_failed self.new ≡ (has_failed self.old || is_err result) }
     {
         let answer = self.inner.flush();
-        self.note(answer.is_err());
-        answer
+        self.hand_on(answer, false)
     }
 
     fn write_all(&mut self, buf: &[u8]) -> io::Result<()>
@@ -108,7 +106,6 @@ impl<W: Write> Write for Watched<W> {
         ensures flag { has_failed self.new ≡ (has_failed self.old || is_err result) }
     {
         let answer = self.inner.write_all(buf);
-        self.note(answer.is_err());
-        answer
+        self.hand_on(answer, false)
     }
 }
