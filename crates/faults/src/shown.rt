@@ -6,8 +6,7 @@ use gix_glob::pattern::{Case, Mode, PatternView};
 use gix_glob::search::pattern::List;
 use gix_glob::search::{LoadFault, Watched};
 use gix_glob::wildmatch::{self, Answer};
-use glob_lines::{EngineFault, IgnoreLines, LabelLines, PlainLines};
-use glob_lists::Reading;
+use glob_lines::{EngineFault, GitIgnoreLines, IgnoreLines, LabelLines, PlainLines};
 use std::alloc::AllocError;
 use std::fmt::{Debug, Display};
 use std::io;
@@ -52,10 +51,8 @@ fn texts_of_faults_and_values(rt: HostRuntime) -> Result<(), Fail> {
     debugged(&rt, &Case::Fold, "Fold")?;
     debugged(&rt, &Answer::AbortToStarStar, "AbortToStarStar")?;
     debugged(&rt, &PlainLines, "PlainLines")?;
-    let lines = IgnoreLines {
-        reading: Reading::Git,
-    };
-    debugged(&rt, &lines, "IgnoreLines { reading: Git }")?;
+    debugged(&rt, &IgnoreLines, "IgnoreLines")?;
+    debugged(&rt, &GitIgnoreLines, "GitIgnoreLines")?;
     debugged(&rt, &LabelLines, "LabelLines")?;
     let watched = Watched::new(b"a".as_slice());
     debugged(&rt, &watched, "Watched { inner: [97], failed: false }")?;

@@ -4,15 +4,11 @@ use gix_glob::pattern::Case;
 use gix_glob::search::Pattern as _;
 use gix_glob::search::pattern::List;
 use glob_lines::IgnoreLines;
-use glob_lists::{Reading, RepositoryPath, Rules};
+use glob_lists::{RepositoryPath, Rules};
 use glob_trees::{FolderLists, Tree, TreeFault, list_in_folder};
 use std::alloc::{AllocError, Global};
 use std::process::Abort;
 use std::test::Fail;
-
-const LINES: IgnoreLines = IgnoreLines {
-    reading: Reading::Crate,
-};
 
 /// Why the source has no list.
 #[derive(Clone, Copy, PartialEq)]
@@ -51,7 +47,7 @@ impl Failing {
             _ => b"",
         };
         let mut list = List::empty(self.alloc);
-        list.patterns = LINES.bytes_to_patterns(self.alloc, lines, "")?;
+        list.patterns = IgnoreLines.bytes_to_patterns(self.alloc, lines, "")?;
         Ok(list)
     }
 }

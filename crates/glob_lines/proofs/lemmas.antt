@@ -3,7 +3,6 @@ pub mod DecisionsLemmas
 pub mod EntriesLemmas
 pub mod FoundLemmas
 pub mod GitLineLemmas
-pub mod IgnoreAsLemmas
 pub mod IgnoreLemmas
 pub mod LabelLemmas
 pub mod LinesLemmas

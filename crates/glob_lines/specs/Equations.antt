@@ -5,7 +5,6 @@
 pub mod Entries
 pub mod GitLines
 pub mod Ignore
-pub mod IgnoreAs
 pub mod Label
 pub mod Lines
 pub mod Plain

@@ -6,12 +6,10 @@ ghost use Rattle.gix_glob.specs.Entries.{entry_of};
 ghost use Rattle.gix_glob.specs.Equations.Entries.{entry_with};
 ghost use Rattle.glob_lines.specs.Equations.Entries.{entry_of_text, line_reading};
 ghost use Rattle.glob_lines.specs.Equations.GitLines.{git_reading};
-ghost use Rattle.glob_lines.specs.Equations.IgnoreAs.{read_as};
 ghost use Rattle.glob_lines.specs.Private.Reading.{reading_in};
 
 use gix_glob::search::pattern::Mapping;
 use gix_glob::{Pattern, laws};
-use glob_lists::Reading;
 use std::alloc::{AllocError, Global};
 
 /// The mappings of the lines so far, and how many lines those were.
@@ -57,7 +55,7 @@ impl<V: Drop> NumberedMappings<V> {
 
     /// Counts a line. The pattern of the text that it gives, as Git reads it, is appended with the value and the line's number, from 1;
     /// nothing where it gives no text.
-    fn push_git_line(&mut self, text: Option<&[u8]>, value: V) -> Result<(), AllocError>
+    pub(crate) fn push_git_line(&mut self, text: Option<&[u8]>, value: V) -> Result<(), AllocError>
         requires { self.old.lines < usize.MAX }
         ensures lines { self.new.lines ≡ self.old.lines + 1 }
         ensures entry { OnOk result (map (entry_of (λ v. v)) self.new.mappings.items
@@ -72,24 +70,6 @@ impl<V: Drop> NumberedMappings<V> {
         let pattern = Pattern::from_git_line(self.alloc, text)?;
         self.push(pattern, value)?;
         Ok(())
-    }
-
-    /// Counts a line, and appends what it gives, as this reading has it.
-    pub(crate) fn push_as(
-        &mut self,
-        text: Option<&[u8]>,
-        value: V,
-        reading: Reading,
-    ) -> Result<(), AllocError>
-        requires { self.old.lines < usize.MAX }
-        ensures lines { self.new.lines ≡ self.old.lines + 1 }
-        ensures entry { OnOk result (map (entry_of (λ v. v)) self.new.mappings.items
-            ≡ map (entry_of (λ v. v)) self.old.mappings.items ++ option_to_list (entry_of_text (read_as reading) value (self.old.lines + 1) (option_copied text.entry))) }
-    {
-        match reading {
-            Reading::Crate => self.push_line(text, value),
-            Reading::Git => self.push_git_line(text, value),
-        }
     }
 
     /// Appends a pattern with its value and the number of the line that was counted last.

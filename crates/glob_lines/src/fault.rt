@@ -10,13 +10,13 @@ use thiserror::Error;
 pub enum EngineFault {
     /// Memory was refused. Nothing was written.
     #[error("no memory")]
-    Memory,
+    Memory = 1,
     /// A read failed. Nothing was written.
     #[error("read failed")]
-    Read,
+    Read = 2,
     /// A write failed. A beginning of the output was written.
     #[error("write failed")]
-    Write,
+    Write = 3,
 }
 
 impl From<AllocError> for EngineFault {

@@ -24,7 +24,7 @@ pub use decisions::run_ignore;
 pub use fault::EngineFault;
 pub use git_line::next_git_line;
 pub use glob_lists::{bases_are_folders, plain_path};
-pub use ignore::IgnoreLines;
+pub use ignore::{GitIgnoreLines, IgnoreLines};
 pub use ignore_line::{IgnoreLine, next_ended_line, next_ignore_line, without_byte_order_mark};
 pub use label::LabelLines;
 pub use list::run_list;

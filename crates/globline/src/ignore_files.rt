@@ -8,7 +8,6 @@ ghost use Rattle.globline.specs.Words.{AreIgnoreLists, are_files};
 use gix_glob::search::pattern::List;
 use gix_glob::search::{LoadFault, add_patterns_file};
 use glob_lines::{EngineFault, IgnoreLines, laws};
-use glob_lists::Reading;
 use std::alloc::Global;
 use std::rt::Files;
 
@@ -29,12 +28,9 @@ pub(crate) fn lists_of<F: Files>(
     gix_glob::laws::bases_end_in_a_slash();
     let mut lists = Vec::new(alloc);
     let mut bytes = Vec::new(alloc);
-    let parser = IgnoreLines {
-        reading: Reading::Crate,
-    };
     for file in files {
         let source = String::from_str(alloc, file.as_str())?;
-        match add_patterns_file(rt, alloc, &mut lists, source, root, &mut bytes, parser) {
+        match add_patterns_file(rt, alloc, &mut lists, source, root, &mut bytes, IgnoreLines) {
             Ok(_is_added) => {}
             Err(LoadFault::Memory) => return Err(EngineFault::Memory),
             Err(LoadFault::Read(_)) => return Err(EngineFault::Read),

@@ -5,23 +5,23 @@ ghost use Rattle.globtree.specs.Answers.{IsOfSomeFile};
 
 use crate::fault::{Fault, Result};
 use gix_glob::search::pattern::List;
-use glob_lines::IgnoreLines;
+use glob_lines::GitIgnoreLines;
 use std::alloc::Global;
 use std::fs;
 use std::rt::Files;
-use tree_files::{BY_GIT, file_list, named_list};
+use tree_files::{file_list, named_list};
 
 /// The list of a file of excludes that is named, and has to be there.
 pub(crate) fn named_excludes<R: Files>(
     rt: &R,
     alloc: Global,
     name: &str,
-) -> Result<List<IgnoreLines>>
+) -> Result<List<GitIgnoreLines>>
     ensures { IfOk result (λ list. IsOfSomeFile (entry_list_of (λ _. tt) list)) }
 {
     let mut bytes = Vec::new(alloc);
     let source = String::from_str(alloc, name)?;
-    match named_list(rt, alloc, source, &mut bytes, BY_GIT) {
+    match named_list(rt, alloc, source, &mut bytes, GitIgnoreLines) {
         Ok(Some(list)) => Ok(list),
         Ok(None) => Err(Fault::told(format!(in alloc; "'{name}' is no file"))),
         Err(fault) => Err(Fault::told(format!(in alloc; "'{name}': {fault}"))),
@@ -33,12 +33,12 @@ pub(crate) fn excludes<R: Files + Eprint>(
     rt: &R,
     alloc: Global,
     file: String,
-) -> Result<List<IgnoreLines>>
+) -> Result<List<GitIgnoreLines>>
     ensures { IfOk result (λ list. IsOfSomeFile (entry_list_of (λ _. tt) list)) }
 {
     if fs::metadata(rt, file.as_str()).is_ok_and(|found| found.is_dir()) {
         return Err(Fault::told(format!(in alloc; "cannot use {file} as an exclude file")));
     }
     let mut bytes = Vec::new(alloc);
-    Ok(file_list(rt, alloc, file, &mut bytes, BY_GIT)?)
+    Ok(file_list(rt, alloc, file, &mut bytes, GitIgnoreLines)?)
 }

@@ -14,7 +14,7 @@ use crate::work_tree::{WorkTree, work_tree};
 use git_index::Index;
 use gix_glob::pattern::Case;
 use gix_glob::search::pattern::List;
-use glob_lines::IgnoreLines;
+use glob_lines::GitIgnoreLines;
 use glob_lists::{PreparedList, Rules};
 use glob_trees::Tree;
 use std::alloc::{AllocError, Global};
@@ -32,7 +32,7 @@ pub(crate) struct Fronts {
     /// Where paths are told from.
     pub(crate) standpoint: Standpoint,
     /// The lists before those of all folders, the weakest first.
-    pub(crate) lists: Vec<PreparedList<IgnoreLines>>,
+    pub(crate) lists: Vec<PreparedList<GitIgnoreLines>>,
     /// Whether the configuration says that the case of letters doesn't count.
     pub(crate) folds: bool,
     /// Which names stand in quotes.
@@ -51,7 +51,7 @@ pub(crate) struct Ground {
     /// The work tree, whose top is the current folder.
     pub(crate) tree: WorkTree,
     /// The list of the file of excludes that an option names.
-    pub(crate) named: Option<List<IgnoreLines>>,
+    pub(crate) named: Option<List<GitIgnoreLines>>,
     /// Whether patterns count: else no file of excludes is read.
     pub(crate) counts: bool,
 }
@@ -134,7 +134,7 @@ fn excludes_by_option<R: Files>(
     rt: &R,
     alloc: Global,
     options: Options<'_>,
-) -> Result<Option<List<IgnoreLines>>>
+) -> Result<Option<List<GitIgnoreLines>>>
     ensures { IfOk result (λ named. IfSome named (λ list. IsOfSomeFile (entry_list_of (λ _. tt) list))) }
 {
     match options.excludes {
@@ -148,10 +148,10 @@ fn lists_of<R: Files + Eprint>(
     rt: &R,
     alloc: Global,
     counts: bool,
-    named: Option<List<IgnoreLines>>,
+    named: Option<List<GitIgnoreLines>>,
     file: Option<Vec<u8>>,
     own: String,
-) -> Result<Vec<PreparedList<IgnoreLines>>>
+) -> Result<Vec<PreparedList<GitIgnoreLines>>>
     requires { IfSome named (λ list. IsOfSomeFile (entry_list_of (λ _. tt) list)) }
     ensures { IfOk result (λ lists. AreFronts (length lists.items) (map (entry_list_of (λ _. tt)) lists.items)) }
 {
@@ -167,9 +167,9 @@ fn lists_of<R: Files + Eprint>(
 fn outer_excludes<R: Files + Eprint>(
     rt: &R,
     alloc: Global,
-    named: Option<List<IgnoreLines>>,
+    named: Option<List<GitIgnoreLines>>,
     file: Option<Vec<u8>>,
-) -> Result<List<IgnoreLines>>
+) -> Result<List<GitIgnoreLines>>
     requires { IfSome named (λ list. IsOfSomeFile (entry_list_of (λ _. tt) list)) }
     ensures { IfOk result (λ list. IsOfSomeFile (entry_list_of (λ _. tt) list)) }
 {
@@ -185,9 +185,9 @@ fn outer_excludes<R: Files + Eprint>(
 /// Both lists, prepared, in this order.
 fn both(
     alloc: Global,
-    outer: List<IgnoreLines>,
-    own: List<IgnoreLines>,
-) -> Result<Vec<PreparedList<IgnoreLines>>, AllocError>
+    outer: List<GitIgnoreLines>,
+    own: List<GitIgnoreLines>,
+) -> Result<Vec<PreparedList<GitIgnoreLines>>, AllocError>
     ensures { IfOk result (λ lists. lists.items ≡ outer ∷ own ∷ []) }
 {
     let mut lists = Vec::with_capacity(alloc, 2)?;
@@ -199,10 +199,10 @@ fn both(
 /// The tree in which the files of folders stand behind these lists.
 pub(crate) fn tree_behind<'a, R: Files + Eprint>(
     alloc: Global,
-    lists: Vec<PreparedList<IgnoreLines>>,
+    lists: Vec<PreparedList<GitIgnoreLines>>,
     source: FolderFiles<'a, R>,
     case: Case,
-) -> Result<Tree<IgnoreLines, FolderFiles<'a, R>>>
+) -> Result<Tree<GitIgnoreLines, FolderFiles<'a, R>>>
     ensures rules { IfOk result (λ tree. tree.rules ≡ by_git case) }
     ensures count { IfOk result (λ tree. tree.front_count ≡ length lists.items) }
     ensures before { IfOk result (λ tree. tree.lists ≡ lists.items) }

@@ -13,7 +13,7 @@ use crate::told_name::refuse_pattern;
 use crate::work_tree::index_place;
 use git_index::Index;
 use gix_glob::search::Watched;
-use glob_lines::IgnoreLines;
+use glob_lines::GitIgnoreLines;
 use glob_trees::Tree;
 use std::alloc::Global;
 use std::io::Write;
@@ -70,7 +70,7 @@ pub(crate) fn list_tracked_ignored<R: Files + Eprint, O: Write>(
     standpoint: &Standpoint,
     form: Form,
     tracked: &Index,
-    tree: Tree<IgnoreLines, FolderFiles<'_, R>>,
+    tree: Tree<GitIgnoreLines, FolderFiles<'_, R>>,
     folder: &str,
     output: &mut Watched<O>,
 ) -> Result<()>

@@ -9,7 +9,7 @@ use crate::fault::{Fault, Result};
 use crate::fronts::Fronts;
 use crate::outcomes::ANSWERED;
 use gix_glob::search::Watched;
-use glob_lines::IgnoreLines;
+use glob_lines::GitIgnoreLines;
 use glob_lists::PreparedList;
 use repository_files::{DiskFiles, RepositoryVariables, User};
 use std::alloc::{AllocError, Global};
@@ -74,8 +74,8 @@ fn nested_repositories<'a, R: Files + Env>(
 /// The same lists once more, each with as many patterns.
 pub(crate) fn copies_of(
     alloc: Global,
-    lists: &[PreparedList<IgnoreLines>],
-) -> Result<Vec<PreparedList<IgnoreLines>>, AllocError>
+    lists: &[PreparedList<GitIgnoreLines>],
+) -> Result<Vec<PreparedList<GitIgnoreLines>>, AllocError>
     ensures { IfOk result (λ copies. AllZip (λ list copy. length copy.patterns.items ≡ length list.patterns.items) lists.now copies.items) }
 {
     let mut copies = Vec::with_capacity(alloc, lists.len())?;

@@ -3,16 +3,15 @@
 use crate::answer::{Answer, field, one, shown, two};
 use crate::row::Row;
 use anyhow::{Result, bail};
-use gix_glob::search::Pattern as _;
 use gix_glob::search::pattern::Mapping;
-use glob_lines::{IgnoreLine, IgnoreLines, LabelLines, without_byte_order_mark};
-use glob_lists::Reading;
+use gix_glob::search::{self, Pattern as _};
+use glob_lines::{IgnoreLine, LabelLines, without_byte_order_mark};
 use std::alloc::{AllocError, Global};
 
 /// The patterns of an ignore file, each as it is shown behind the number of its line.
-pub(crate) fn files(alloc: Global, row: &Row, reading: Reading) -> Result<Answer> {
+pub(crate) fn files<P: search::Pattern>(alloc: Global, row: &Row, parser: &P) -> Result<Answer> {
     let mut text = String::new(alloc);
-    for mapping in &(IgnoreLines { reading }).bytes_to_patterns(alloc, row.bytes(0), "")? {
+    for mapping in &parser.bytes_to_patterns(alloc, row.bytes(0), "")? {
         let (number, pattern) = (mapping.sequence_number, &mapping.pattern);
         text.push_str(format!(in alloc; "{number}:{pattern}\n")?.as_str())?;
     }

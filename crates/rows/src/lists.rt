@@ -6,7 +6,6 @@ use anyhow::{Result, bail};
 use gix_glob::search::pattern::{List, strip_base_handle_recompute_basename_pos as strip};
 use gix_glob::search::{Pattern as _, Watched, has_file_part};
 use glob_lines::{IgnoreLines, PlainLines, bases_are_folders, run_ignore, run_list};
-use glob_lists::Reading;
 use std::alloc::{AllocError, Global};
 
 /// Whether a path text has a file part.
@@ -43,10 +42,7 @@ pub(crate) fn stripping(alloc: Global, row: &Row) -> Result<Answer> {
 /// The list of an ignore file's bytes, under a base or none.
 fn list_of(alloc: Global, base: &Field, bytes: &[u8]) -> Result<List<IgnoreLines>, AllocError> {
     let mut list = List::empty(alloc);
-    let lines = IgnoreLines {
-        reading: Reading::Crate,
-    };
-    list.patterns = lines.bytes_to_patterns(alloc, bytes, "")?;
+    list.patterns = IgnoreLines.bytes_to_patterns(alloc, bytes, "")?;
     list.base = field(alloc, base.as_deref())?;
     Ok(list)
 }

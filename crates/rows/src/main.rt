@@ -16,8 +16,7 @@ mod trees;
 use crate::answer::Answer;
 use crate::row::{Field, Row};
 use anyhow::{Context, Result, bail};
-use glob_lines::{next_git_line, next_ignore_line};
-use glob_lists::Reading;
+use glob_lines::{GitIgnoreLines, IgnoreLines, next_git_line, next_ignore_line};
 use std::alloc::{AllocError, Global};
 use std::fs;
 use std::process::ExitCode;
@@ -86,8 +85,8 @@ fn ask(alloc: Global, subject: &str, row: &Row) -> Result<Answer> {
         "listed" => lists::listed(alloc, row),
         "decided" => lists::decided(alloc, row),
         "folders" => lists::folders(alloc, row),
-        "ignore_files" => lines::files(alloc, row, Reading::Crate),
-        "git_files" => lines::files(alloc, row, Reading::Git),
+        "ignore_files" => lines::files(alloc, row, &IgnoreLines),
+        "git_files" => lines::files(alloc, row, &GitIgnoreLines),
         "ignore_lines" => lines::line(alloc, next_ignore_line(row.bytes(0))),
         "git_lines" => lines::line(alloc, next_git_line(row.bytes(0))),
         "marks" => lines::marks(alloc, row),

@@ -6,8 +6,8 @@ use anyhow::{Result, bail};
 use gix_glob::pattern::Case;
 use gix_glob::search::pattern::List;
 use gix_glob::search::{Pattern as _, Watched};
-use glob_lines::IgnoreLines;
-use glob_lists::{Reading, RepositoryPath, Rules};
+use glob_lines::GitIgnoreLines;
+use glob_lists::{RepositoryPath, Rules};
 use glob_trees::{FolderLists, Tree, list_in_folder};
 use record_streams::RecordFault;
 use std::alloc::{AllocError, Global};
@@ -37,17 +37,15 @@ impl From<AllocError> for SourceFault {
 #[derive(Drop)]
 struct Folders<'a> {
     alloc: Global,
-    lines: IgnoreLines,
     files: &'a [Field],
     asked: Vec<u8>,
 }
 
 impl<'a> Folders<'a> {
     /// No folder was asked for yet.
-    fn new(alloc: Global, reading: Reading, files: &'a [Field]) -> Folders<'a> {
+    fn new(alloc: Global, files: &'a [Field]) -> Folders<'a> {
         Folders {
             alloc,
-            lines: IgnoreLines { reading },
             files,
             asked: Vec::new(alloc),
         }
@@ -66,18 +64,18 @@ impl<'a> Folders<'a> {
     }
 }
 
-impl<'a> FolderLists<IgnoreLines> for Folders<'a> {
+impl<'a> FolderLists<GitIgnoreLines> for Folders<'a> {
     type Fault = SourceFault;
 
     ghost shows = { λ _ _ _ _. Unit {0} };
 
     ghost gave = { λ _ _. ⊥ };
 
-    fn list_of(&mut self, folder: &[u8]) -> Result<List<IgnoreLines>, SourceFault> {
+    fn list_of(&mut self, folder: &[u8]) -> Result<List<GitIgnoreLines>, SourceFault> {
         note(&mut self.asked, b'<', folder, b'>')?;
         let mut list = List::empty(self.alloc);
         let bytes = self.bytes_of(folder);
-        list.patterns = self.lines.bytes_to_patterns(self.alloc, bytes, "")?;
+        list.patterns = GitIgnoreLines.bytes_to_patterns(self.alloc, bytes, "")?;
         Ok(list_in_folder(self.alloc, list, folder)?)
     }
 
@@ -94,8 +92,8 @@ fn note(asked: &mut Vec<u8>, begin: u8, path: &[u8], end: u8) -> Result<(), Allo
 
 /// Which line decides about each path, one after the other, and for which folders the source was asked.
 pub(crate) fn trees_asked(alloc: Global, row: &Row) -> Result<Answer> {
-    let source = Folders::new(alloc, Reading::Crate, row.rest(1));
-    let rules = Rules::by_crate(Case::Sensitive);
+    let source = Folders::new(alloc, row.rest(1));
+    let rules = Rules::by_git(Case::Sensitive);
     let Some(mut tree) = Tree::new(alloc, source, Vec::new(alloc), rules) else {
         bail!("no tree");
     };
@@ -113,7 +111,7 @@ pub(crate) fn trees_asked(alloc: Global, row: &Row) -> Result<Answer> {
 /// Adds what decides about a path: the base of the list and the number of the line, or a dash.
 fn push_decision(
     alloc: Global,
-    tree: &mut Tree<IgnoreLines, Folders<'_>>,
+    tree: &mut Tree<GitIgnoreLines, Folders<'_>>,
     line: &[u8],
     text: &mut Vec<u8>,
 ) -> Result<()> {
@@ -181,7 +179,7 @@ impl<'a> PathKinds for Kinds<'a> {
 
 /// The sources of a row.
 fn sources_of(alloc: Global, row: &Row) -> Result<IgnoreSources<Folders<'_>, Kinds<'_>>> {
-    let folders = Folders::new(alloc, Reading::Git, row.rest(4));
+    let folders = Folders::new(alloc, row.rest(4));
     let rules = Rules::by_git(Case::Sensitive);
     let Some(tree) = Tree::new(alloc, folders, Vec::new(alloc), rules) else {
         bail!("no tree");

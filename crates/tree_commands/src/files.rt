@@ -50,7 +50,7 @@ use crate::files::writing::PathLines;
 use git_index::Index;
 use gix_glob::pattern::Case;
 use gix_glob::search::Watched;
-use glob_lines::IgnoreLines;
+use glob_lines::GitIgnoreLines;
 use glob_lists::PreparedList;
 use std::alloc::Global;
 use std::io;
@@ -72,7 +72,7 @@ pub struct Listing {
     /// How folders are told in which no tracked path lies.
     pub folders: Folders,
     /// The lists that stand before those of all folders, as of files of excludes.
-    pub fronts: Vec<PreparedList<IgnoreLines>>,
+    pub fronts: Vec<PreparedList<GitIgnoreLines>>,
     /// Whether the case of letters counts.
     pub case: Case,
 }

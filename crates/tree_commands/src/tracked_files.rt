@@ -23,7 +23,7 @@ use crate::files::mark::Mark;
 use crate::files::writing::append_path_line;
 use git_index::{Entry, Kind};
 use gix_glob::search::Watched;
-use glob_lines::IgnoreLines;
+use glob_lines::GitIgnoreLines;
 use glob_trees::{FolderLists, Tree};
 use record_streams::RecordFault;
 use std::alloc::{AllocError, Global};
@@ -172,14 +172,14 @@ fn lines_of(
 /// [`RecordFault::Memory`]; [`RecordFault::Answer`] of the fault of the first path that got no answer; and [`RecordFault::Write`] where a
 /// write or a flush failed: then what was written may end anywhere.
 pub fn write_ignored<
-    S: FolderLists<IgnoreLines> + Drop,
+    S: FolderLists<GitIgnoreLines> + Drop,
     K: PathKinds<Fault = S::Fault> + Drop,
     W: Write,
 >(
     alloc: Global,
     standpoint: &Standpoint,
     form: Form,
-    tree: Tree<IgnoreLines, S>,
+    tree: Tree<GitIgnoreLines, S>,
     kinds: K,
     paths: &[&[u8]],
     writer: &mut Watched<W>,

@@ -10,11 +10,11 @@ use crate::indexed_files::IndexedFiles;
 use crate::nested::NestedRepositories;
 use crate::progress::Progress;
 use crate::seen_files::seen_file_list;
-use crate::sources::{BY_GIT, FolderFiles, IGNORE_FILE};
+use crate::sources::{FolderFiles, IGNORE_FILE};
 use crate::standing::{OwnFile, file_in, own_file};
 use crate::telling::tell_line;
 use gix_glob::search::pattern::List;
-use glob_lines::IgnoreLines;
+use glob_lines::GitIgnoreLines;
 use glob_trees::{FolderLists, list_in_folder};
 use repository_files::Sight;
 use std::alloc::{AllocError, Global};
@@ -134,14 +134,21 @@ impl<'a, R: Files + Clock + Eprint> TreeFiles<'a, R> {
     }
 
     /// The list of the ignore file of a folder that was entered, without its base.
-    fn own_list(&mut self, folder: &[u8]) -> Result<List<IgnoreLines>, CheckFault> {
+    fn own_list(&mut self, folder: &[u8]) -> Result<List<GitIgnoreLines>, CheckFault> {
         self.above.check_indexed(folder)?;
         let file = file_in(self.alloc, text_of(self.alloc, folder)?, IGNORE_FILE)?;
         let OwnFile::Found(found) = own_file(self.rt, self.alloc, file.as_str())? else {
             return Ok(List::empty(self.alloc));
         };
         let seen = Sight::of(&found);
-        seen_file_list(self.rt, self.alloc, file, &seen, &mut self.bytes, BY_GIT)
+        seen_file_list(
+            self.rt,
+            self.alloc,
+            file,
+            &seen,
+            &mut self.bytes,
+            GitIgnoreLines,
+        )
     }
 
     /// Tells the error by which a path isn't listed, or not all of a folder. Want of memory is a fault.
@@ -206,7 +213,7 @@ impl<'a, R: Files + Clock + Eprint> FileSource for TreeFiles<'a, R> {
         }
     }
 
-    fn list_of(&mut self, folder: &[u8]) -> Result<List<IgnoreLines>, CheckFault> {
+    fn list_of(&mut self, folder: &[u8]) -> Result<List<GitIgnoreLines>, CheckFault> {
         if !self.has_begun {
             return self.above.list_of(folder);
         }

@@ -24,6 +24,6 @@ pub use files::TreeFiles;
 pub use indexed_files::IndexedFiles;
 pub use nested::NestedRepositories;
 pub use seen_files::{file_list, named_list};
-pub use sources::{BY_GIT, FolderFiles};
+pub use sources::FolderFiles;
 pub use standing::path_text;
 pub use telling::tell_line;

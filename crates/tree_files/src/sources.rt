@@ -11,17 +11,11 @@ use crate::indexed_files::IndexedFiles;
 use crate::seen_files::seen_file_list;
 use crate::standing::{OwnFile, Standing, file_in, own_file, path_text, what_stands};
 use gix_glob::search::pattern::List;
-use glob_lines::IgnoreLines;
-use glob_lists::Reading;
+use glob_lines::GitIgnoreLines;
 use glob_trees::{FolderLists, list_in_folder};
 use repository_files::Sight;
 use std::alloc::Global;
 use std::rt::Files;
-
-/// The parser of each ignore file: Git's reading counts.
-pub const BY_GIT: IgnoreLines = IgnoreLines {
-    reading: Reading::Git,
-};
 
 /// The name of a folder's own file of patterns.
 pub(crate) const IGNORE_FILE: &str = ".gitignore";
@@ -73,7 +67,7 @@ impl<'a, R: Files + Eprint> FolderFiles<'a, R> {
     }
 
     /// The list of a folder that isn't known to be missing, without its base.
-    fn own_list(&mut self, folder: &[u8]) -> Result<List<IgnoreLines>, CheckFault>
+    fn own_list(&mut self, folder: &[u8]) -> Result<List<GitIgnoreLines>, CheckFault>
         ensures { IfOk result (λ list. IsOfFolder folder.now (entry_list_of {V = Unit {0}} (λ _. tt) list)) }
     {
         let name = path_text(self.alloc, folder)?;
@@ -92,14 +86,21 @@ impl<'a, R: Files + Eprint> FolderFiles<'a, R> {
     }
 
     /// The list of the file of a folder that is there.
-    fn file_list(&mut self, folder: &[u8], name: &str) -> Result<List<IgnoreLines>, CheckFault>
+    fn file_list(&mut self, folder: &[u8], name: &str) -> Result<List<GitIgnoreLines>, CheckFault>
         ensures { IfOk result (λ list. IsSpelled (below name.now (codes ".gitignore")) (entry_list_of {V = Unit {0}} (λ _. tt) list)) }
     {
         let file = file_in(self.alloc, name, IGNORE_FILE)?;
         match own_file(self.rt, self.alloc, file.as_str())? {
             OwnFile::Found(found) => {
                 let seen = Sight::of(&found);
-                seen_file_list(self.rt, self.alloc, file, &seen, &mut self.bytes, BY_GIT)
+                seen_file_list(
+                    self.rt,
+                    self.alloc,
+                    file,
+                    &seen,
+                    &mut self.bytes,
+                    GitIgnoreLines,
+                )
             }
             OwnFile::Nothing => Ok(List::empty(self.alloc)),
             OwnFile::Shut => {
@@ -110,14 +111,14 @@ impl<'a, R: Files + Eprint> FolderFiles<'a, R> {
     }
 }
 
-impl<'a, R: Files + Eprint> FolderLists<IgnoreLines> for FolderFiles<'a, R> {
+impl<'a, R: Files + Eprint> FolderLists<GitIgnoreLines> for FolderFiles<'a, R> {
     type Fault = CheckFault;
 
     ghost shows = { λ _ _. IsOfFolder };
 
     ghost gave = { λ _ _. ⊥ };
 
-    fn list_of(&mut self, folder: &[u8]) -> Result<List<IgnoreLines>, CheckFault> {
+    fn list_of(&mut self, folder: &[u8]) -> Result<List<GitIgnoreLines>, CheckFault> {
         self.check_indexed(folder)?;
         let list = if self.closed.contain(folder) {
             List::empty(self.alloc)

@@ -2,9 +2,8 @@
 use Rattle.std.proofs.Common.{◌≡◌, ℕ, List, [], ◌∷◌, refl, ap, subst, sym, ◌∙◌, inl, inr, length, map, take}
 use Rattle.gix_glob.specs.EntryLists.{EntryList, entry_list_of}
 use Rattle.gix_glob.specs.declared.search.pattern.list.List as patterns
-use Rattle.glob_lines.specs.Equations.IgnoreAs.{ignore_as}
+use Rattle.glob_lines.specs.Equations.GitLines.{git_entries_of}
 use Rattle.glob_lines.specs.Plain.{PlainEntry}
-use Rattle.glob_lists.specs.declared.rules.Reading.TheVariants.{Git}
 use Rattle.tree_files.specs.FileLists.{IsOfFile, plain}
 use Rattle.globtree.specs.Answers.{AreFronts, IsOfSomeFile}
 
@@ -27,6 +26,6 @@ plain_same [] = refl
 plain_same (entry ∷ entries) = ap (λ more. entry ∷ more) (plain_same entries)
 
 -- the list of a file has what some bytes spell
-pub file_spells : (name : List ℕ) (list : EntryList (Unit {0})) → IsOfFile (λ bytes _. ignore_as Git bytes) name list → IsOfSomeFile list
+pub file_spells : (name : List ℕ) (list : EntryList (Unit {0})) → IsOfFile (λ bytes _. git_entries_of bytes) name list → IsOfSomeFile list
 file_spells name list (inl none) = (name, record { bytes = []; spelled = ap (map plain) none; named = inl none })
 file_spells name list (inr (bytes, loaded)) = (name, record { bytes = bytes; spelled = plain_same list.entries ∙ loaded.means; named = inr loaded.named })

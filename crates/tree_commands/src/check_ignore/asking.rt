@@ -27,7 +27,7 @@ use crate::check_ignore::running::IgnoreSources;
 use crate::check_ignore::unlinked::UnlinkedFolders;
 use gix_glob::search::pattern;
 use gix_glob::search::pattern::Mapping;
-use glob_lines::IgnoreLines;
+use glob_lines::GitIgnoreLines;
 use glob_lists::plain_path;
 use glob_trees::FolderLists;
 use pathspecs::{Pathspec, is_path};
@@ -57,7 +57,7 @@ impl AskedQuestion for Brand {
 
 /// What answers each told path by the tree. Its type names what is asked: so a run keeps the question, whatever it does to the answerer.
 #[derive(Drop)]
-pub(crate) struct IgnoreAsker<'a, S: FolderLists<IgnoreLines>, K: PathKinds, Q: AskedQuestion> {
+pub(crate) struct IgnoreAsker<'a, S: FolderLists<GitIgnoreLines>, K: PathKinds, Q: AskedQuestion> {
     alloc: Global,
     standpoint: &'a Standpoint,
     flags: IgnoreFlags,
@@ -74,7 +74,7 @@ pub(crate) struct IgnoreAsker<'a, S: FolderLists<IgnoreLines>, K: PathKinds, Q: 
 
 impl<
     'a,
-    S: FolderLists<IgnoreLines> + Drop,
+    S: FolderLists<GitIgnoreLines> + Drop,
     K: PathKinds<Fault = S::Fault> + Drop,
     Q: AskedQuestion,
 > PathAnswerer for IgnoreAsker<'a, S, K, Q> {
@@ -103,7 +103,7 @@ impl<
 
 impl<
     'a,
-    S: FolderLists<IgnoreLines> + Drop,
+    S: FolderLists<GitIgnoreLines> + Drop,
     K: PathKinds<Fault = S::Fault> + Drop,
     Q: AskedQuestion,
 > IgnoreAsker<'a, S, K, Q> {
@@ -393,7 +393,10 @@ impl<
 }
 
 /// The line of a mapping of a list.
-fn line_of<'t>(list: &'t pattern::List<IgnoreLines>, mapping: &'t Mapping<()>) -> DecidingLine<'t>
+fn line_of<'t>(
+    list: &'t pattern::List<GitIgnoreLines>,
+    mapping: &'t Mapping<()>,
+) -> DecidingLine<'t>
     ensures { result ≡ line_of (entry_list_of (λ _. tt) list.entry.now) (entry_of (λ _. tt) mapping.entry.now) }
 {
     DecidingLine {
@@ -404,7 +407,7 @@ fn line_of<'t>(list: &'t pattern::List<IgnoreLines>, mapping: &'t Mapping<()>) -
 }
 
 /// The name of a list's file; no bytes where it has none.
-fn source_of(list: &pattern::List<IgnoreLines>) -> &[u8]
+fn source_of(list: &pattern::List<GitIgnoreLines>) -> &[u8]
     ensures { result.now ≡ unwrap_or (option_map string_bytes list.entry.now.source) [] }
 {
     match &list.source {

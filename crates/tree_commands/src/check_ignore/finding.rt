@@ -14,20 +14,20 @@ use crate::check_ignore::unlinked::UnlinkedFolders;
 use bitflags::Flags as _;
 use gix_glob::Pattern;
 use gix_glob::pattern::Mode;
-use glob_lines::IgnoreLines;
+use glob_lines::GitIgnoreLines;
 use glob_lists::RepositoryPath;
 use glob_trees::{FolderLists, Tree};
 
 /// What finds the pattern that decides about a path.
 #[derive(Drop)]
-pub(crate) struct Finder<S: FolderLists<IgnoreLines>, K> {
-    pub(crate) tree: Tree<IgnoreLines, S>,
+pub(crate) struct Finder<S: FolderLists<GitIgnoreLines>, K> {
+    pub(crate) tree: Tree<GitIgnoreLines, S>,
     pub(crate) kinds: K,
     /// Folders that weren't entered, and are no links nor below one.
     pub(crate) unlinked: UnlinkedFolders,
 }
 
-impl<S: FolderLists<IgnoreLines> + Drop, K: PathKinds<Fault = S::Fault>> Finder<S, K> {
+impl<S: FolderLists<GitIgnoreLines> + Drop, K: PathKinds<Fault = S::Fault>> Finder<S, K> {
     /// Which pattern decides about a path, which may have a slash at its end; `bare` is the path without it. The source of kinds is asked
     /// whether a folder stands there where the answer depends on it.
     #[tactic(auto, using(crate::proofs::lemmas::FindingLemmas::found_without))]
@@ -141,8 +141,8 @@ impl<S: FolderLists<IgnoreLines> + Drop, K: PathKinds<Fault = S::Fault>> Finder<
 }
 
 /// Which pattern of a tree's lists decides about the top.
-fn deciding_in<S: FolderLists<IgnoreLines> + Drop>(
-    tree: &Tree<IgnoreLines, S>,
+fn deciding_in<S: FolderLists<GitIgnoreLines> + Drop>(
+    tree: &Tree<GitIgnoreLines, S>,
 ) -> Option<(usize, usize)>
     ensures { DecidesForTop (lists_of tree.now) tree.now.rules result }
 {
@@ -150,8 +150,8 @@ fn deciding_in<S: FolderLists<IgnoreLines> + Drop>(
 }
 
 /// Which pattern decides about a path of this kind.
-fn find_as<S: FolderLists<IgnoreLines> + Drop>(
-    tree: &mut Tree<IgnoreLines, S>,
+fn find_as<S: FolderLists<GitIgnoreLines> + Drop>(
+    tree: &mut Tree<GitIgnoreLines, S>,
     path: &RepositoryPath<'_>,
 ) -> Result<Option<(usize, usize)>, IgnoreFault<S::Fault>>
     ensures found { IfOk result (IsFoundAs (S.shows (Unit {0})) tree.new path.now.bytes path.now.is_dir) }
@@ -166,8 +166,8 @@ fn find_as<S: FolderLists<IgnoreLines> + Drop>(
 
 /// Whether the pattern at a pair of places matches folders alone. Where it doesn't, it decides about a file, too.
 #[tactic(auto, using(crate::proofs::lemmas::FindingLemmas::wanted_here, crate::proofs::lemmas::FindingLemmas::unwanted_nowhere))]
-fn wants_folder<S: FolderLists<IgnoreLines> + Drop>(
-    tree: &Tree<IgnoreLines, S>,
+fn wants_folder<S: FolderLists<GitIgnoreLines> + Drop>(
+    tree: &Tree<GitIgnoreLines, S>,
     pair: Option<(usize, usize)>,
 ) -> bool
     ensures { IsTrue result ↔ WantsFolder tree.now.lists pair }

@@ -21,7 +21,7 @@ use crate::check_ignore::flags::IgnoreFlags;
 use crate::check_ignore::kinds::PathKinds;
 use crate::check_ignore::unlinked::UnlinkedFolders;
 use gix_glob::search::Watched;
-use glob_lines::IgnoreLines;
+use glob_lines::GitIgnoreLines;
 use glob_trees::{FolderLists, Tree};
 use record_streams::RecordFault;
 use std::alloc::Global;
@@ -32,9 +32,9 @@ use tracked_paths::TrackedPaths;
 
 /// Where answers come from.
 #[derive(Drop)]
-pub struct IgnoreSources<S: FolderLists<IgnoreLines>, K> {
+pub struct IgnoreSources<S: FolderLists<GitIgnoreLines>, K> {
     /// The work tree, with the lists of its folders and those before them.
-    pub tree: Tree<IgnoreLines, S>,
+    pub tree: Tree<GitIgnoreLines, S>,
     /// What stands at paths.
     pub kinds: K,
     /// The paths that the index tracks.
@@ -56,7 +56,7 @@ pub struct IgnoreSources<S: FolderLists<IgnoreLines>, K> {
 /// Those of `RecordStream::run`; its [`RecordFault::Answer`] has why a record got no answer. All records before it have their text
 /// written, and nothing else is.
 pub fn run_check_ignore<
-    S: FolderLists<IgnoreLines> + Drop,
+    S: FolderLists<GitIgnoreLines> + Drop,
     K: PathKinds<Fault = S::Fault> + Drop,
     R: Read,
     W: Write,
@@ -86,7 +86,7 @@ pub fn run_check_ignore<
 
 /// The same, by a question that a type names.
 fn run_question<
-    S: FolderLists<IgnoreLines> + Drop,
+    S: FolderLists<GitIgnoreLines> + Drop,
     K: PathKinds<Fault = S::Fault> + Drop,
     R: Read,
     W: Write,
@@ -125,7 +125,7 @@ fn run_question<
 /// [`RecordFault::Answer`] of the fault of the first path that got no answer, and [`RecordFault::Write`] where a write or a flush failed:
 /// then what was written may end anywhere in the text.
 pub fn check_ignore_paths<
-    S: FolderLists<IgnoreLines> + Drop,
+    S: FolderLists<GitIgnoreLines> + Drop,
     K: PathKinds<Fault = S::Fault> + Drop,
     W: Write,
 >(
@@ -160,7 +160,7 @@ pub fn check_ignore_paths<
 
 /// The same, by a question that a type names.
 fn check_paths<
-    S: FolderLists<IgnoreLines> + Drop,
+    S: FolderLists<GitIgnoreLines> + Drop,
     K: PathKinds<Fault = S::Fault> + Drop,
     W: Write,
     Q: AskedQuestion,

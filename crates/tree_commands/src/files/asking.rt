@@ -7,7 +7,7 @@ ghost use Rattle.tree_commands.specs.Private.Listing.{seen_list};
 
 use crate::files::source::{EntryKind, FileSource, FolderNames};
 use gix_glob::search::pattern::List;
-use glob_lines::IgnoreLines;
+use glob_lines::GitIgnoreLines;
 use glob_trees::TreeFault;
 
 /// What is found in a folder.
@@ -53,7 +53,7 @@ pub(crate) fn kind_at<S: FileSource>(
 pub(crate) fn list_of<S: FileSource>(
     source: &mut S,
     folder: &[u8],
-) -> Result<List<IgnoreLines>, TreeFault<S::Fault>>
+) -> Result<List<GitIgnoreLines>, TreeFault<S::Fault>>
     ensures found { IfOk result (λ list. (tree : FileTree) → S.shows source.old tree → seen_list list ≡ tree.list folder.now) }
     ensures based { IfOk result (λ list. option_map vec_items list.base ≡ base_of_folder folder.now) }
     ensures stays { StaysKnown S.shows source.old source.new }

@@ -17,7 +17,7 @@ use crate::files::names::first_name;
 use crate::files::source::{EntryKind, FileSource};
 use crate::files::terms::{Terms, is_hidden, leaves_out};
 use gix_glob::pattern::Case;
-use glob_lines::IgnoreLines;
+use glob_lines::GitIgnoreLines;
 use glob_lists::PreparedList;
 use glob_trees::TreeFault;
 use memchr::memchr;
@@ -26,7 +26,7 @@ use std::alloc::{AllocError, Global};
 /// The lists that decide about the entries of a folder: those before all folders, and those of the folders on the way to it, with patterns.
 #[derive(Drop)]
 pub(crate) struct ListsOnWay<'a> {
-    pub(crate) lists: Vec<PreparedList<IgnoreLines>>,
+    pub(crate) lists: Vec<PreparedList<GitIgnoreLines>>,
     pub(crate) terms: Terms<'a>,
 }
 

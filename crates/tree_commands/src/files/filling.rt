@@ -21,7 +21,7 @@ use crate::files::pending::Pending;
 use crate::files::source::FileSource;
 use crate::files::start::ends_in_slash;
 use crate::files::terms::{Terms, asks_filled, replaces_filled, wants_ignored};
-use glob_lines::IgnoreLines;
+use glob_lines::GitIgnoreLines;
 use glob_lists::PreparedList;
 use std::alloc::AllocError;
 use std::mem;
@@ -189,7 +189,7 @@ impl<'a> Lister<'a> {
     }
 
     /// The lists alone.
-    fn into_lists(self) -> Vec<PreparedList<IgnoreLines>>
+    fn into_lists(self) -> Vec<PreparedList<GitIgnoreLines>>
         ensures { result.items ≡ self.entry.on_way.lists.items }
     {
         self.on_way.lists

@@ -16,7 +16,7 @@ use crate::files::pending::{Pending, put_in_order};
 use crate::files::source::{FileSource, FolderNames};
 use crate::files::terms::{Terms, asks_filled, is_named, tells_empty, wants_ignored};
 use gix_glob::search::pattern::List;
-use glob_lines::IgnoreLines;
+use glob_lines::GitIgnoreLines;
 use glob_lists::PreparedList;
 use glob_trees::TreeFault;
 use std::alloc::{AllocError, Global};
@@ -34,7 +34,7 @@ impl<'a> Lister<'a> {
     /// Nothing is pending yet.
     pub(crate) fn new(
         alloc: Global,
-        lists: Vec<PreparedList<IgnoreLines>>,
+        lists: Vec<PreparedList<GitIgnoreLines>>,
         terms: Terms<'a>,
     ) -> Lister<'a>
         ensures lists { result.on_way.lists.items ≡ lists.items }
@@ -292,7 +292,7 @@ pub(crate) fn push_own<S: FileSource>(
 fn push_if_any(
     alloc: Global,
     on_way: &mut ListsOnWay<'_>,
-    list: List<IgnoreLines>,
+    list: List<GitIgnoreLines>,
 ) -> Result<(), AllocError>
     ensures adds { OnOk result (seen_lists on_way.new.lists.items ≡ seen_lists on_way.old.lists.items ++ unless_empty (seen_list list)) }
     ensures terms { on_way.new.terms ≡ on_way.old.terms }

@@ -5,7 +5,7 @@ ghost use Rattle.tree_commands.specs.FileTrees.{names_in};
 
 use crate::files::names::first_name;
 use gix_glob::search::pattern::List;
-use glob_lines::IgnoreLines;
+use glob_lines::GitIgnoreLines;
 
 /// What stands at a path.
 #[derive(Debug, Clone, Copy, PartialEq, Eq)]
@@ -93,7 +93,7 @@ pub trait FileSource {
         ensures asks { GivesOnly (λ _. ⊥) (asked self.old) (asked self.new) };
 
     /// The list of a folder's own patterns, with the base of the folder, as [`list_in_folder`](glob_trees::list_in_folder) gives it.
-    fn list_of(&mut self, folder: &[u8]) -> Result<List<IgnoreLines>, Self::Fault>
+    fn list_of(&mut self, folder: &[u8]) -> Result<List<GitIgnoreLines>, Self::Fault>
         ensures found { IfOk result (λ list. (tree : FileTree) → shows self.old tree → entry_list_of {V = Unit {0}} (λ _. tt) list ≡ tree.list folder.now) }
         ensures based { IfOk result (λ list. option_map vec_items list.base ≡ base_of_folder folder.now) }
         ensures stays { StaysKnown shows self.old self.new }
