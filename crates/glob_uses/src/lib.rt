@@ -13,12 +13,14 @@ ghost use Rattle.gix_glob.specs.Patterns.{HasReading, Reads};
 ghost use Rattle.glob_lines.specs.Ignore.{Ignore};
 
 mod own_parser;
+#[cfg(test)]
+mod surface;
 
 use gix_glob::laws::line_has_one_reading;
 use gix_glob::pattern::{Case, PatternView};
 use gix_glob::search::pattern::List;
 use glob_lines::{IgnoreLines, bases_are_folders, decide, laws, plain_path};
-use glob_lists::{Reading, RepositoryPath, Rules};
+use glob_lists::{RepositoryPath, Rules};
 pub use own_parser::{Whole, whole_entries_are_these};
 use std::alloc::{AllocError, Global};
 
@@ -43,10 +45,7 @@ pub fn rules(alloc: Global, file: &[u8], name: &str) -> Result<List<IgnoreLines>
     ensures { IfOk result (λ list. Ignore file.now (map (entry_of (λ _. tt)) list.patterns.items)) }
 {
     let name = String::from_str(alloc, name)?;
-    let parser = IgnoreLines {
-        reading: Reading::Crate,
-    };
-    let list = List::from_bytes(alloc, file, name, None, parser)?;
+    let list = List::from_bytes(alloc, file, name, None, IgnoreLines)?;
     // a law does nothing: it is called for what it ensures
     laws::ignore_entries_are_these();
     Ok(list)

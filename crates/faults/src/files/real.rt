@@ -149,7 +149,8 @@ fn lines_of_a_file_are_numbered(rt: HostRuntime) -> Result<(), Fail> {
     };
     let are_numbered = first.sequence_number == 1 && third.sequence_number == 3;
     same(&rt, are_numbered, "the numbers", 0);
-    let are_read = first.pattern.text() == b"*.rs" && third.pattern.text() == b"src";
+    let are_read = first.pattern.text() == b"*.rs".as_slice()
+        && third.pattern.text() == b"src".as_slice();
     same(&rt, are_read, "the texts", 0);
     Ok(())
 }
