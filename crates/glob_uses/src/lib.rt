@@ -9,7 +9,9 @@ ghost use Rattle.glob_lists.specs.Deciding.{AnswersFor, BasesAreFolders, Decides
 ghost use Rattle.gix_glob.specs.Entries.{Entry, entry_of};
 ghost use Rattle.gix_glob.specs.EntryLists.{entry_list_of};
 ghost use Rattle.glob_lists.specs.Paths.{IsPlainPath};
+ghost use Rattle.gix_glob.specs.Matching.{Splits};
 ghost use Rattle.gix_glob.specs.Patterns.{HasReading, Reads};
+ghost use Rattle.gix_glob.specs.Steps.{IsBlankOf};
 ghost use Rattle.glob_lines.specs.Ignore.{Ignore};
 
 mod own_parser;
@@ -19,10 +21,13 @@ mod surface;
 use gix_glob::laws::line_has_one_reading;
 use gix_glob::pattern::{Case, PatternView};
 use gix_glob::search::pattern::List;
+use gix_glob::wildmatch::{Mode, Steps, marked};
 use glob_lines::{IgnoreLines, bases_are_folders, decide, laws, plain_path};
 use glob_lists::{RepositoryPath, Rules};
 pub use own_parser::{Whole, whole_entries_are_these};
 use std::alloc::{AllocError, Global};
+use std::marker::Brand;
+use std::sync::ledger::{Blank, Ledger};
 
 /// Whether a pattern line matches the path of a file. It takes no memory.
 pub fn matches_line(line: &[u8], path: &[u8]) -> bool
@@ -66,9 +71,26 @@ pub fn last_rule(lists: &[List<IgnoreLines>], path: &[u8], is_dir: bool) -> Opti
     decide(lists, path, is_dir, Case::Sensitive)
 }
 
+/// Whether a pattern matches a value. Its steps are counted in the ledger that the blank becomes.
+fn matches_in_steps<L: Ledger>(pattern: &[u8], value: &[u8], mode: Mode, blank: Blank) -> bool
+    requires { IsBlankOf L.name L.parts blank }
+    ensures { IsTrue result ↔ Splits value.now pattern.now mode }
+{
+    let mut steps: Steps<L> = Steps::new(blank);
+    marked(pattern, value, mode, &mut steps)
+}
+
+/// Whether a pattern matches a value, as a caller asks who has no ledger of its own.
+pub fn matches_counted(pattern: &[u8], value: &[u8], mode: Mode) -> bool
+    ensures { IsTrue result ↔ Splits value.now pattern.now mode }
+{
+    matches_in_steps::<Brand>(pattern, value, mode, Blank::new(2))
+}
+
 #[cfg(test)]
 mod tests {
     use super::*;
+    use bitflags::Flags;
     use gix_glob::search::Pattern as _;
 
     #[test]
@@ -76,6 +98,8 @@ mod tests {
         assert!(rt; matches_line(b"*.rs", b"src/lib.rs"));
         assert!(rt; !matches_line(b"/*.rs", b"src/lib.rs"));
         assert!(rt; !matches_line(b"", b"x"));
+        assert!(rt; matches_counted(b"*b", b"ab", Mode::empty()));
+        assert!(rt; !matches_counted(b"*b", b"ba", Mode::empty()));
         let Ok(list) = rules(rt.alloc(), b"#c\n*.rs \n!x\r\n", ".gitignore") else {
             return assert!(rt; false, "no memory");
         };
