@@ -3,21 +3,24 @@ ghost use Rattle.std.specs.Prelude.{◌≡◌, ◌↔◌, ℕ, List, Option, map
 ghost use Rattle.gix_glob.specs.declared.pattern.Case.{Case};
 ghost use Rattle.gix_glob.specs.declared.wildmatch.Mode.{Mode};
 ghost use Rattle.gix_glob.specs.EntryLists.{EntryList};
+ghost use Rattle.glob_lines.specs.declared.ignore.GitIgnoreLines.{GitIgnoreLines};
+ghost use Rattle.glob_lines.specs.declared.ignore.IgnoreLines.{IgnoreLines};
+ghost use Rattle.glob_lines.specs.declared.label.LabelLines.{LabelLines};
+ghost use Rattle.glob_lines.specs.declared.plain.PlainLines.{PlainLines};
 ghost use Rattle.glob_lines.specs.Decisions.{DecisionsText};
 ghost use Rattle.glob_lines.specs.GitLines.{BeginsWithGitLine, GitEntries};
-ghost use Rattle.glob_lines.specs.Equations.GitLines.{git_entries_of};
 ghost use Rattle.glob_lines.specs.Ignore.{BeginsWithLine, Ignore};
-ghost use Rattle.glob_lines.specs.Equations.Ignore.{ignore_of};
 ghost use Rattle.glob_lines.specs.Label.{Label, LabelEntry, tab};
-ghost use Rattle.glob_lines.specs.Equations.Label.{label_of};
 ghost use Rattle.glob_lines.specs.Laws.Label.{entry_with_empty_label};
 ghost use Rattle.glob_lines.specs.Lines.{EndsInFeed, HasNo, Lines};
 ghost use Rattle.glob_lines.specs.Equations.Lines.{lines_of};
 ghost use Rattle.glob_lines.specs.Mappings.{MappingsText, PatternsAndPaths};
 ghost use Rattle.glob_lines.specs.Plain.{Plain, PlainEntry};
-ghost use Rattle.glob_lines.specs.Equations.Plain.{plain_of};
 ghost use Rattle.glob_lines.specs.Values.{ValuesText};
 
+use crate::ignore::{GitIgnoreLines, IgnoreLines};
+use crate::label::LabelLines;
+use crate::plain::PlainLines;
 use gix_glob::laws::{git_readings_are_these, readings_are_these};
 use gix_glob::search;
 use glob_lists::laws::decides_one_pair;
@@ -35,16 +38,18 @@ pub fn bytes_begin_with_one_line()
         → BeginsWithLine bytes text rest → BeginsWithLine bytes other left → (text ≡ other) × (rest ≡ left) }
 {}
 
-/// Bytes have one list of plain entries, which the equations of `plain_of` give.
+/// Bytes have one list of plain entries, which is what [`PlainLines`] means by them.
 pub fn plain_entries_are_these()
-    ensures { (bytes : List ℕ) (entries : List PlainEntry) → Plain bytes entries ↔ (entries ≡ plain_of bytes) }
+    ensures { (parser : PlainLines) (source bytes : List ℕ) (entries : List PlainEntry)
+        → Plain bytes entries ↔ (entries ≡ ⟦<PlainLines as search::Pattern>⟧.meaning parser bytes source) }
 {
     readings_are_these();
 }
 
-/// Bytes have one list of ignore entries, which the equations of `ignore_of` give.
+/// Bytes have one list of ignore entries, which is what [`IgnoreLines`] means by them.
 pub fn ignore_entries_are_these()
-    ensures { (bytes : List ℕ) (entries : List PlainEntry) → Ignore bytes entries ↔ (entries ≡ ignore_of bytes) }
+    ensures { (parser : IgnoreLines) (source bytes : List ℕ) (entries : List PlainEntry)
+        → Ignore bytes entries ↔ (entries ≡ ⟦<IgnoreLines as search::Pattern>⟧.meaning parser bytes source) }
 {
     readings_are_these();
 }
@@ -55,16 +60,18 @@ pub fn bytes_begin_with_one_git_line()
         → BeginsWithGitLine bytes text rest → BeginsWithGitLine bytes other left → (text ≡ other) × (rest ≡ left) }
 {}
 
-/// As Git reads them, bytes have one list of ignore entries, which the equations of `git_entries_of` give.
+/// As Git reads them, bytes have one list of ignore entries, which is what [`GitIgnoreLines`] means by them.
 pub fn git_entries_are_these()
-    ensures { (bytes : List ℕ) (entries : List PlainEntry) → GitEntries bytes entries ↔ (entries ≡ git_entries_of bytes) }
+    ensures { (parser : GitIgnoreLines) (source bytes : List ℕ) (entries : List PlainEntry)
+        → GitEntries bytes entries ↔ (entries ≡ ⟦<GitIgnoreLines as search::Pattern>⟧.meaning parser bytes source) }
 {
     git_readings_are_these();
 }
 
-/// Bytes have one list of labelled entries, which the equations of `label_of` give.
+/// Bytes have one list of labelled entries, which is what [`LabelLines`] means by them.
 pub fn label_entries_are_these()
-    ensures { (bytes : List ℕ) (entries : List LabelEntry) → Label bytes entries ↔ (entries ≡ label_of bytes) }
+    ensures { (parser : LabelLines) (source bytes : List ℕ) (entries : List LabelEntry)
+        → Label bytes entries ↔ (entries ≡ ⟦<LabelLines as search::Pattern>⟧.meaning parser bytes source) }
 {
     readings_are_these();
 }

@@ -10,5 +10,5 @@ use Rattle.glob_lines.proofs.lemmas.EntriesLemmas.{entries_are_these}
 use Rattle.glob_lines.proofs.laws.git_entries_are_these.Goals as goal
 
 pub returns : goal.returns
-returns c bytes =
+returns c parser source bytes =
     entries_are_these GivesGitText git_content Tells-git_content GitReads git_reading (TellsReadings-git c.git_readings_are_these.ensures) EndsInFeed lines_of TellsLines-lines_of (without_mark bytes)

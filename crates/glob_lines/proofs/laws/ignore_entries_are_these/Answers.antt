@@ -8,5 +8,5 @@ use Rattle.glob_lines.proofs.lemmas.EntriesLemmas.{TellsReadings-line, entries_a
 use Rattle.glob_lines.proofs.laws.ignore_entries_are_these.Goals as goal
 
 pub returns : goal.returns
-returns c bytes =
+returns c parser source bytes =
     entries_are_these GivesTrimmed ignore_content Tells-ignore_content ReadsLine line_reading (TellsReadings-line c.readings_are_these.ensures.some) EndsIgnoreLine (λ bytes. lines_of (without_returns bytes)) TellsLines-ignore (without_mark bytes)

@@ -10,4 +10,4 @@ use Rattle.glob_lines.proofs.lemmas.EntriesLemmas.{TellsReadings-line, entries_a
 use Rattle.glob_lines.proofs.laws.label_entries_are_these.Goals as goal
 
 pub returns : goal.returns
-returns c = entries_are_these GivesLabel label_content Tells-label_content ReadsLine line_reading (TellsReadings-line c.readings_are_these.ensures.some) EndsInFeed lines_of TellsLines-lines_of
+returns c parser source = entries_are_these GivesLabel label_content Tells-label_content ReadsLine line_reading (TellsReadings-line c.readings_are_these.ensures.some) EndsInFeed lines_of TellsLines-lines_of

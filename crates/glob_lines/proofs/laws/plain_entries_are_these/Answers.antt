@@ -10,4 +10,4 @@ use Rattle.glob_lines.proofs.lemmas.PlainLemmas.{Tells-plain_content}
 use Rattle.glob_lines.proofs.laws.plain_entries_are_these.Goals as goal
 
 pub returns : goal.returns
-returns c = entries_are_these GivesItself plain_content Tells-plain_content ReadsLine line_reading (TellsReadings-line c.readings_are_these.ensures.some) EndsInFeed lines_of TellsLines-lines_of
+returns c parser source = entries_are_these GivesItself plain_content Tells-plain_content ReadsLine line_reading (TellsReadings-line c.readings_are_these.ensures.some) EndsInFeed lines_of TellsLines-lines_of

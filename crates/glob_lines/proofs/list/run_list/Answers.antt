@@ -1,5 +1,5 @@
 -- What was read is what the list and its matches were made of.
-use Rattle.std.proofs.Common.{rules}
+use Rattle.std.proofs.Common.{[], rules}
 use Rattle.std.proofs.lemmas.Result.{on_ok_weaker, IfErr-at_err}
 use Rattle.std.specs.Io.KnownBytes.{Appends}
 use Rattle.gix_glob.specs.Watched.{inner}
@@ -10,7 +10,7 @@ use Rattle.glob_lines.proofs.list.run_list.Goals as goal
 pub returns-clause-ok : goal.returns-clause-ok
 returns-clause-ok g c =
     let allowed = mappings_text c.in_ok-pattern_lines.pattern_lines.items c.in_ok-path_lines.path_lines.items c.args.source.now _ _ _ _ c.args.case _ _ c.in_ok-text.text.items
-    c.plain_entries_are_these.ensures c.deref.ensures.value c.deref-2.ensures.value c.in_ok-source.ensures.ok c.in_ok-list.ensures.means c.in_ok-list.ensures.based c.in_ok-text.ensures in
+    (c.plain_entries_are_these.ensures (record {}) []) c.deref.ensures.value c.deref-2.ensures.value c.in_ok-source.ensures.ok c.in_ok-list.ensures.means c.in_ok-list.ensures.based c.in_ok-text.ensures in
     on_ok_weaker c.write_output.result
     (λ (written : Appends (g.W.Write.contents (inner c.args.writer.now)) (g.W.Write.contents (inner c.write_output.new.writer)) c.deref-3.result.now). record {
       input = record { patterns = c.in_ok-pattern_lines.pattern_lines.items; paths = c.in_ok-path_lines.path_lines.items };
@@ -24,7 +24,7 @@ returns-clause-ok g c =
 pub returns-clause-faults : goal.returns-clause-faults
 returns-clause-faults g c =
     let allowed = mappings_text c.in_ok-pattern_lines.pattern_lines.items c.in_ok-path_lines.path_lines.items c.args.source.now _ _ _ _ c.args.case _ _ c.in_ok-text.text.items
-    c.plain_entries_are_these.ensures c.deref.ensures.value c.deref-2.ensures.value c.in_ok-source.ensures.ok c.in_ok-list.ensures.means c.in_ok-list.ensures.based c.in_ok-text.ensures in
+    (c.plain_entries_are_these.ensures (record {}) []) c.deref.ensures.value c.deref-2.ensures.value c.in_ok-source.ensures.ok c.in_ok-list.ensures.means c.in_ok-list.ensures.based c.in_ok-text.ensures in
     record {
       memory = search rules;
       read = search rules;

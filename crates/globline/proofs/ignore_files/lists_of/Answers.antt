@@ -22,7 +22,7 @@ loop-file-preserved g c =
     map_more string_bytes files i c.file-item.result c.loop-file-test.true
     ∙ ap (λ file. map string_bytes (take i files) ++ string_bytes file ∷ []) (sym c.file-item.is) in
     subst (λ texts. AreIgnoreLists (option_copied c.args.root) texts (map (entry_list_of {V = Unit {0}} (λ _. tt)) c.add_patterns_file.new.patterns.items)) (sym one_more)
-    (one_more_file c.ignore_entries_are_these.ensures (λ _. tt) c.in-Ok._is_added c.add_patterns_file.new.buf.items (string_bytes c.file-item.result) (string_bytes c.in_ok-source.source)
+    (one_more_file (c.ignore_entries_are_these.ensures (record {}) []) (λ _. tt) c.in-Ok._is_added c.add_patterns_file.new.buf.items (string_bytes c.file-item.result) (string_bytes c.in_ok-source.source)
     (option_copied c.args.root) (map string_bytes (take i files)) c.loop-file.lists.items c.add_patterns_file.new.patterns.items
     (c.in_ok-source.ensures.ok ∙ c.as_str.ensures.value) c.loop-file.invariant c.in-Ok.ensures.answer)
 
