@@ -3,9 +3,13 @@
 use crate::answer::{Answer, one, told};
 use crate::row::Row;
 use anyhow::{Result, bail};
-use gix_glob::search::has_file_part;
+use gix_glob::pattern::Case;
 use gix_glob::search::pattern::List;
-use glob_attributes::{AttributeLines, AttributeNames, MacroTable, is_name, keep_named};
+use gix_glob::search::{Pattern as _, has_file_part};
+use glob_attributes::{
+    Assignment, AttributeLines, AttributeNames, MacroTable, is_name, keep_named,
+};
+use glob_lists::{RepositoryPath, Rules};
 use std::alloc::{AllocError, Global};
 
 /// Whether an attribute can have a name.
@@ -63,4 +67,28 @@ fn list_kept(alloc: Global, file: &[u8], names: &[&[u8]]) -> Result<List<Attribu
     let mut list = List::from_bytes(alloc, file, source, None, AttributeLines::default())?;
     keep_named(&mut list, names, &macros);
     Ok(list)
+}
+
+/// The names that the lines of a file assign which match a folder's path, which keeps its slash: each behind a space.
+pub(crate) fn attribute_folders(alloc: Global, row: &Row) -> Result<Answer> {
+    let Some(path) = RepositoryPath::new(row.bytes(1), true) else {
+        bail!("no path");
+    };
+    let mappings = AttributeLines::default().bytes_to_patterns(alloc, row.bytes(0), "")?;
+    let mut text = Vec::new(alloc);
+    for mapping in &mappings {
+        if path.is_matched_by(mapping.pattern.view(), Rules::by_crate(Case::Sensitive)) {
+            push_names(&mut text, &mapping.value)?;
+        }
+    }
+    Ok(one(alloc, Some(text))?)
+}
+
+/// Adds the names that are assigned a state.
+fn push_names(text: &mut Vec<u8>, assignments: &[Assignment<Vec<u8>>]) -> Result<(), AllocError> {
+    for assignment in assignments {
+        text.push(b' ')?;
+        text.extend_from_slice(&assignment.name)?;
+    }
+    Ok(())
 }

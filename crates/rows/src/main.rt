@@ -23,7 +23,7 @@ use std::process::ExitCode;
 use std::rt::Files;
 
 /// The subjects of the rows that are asked, each of which has a file.
-const SUBJECTS: [&str; 37] = [
+const SUBJECTS: [&str; 38] = [
     "matching",
     "starts",
     "attempts",
@@ -51,6 +51,7 @@ const SUBJECTS: [&str; 37] = [
     "folders",
     "pathspecs",
     "attribute_names",
+    "attribute_folders",
     "attributes_kept",
     "names_read",
     "records",
@@ -93,6 +94,7 @@ fn ask(alloc: Global, subject: &str, row: &Row) -> Result<Answer> {
         "labels" => lines::labels(alloc, row),
         "pathspecs" => others::spelt_words(alloc, row),
         "attribute_names" => attributes::attribute_names(alloc, row),
+        "attribute_folders" => attributes::attribute_folders(alloc, row),
         "attributes_kept" => attributes::attributes_kept(alloc, row),
         "names_read" => attributes::names_read(alloc, row),
         "records" => others::records(alloc, row),
