@@ -87,7 +87,7 @@ def batches(edits):
     return lists
 
 
-def name_of(function, crate, names):
+def name_of(function, names):
     """Returns the name by which a check calls the function, if there is no doubt."""
     found = [it.split("::") for it in names if it.endswith(f"::{function.name}")]
     if function.in_trait:
