@@ -9,14 +9,17 @@ UNPROVED = re.compile(r"(?:fn|struct|enum|impl|trait) (\S+): (?:no proof: .*|not
 GOAL = re.compile(r"note: (\S+:\d+:\d+: it is not proved that .*)")
 # An answer to a goal: its file, the goal's name, and what is wrong about it.
 ANSWER = re.compile(r"^\./(proofs/\S+/Answers\.antt):\d+:\d+: error: `([^`]+)`: (.*)\n(.*)", re.M)
-# What is wrong about an answer that says nothing of its goal: it names what the edit took away, or has another shape.
-OF_THE_PROOF = re.compile("^expected type|has no field|is not in scope|has no `|was not admitted")
+# What is wrong about an answer that says nothing of its goal: it names what the edit took away.
+OF_NAMES = re.compile("has no field|is not in scope|has no `|was not admitted")
+# What an answer shows in place of its goal. It may be the same of another value; of another shape, it says nothing of the goal.
+OTHER_TYPE = re.compile(r"expected type `(.*)`, but this has type `(.*)`$|expected type ")
+VALUE = re.compile(r"[\w.'-]+")
 
 
 def refusals(crate, said):
     """Returns, for each item that isn't proved, the first clause of its own that the check names as not met."""
     found, goals = {}, []
-    answers = [it for it in ANSWER.finditer(said) if not OF_THE_PROOF.search(it[3] + it[4]) and is_goal(crate, it[1], it[2])]
+    answers = [it for it in ANSWER.finditer(said) if is_of_the_goal(it[3], it[4]) and is_goal(crate, it[1], it[2])]
     for line in said.split("\n"):
         goals += [it[1] for it in [GOAL.match(line)] if it]
         if not re.match(r"(fn|struct|enum|impl|trait) \S+: ", line):
@@ -27,6 +30,12 @@ def refusals(crate, said):
             found[item[1]] = own[0][:200]
         goals = []
     return found
+
+
+def is_of_the_goal(wrong, more):
+    """Says whether an answer is refused for what it shows."""
+    other = OTHER_TYPE.match(wrong)
+    return not OF_NAMES.search(wrong + more) and (not other or other[1] and VALUE.sub("_", other[1]) == VALUE.sub("_", other[2]))
 
 
 def is_goal(crate, file, name):
