@@ -17,8 +17,12 @@ use std::hash::Hash;
 use std::io::{self, Read, Write};
 use std::test::Fail;
 
-/// Each of these types has these traits.
+/// The functions from here on are called with each type that has to have their traits.
 fn is_flag_set<T: Flags + Debug + PartialEq + Eq + Copy + Clone>() {}
+
+fn has_default<T: Copy + Clone + Default>() {}
+
+fn is_answer<T: Debug + PartialEq + Eq>() {}
 
 fn is_compared<T: Debug + PartialEq + Eq + PartialOrd + Ord + Hash>() {}
 
@@ -40,6 +44,9 @@ fn has_parents<T: search::Pattern>() {
 fn traits() {
     is_flag_set::<wildmatch::Mode>();
     is_flag_set::<pattern::Mode>();
+    has_default::<wildmatch::Mode>();
+    has_default::<Case>();
+    is_answer::<Answer>();
     is_compared::<pattern::Mode>();
     is_compared::<Case>();
     is_compared::<Pattern>();
@@ -87,6 +94,13 @@ fn matching(rt: HostRuntime) {
     assert!(rt; is_start);
     let answer: Answer = wildmatch::attempt(pattern, from, value, at, mode, depth);
     assert!(rt; answer == Answer::Match);
+    let others = [
+        Answer::NoMatch,
+        Answer::AbortAll,
+        Answer::AbortToStarStar,
+        Answer::RecursionLimitReached,
+    ];
+    assert!(rt; !others.contains(&answer));
 }
 
 #[test]
