@@ -64,7 +64,7 @@ const SUBJECTS: [&str; 38] = [
     "ignore_runs",
 ];
 
-/// What the libraries answer to a row of a subject.
+/// What the libraries answer to a row of a subject. (The proof of a long `match` costs more than those of its parts.)
 fn ask(alloc: Global, subject: &str, row: &Row) -> Result<Answer> {
     match subject {
         "matching" => matching::matching(alloc, row),
@@ -80,6 +80,13 @@ fn ask(alloc: Global, subject: &str, row: &Row) -> Result<Answer> {
         "basenames" => patterns::basenames(alloc, row),
         "repository_paths" => patterns::repository_paths(alloc, row),
         "git_paths" => patterns::git_paths(alloc, row),
+        _ => ask_lists(alloc, subject, row),
+    }
+}
+
+/// The same of lines, lists and what follows.
+fn ask_lists(alloc: Global, subject: &str, row: &Row) -> Result<Answer> {
+    match subject {
         "file_parts" => lists::file_parts(alloc, row),
         "bases" => lists::bases(alloc, row),
         "stripping" => lists::stripping(alloc, row),
@@ -92,6 +99,13 @@ fn ask(alloc: Global, subject: &str, row: &Row) -> Result<Answer> {
         "git_lines" => lines::line(alloc, next_git_line(row.bytes(0))),
         "marks" => lines::marks(alloc, row),
         "labels" => lines::labels(alloc, row),
+        _ => ask_files(alloc, subject, row),
+    }
+}
+
+/// The same of attributes, records, the index, configuration and trees.
+fn ask_files(alloc: Global, subject: &str, row: &Row) -> Result<Answer> {
+    match subject {
         "pathspecs" => others::spelt_words(alloc, row),
         "attribute_names" => attributes::attribute_names(alloc, row),
         "attribute_folders" => attributes::attribute_folders(alloc, row),

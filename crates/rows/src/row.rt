@@ -36,10 +36,7 @@ impl Row {
 
     /// The bytes of a field, where there are some.
     pub(crate) fn option(&self, place: usize) -> Option<&[u8]> {
-        match self.fields.get(place) {
-            Some(Some(bytes)) => Some(bytes.as_slice()),
-            _ => None,
-        }
+        self.fields.get(place)?.as_deref()
     }
 
     /// The bytes of a field; none where there is no such field.
