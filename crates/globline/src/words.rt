@@ -47,16 +47,13 @@ pub fn run_words<F: Files, I: Read, O: Write, E: Write>(
     requires readable { has_failed input.old ≡ false }
     requires writable { has_failed output.old ≡ false }
     ensures status { result ≤ 2 }
-    // The words were understood, and the lines were answered, all of them.
     ensures answered { result ≡ 0 → AnswersWords (map string_bytes words.now)
         (I.remaining (inner input.old)) (I.remaining (inner input.new)) (Appends (O.contents (inner output.old)) (O.contents (inner output.new))) }
-    // Nothing was written, or a beginning of the lines' answers.
     ensures fault { result ≡ 1 → (output.new ≡ output.old) ⊎ AnswersWords (map string_bytes words.now)
         (I.remaining (inner input.old)) (I.remaining (inner input.new)) (AppendsFront (O.contents (inner output.old)) (O.contents (inner output.new))) }
     ensures wrong { (result ≡ 2) ↔ AreWrong (map string_bytes words.now) }
     ensures unread { result ≡ 2 → input.new ≡ input.old }
     ensures unwritten { result ≡ 2 → output.new ≡ output.old }
-    // The usage text was told, or a beginning of it.
     ensures told { result ≡ 2 → AppendsFront (E.contents errors.old) (E.contents errors.new) usage }
 {
     let Some(command) = command_of(words) else {
