@@ -141,7 +141,7 @@ fn lines_of_a_file_are_numbered(rt: HostRuntime) -> Result<(), Fail> {
     let path = path_of(&rt, "lines")?;
     fs::write(&rt, path.as_str(), "*.rs\n\nsrc/\n")?;
     let (source, mut buf) = (path.clone()?, Vec::new(rt.alloc()));
-    let answer = List::from_file(&rt, rt.alloc(), source, Some(""), &mut buf, PlainLines);
+    let answer = List::from_file(&rt, rt.alloc(), source, None, &mut buf, PlainLines);
     fs::remove_file(&rt, path.as_str())?;
     let list = answer?.ok_or("no list")?;
     let [first, third] = list.patterns.as_slice() else {
