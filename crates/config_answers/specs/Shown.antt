@@ -2,8 +2,8 @@
 use Rattle.std.specs.Prelude.{ℕ, Bool, if◌then◌else◌, List, [], ◌∷◌, ◌++◌, codes, Option, Some, None}
 use Rattle.std.specs.Str.{byte}
 use Rattle.git_config.specs.Configuration.{Seen, key_of}
-use Rattle.told_paths.specs.declared.quoting.Quoting.TheVariants.{Full}
-use Rattle.told_paths.specs.Quoting.{quoted}
+use Rattle.git_paths.specs.declared.quoting.Quoting.TheVariants.{Full}
+use Rattle.git_paths.specs.Quoting.{quoted}
 use Rattle.config_answers.specs.declared.origin.Manner.{Manner}
 
 -- what it was read from: a file, whose name is in quotes where that is usual; or a word of the command line or of the environment

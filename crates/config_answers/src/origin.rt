@@ -2,13 +2,13 @@
 ghost use Rattle.std.specs.Prelude.{◌≡◌, ◌++◌, OnOk, if◌then◌else◌};
 ghost use Rattle.git_config.specs.Configuration.{seen_setting};
 ghost use Rattle.std.specs.Option.{option_copied};
-ghost use Rattle.told_paths.specs.declared.quoting.Quoting.TheVariants.{Full};
-ghost use Rattle.told_paths.specs.Quoting.{quoted};
+ghost use Rattle.git_paths.specs.declared.quoting.Quoting.TheVariants.{Full};
+ghost use Rattle.git_paths.specs.Quoting.{quoted};
 ghost use Rattle.config_answers.specs.Shown.{end_of, front_of, origin_of};
 
 use git_config::ReadSetting;
+use git_paths::{Quoting, append_quoted};
 use std::alloc::AllocError;
-use told_paths::{Quoting, append_quoted};
 
 /// How entries are shown.
 #[derive(Debug, Clone, Copy, Drop)]

@@ -17,8 +17,8 @@ use Rattle.glob_lists.specs.Rules.{by_git}
 use Rattle.glob_trees.specs.Ways.{Folder}
 use Rattle.pathspecs.specs.Leading.{word_front, word_leads}
 use Rattle.record_streams.specs.Records.{AnswersAll}
-use Rattle.told_paths.specs.declared.quoting.Quoting.{Quoting}
-use Rattle.told_paths.specs.declared.standpoint.Standpoint.{Standpoint}
+use Rattle.git_paths.specs.declared.quoting.Quoting.{Quoting}
+use Rattle.git_paths.specs.declared.standpoint.Standpoint.{Standpoint}
 use Rattle.tree_answers.specs.Lines.{behind}
 use Rattle.tree_commands.specs.Answering.{TextOfNamed, TextOfPaths, Writes}
 use Rattle.tree_commands.specs.CheckAttr.{IsStatesText, Query, all, named}

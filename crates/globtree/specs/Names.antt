@@ -2,8 +2,8 @@
 use Rattle.std.specs.Prelude.{◌≡◌, ◌⊎◌, ℕ, false, List, Some, codes, option_map}
 use Rattle.std.specs.List.{list_any}
 use Rattle.glob_matcher.specs.Bytes.{is_special}
-use Rattle.told_paths.specs.declared.standpoint.Standpoint.{Standpoint}
-use Rattle.told_paths.specs.Standpoints.{led}
+use Rattle.git_paths.specs.declared.standpoint.Standpoint.{Standpoint}
+use Rattle.git_paths.specs.Standpoints.{led}
 use Rattle.tree_commands.specs.TrackedFiles.{is_signed}
 
 -- the word is that of the current folder; or it has no colon in front, and no byte of the path that it leads to may mean more than itself

@@ -12,9 +12,9 @@ use Rattle.git_config.specs.Numbers.{boolean_of}
 use Rattle.git_repository.specs.GitFolders.{told_from}
 use Rattle.opened_repository.specs.Opening.{is_relative}
 use Rattle.opened_repository.specs.declared.opened.Opened.{Opened}
-use Rattle.told_paths.specs.declared.quoting.Quoting.TheVariants.{Full}
-use Rattle.told_paths.specs.declared.standpoint.Standpoint.{Standpoint}
-use Rattle.told_paths.specs.Paths.{left_below}
+use Rattle.git_paths.specs.declared.quoting.Quoting.TheVariants.{Full}
+use Rattle.git_paths.specs.declared.standpoint.Standpoint.{Standpoint}
+use Rattle.git_paths.specs.Paths.{left_below}
 use Rattle.tree_words.specs.declared.options.Options.{Options}
 use Rattle.globtree.specs.declared.tracked.IndexFile.{IndexFile}
 use Rattle.globtree.specs.declared.work_tree.WorkTree.{WorkTree}

@@ -4,8 +4,8 @@ use Rattle.std.specs.Borrow.{Bor}
 use Rattle.core_settings.specs.declared.untracked.ShowUntracked.{ShowUntracked}
 use Rattle.core_settings.specs.declared.untracked.ShowUntracked.TheVariants as shown
 use Rattle.near_words.specs.Near.{IsNearest, bytes_of}
-use Rattle.told_paths.specs.declared.quoting.Quoting.{Quoting}
-use Rattle.told_paths.specs.declared.quoting.Quoting.TheVariants.{AsciiOnly, Full}
+use Rattle.git_paths.specs.declared.quoting.Quoting.{Quoting}
+use Rattle.git_paths.specs.declared.quoting.Quoting.TheVariants.{AsciiOnly, Full}
 use Rattle.tree_answers.specs.declared.form.Form.{Form}
 use Rattle.tree_answers.specs.declared.form.Form.TheVariants.{Lines, Records}
 use Rattle.tree_commands.specs.declared.check_ignore.flags.IgnoreFlags.{IgnoreFlags}

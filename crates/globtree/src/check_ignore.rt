@@ -10,11 +10,11 @@ use crate::fronts::{Fronts, case_of, fronts_of, tree_behind};
 use crate::index_use::IndexUse;
 use crate::outcomes::{answer_of, status_by};
 use crate::pathspec_settings::{refuse_settings, refuse_settings_for};
+use git_paths::Quoting;
 use gix_glob::search::Watched;
 use std::alloc::{AllocError, Global};
 use std::io::{Read, Write};
 use std::rt::{Env, Files};
-use told_paths::Quoting;
 use tracked_paths::TrackedPaths;
 use tree_answers::Form;
 use tree_commands::check_ignore::{

@@ -12,6 +12,7 @@ use crate::moving::go_to_folders;
 use crate::opening::Purpose;
 use crate::work_tree::{WorkTree, work_tree};
 use git_index::Index;
+use git_paths::{Quoting, Standpoint};
 use gix_glob::pattern::Case;
 use gix_glob::search::pattern::List;
 use glob_lines::GitIgnoreLines;
@@ -19,7 +20,6 @@ use glob_lists::{PreparedList, Rules};
 use glob_trees::Tree;
 use std::alloc::{AllocError, Global};
 use std::rt::{Env, Files};
-use told_paths::{Quoting, Standpoint};
 use tree_files::{CheckFault, FolderFiles, IndexedFiles, path_text};
 use tree_words::Options;
 

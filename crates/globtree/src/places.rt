@@ -2,8 +2,8 @@
 ghost use Rattle.std.specs.Prelude.{◌≡◌, IfOk};
 ghost use Rattle.globtree.specs.Places.{StandsAt, StandsIn, from_root};
 
+use git_paths::{Standpoint, below_folder};
 use std::alloc::{AllocError, Global};
-use told_paths::{Standpoint, below_folder};
 
 /// From the current folder, where it lies in the work tree, and else from the top.
 pub(crate) fn standpoint_in(

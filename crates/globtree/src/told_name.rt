@@ -2,14 +2,14 @@
 ghost use Rattle.std.specs.Prelude.{◌≡◌, IfOk, OnOk, Some};
 ghost use Rattle.std.specs.List.{list_any};
 ghost use Rattle.glob_matcher.specs.Bytes.{is_special};
-ghost use Rattle.told_paths.specs.Standpoints.{led};
+ghost use Rattle.git_paths.specs.Standpoints.{led};
 ghost use Rattle.globtree.specs.Names.{IsName};
 
 use crate::fault::{Fault, Result};
 use crate::pathspec_settings::refuse_settings;
+use git_paths::Standpoint;
 use std::alloc::Global;
 use std::rt::{Env, Files};
-use told_paths::Standpoint;
 use tree_commands::check_ignore::PathKinds;
 use tree_files::{CheckFault, FileKinds, path_text};
 

@@ -16,11 +16,11 @@ use crate::tracked::IndexFile;
 use core_settings::{ShowUntracked, settings_file};
 use git_config::Config;
 use git_index::ObjectFormat;
+use git_paths::{Quoting, Standpoint, below_folder};
 use opened_repository::{Opened, told_from};
 use repository_files::variable;
 use std::alloc::{AllocError, Global};
 use std::rt::{Env, Files};
-use told_paths::{Quoting, Standpoint, below_folder};
 use tree_files::path_text;
 use tree_words::Options;
 

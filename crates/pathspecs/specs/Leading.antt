@@ -2,9 +2,9 @@
 use Rattle.std.specs.Prelude.{ℕ, ◌-◌, ◌==◌, ◌&&◌, Bool, false, not, nat_eq, if◌then◌else◌, List, [], ◌∷◌, length, take, Option, None, Some, codes}
 use Rattle.std.specs.List.{ends_with, list_any}
 use Rattle.std.specs.Option.{option_and_then, option_map_or}
-use Rattle.told_paths.specs.declared.standpoint.Standpoint.{Standpoint}
-use Rattle.told_paths.specs.Paths.{names_folder, parts_of, walk}
-use Rattle.told_paths.specs.Standpoints.{is_absolute, led, literal_front}
+use Rattle.git_paths.specs.declared.standpoint.Standpoint.{Standpoint}
+use Rattle.git_paths.specs.Paths.{names_folder, parts_of, walk}
+use Rattle.git_paths.specs.Standpoints.{is_absolute, led, literal_front}
 use Rattle.pathspecs.specs.Spelling.{Spelt, spelt_by}
 
 -- a slash stands at the end

@@ -1,14 +1,14 @@
 //! Where a spelt path leads.
 ghost use Rattle.std.specs.Prelude.{◌≡◌, false, None, Some, IfOk, MatchOption};
 ghost use Rattle.std.specs.List.{list_any};
-ghost use Rattle.told_paths.specs.Paths.{names_folder, parts_of};
-ghost use Rattle.told_paths.specs.Standpoints.{led};
+ghost use Rattle.git_paths.specs.Paths.{names_folder, parts_of};
+ghost use Rattle.git_paths.specs.Standpoints.{led};
 ghost use Rattle.pathspecs.specs.Leading.{front_of, is_empty, leads, leads_from_root, names_folder_so, standing};
 ghost use Rattle.pathspecs.specs.Spelling.{seen};
 
 use crate::spelling::Pathspec;
+use git_paths::{LeadFault, Standpoint, walk};
 use std::alloc::{AllocError, Global};
-use told_paths::{LeadFault, Standpoint, walk};
 
 impl Pathspec<'_> {
     /// Goes where the path leads: `path` becomes its path from the top. It answers whether it is told as a folder's, and `None` where it

@@ -3,6 +3,7 @@
 use crate::answer::{Answer, field, room, three, two};
 use crate::row::{Field, Row};
 use anyhow::{Result, bail};
+use git_paths::{Quoting, Standpoint};
 use gix_glob::pattern::Case;
 use gix_glob::search::pattern::List;
 use gix_glob::search::{Pattern as _, Watched};
@@ -11,7 +12,6 @@ use glob_lists::{RepositoryPath, Rules};
 use glob_trees::{FolderLists, Tree, list_in_folder};
 use record_streams::RecordFault;
 use std::alloc::{AllocError, Global};
-use told_paths::{Quoting, Standpoint};
 use tracked_paths::TrackedPaths;
 use tree_answers::Form;
 use tree_commands::check_ignore::{

@@ -3,7 +3,7 @@ use Rattle.std.specs.Prelude.{ℕ, Bool, ◌&&◌, ◌||◌, not, nat_eq, if◌t
 use Rattle.std.specs.List.{starts_with}
 use Rattle.gix_glob.specs.declared.pattern.Mode.{Mode}
 use Rattle.gix_glob.specs.Patterns.{is_absolute, is_negative, shown_line}
-use Rattle.told_paths.specs.Quoting.{quoted}
+use Rattle.git_paths.specs.Quoting.{quoted}
 use Rattle.tree_answers.specs.declared.form.Form.{Form}
 use Rattle.tree_answers.specs.declared.form.Form.TheVariants.{Lines, Records}
 

@@ -2,7 +2,7 @@
 use Rattle.std.specs.Prelude.{◌≡◌, ◌⊎◌, ℕ, Bool, false, true, ◌==◌, nat_eq, List, Some, codes}
 use Rattle.std.specs.List.{AllByRecursion, AllZip, before_first, starts_with}
 use Rattle.glob_attributes.specs.Heads.{IsQuotedHead}
-use Rattle.told_paths.specs.Paths.{below, names_folder, parts_of, walk}
+use Rattle.git_paths.specs.Paths.{below, names_folder, parts_of, walk}
 use Rattle.tree_answers.specs.declared.form.Form.{Form}
 use Rattle.tree_answers.specs.declared.form.Form.TheVariants.{Lines, Records}
 

@@ -6,9 +6,9 @@ ghost use Rattle.tree_answers.specs.Attributes.{answer_text, label_text};
 ghost use Rattle.tree_answers.specs.Lines.{name_text};
 
 use crate::form::Form;
+use git_paths::{append_quoted, has_unusual};
 use glob_attributes::{State, state_text};
 use std::alloc::AllocError;
-use told_paths::{append_quoted, has_unusual};
 
 /// A path as it stands before each of its attributes: as it was told, or, in lines, in quotes where a byte is unusual. `quoted` is
 /// where the quotes are written.

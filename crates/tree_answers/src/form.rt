@@ -1,6 +1,6 @@
 //! How answers are written.
 
-use told_paths::Quoting;
+use git_paths::Quoting;
 
 /// How answers are written: in lines, or in records.
 #[derive(Clone, Copy, Debug, PartialEq, Eq)]

@@ -4,18 +4,18 @@ ghost use Rattle.std.specs.Io.{StartsWith};
 ghost use Rattle.std.specs.List.{list_any};
 ghost use Rattle.std.specs.Option.{option_map};
 ghost use Rattle.gix_glob.specs.PatternParts.{mode_of, text_of};
-ghost use Rattle.told_paths.specs.declared.quoting.Quoting.TheVariants.{Full};
-ghost use Rattle.told_paths.specs.Quoting.{is_unusual};
+ghost use Rattle.git_paths.specs.declared.quoting.Quoting.TheVariants.{Full};
+ghost use Rattle.git_paths.specs.Quoting.{is_unusual};
 ghost use Rattle.tree_answers.specs.Lines.{begins_with_sign, behind, decision_text, line_text, name_text, pattern_line};
 
 use crate::form::Form;
 use bitflags::Flags;
+use git_paths::append_quoted;
 use gix_glob::Pattern;
 use gix_glob::pattern::Mode;
 use itoa::Buffer;
 use std::alloc::AllocError;
 use std::marker::Model;
-use told_paths::append_quoted;
 
 /// The line of a file that decides about a path.
 #[derive(Drop)]

@@ -6,13 +6,13 @@ ghost use Rattle.record_streams.specs.Records.{Adds, GrowsBy, StaysAllowed, answ
 ghost use Rattle.tree_answers.specs.Records.{AccountsFor, IsRefusal, IsTextOf, NamesPath, begins_with_quote, is_zero};
 
 use crate::form::Form;
+use git_paths::are_usual_names;
 use glob_attributes::read_quoted;
 use memchr::memchr;
 use record_streams::Answerer;
 use std::alloc::{AllocError, Global};
 use std::marker::{Brand, PhantomData};
 use thiserror::Error;
-use told_paths::are_usual_names;
 
 /// What answers told paths.
 pub trait PathAnswerer: Drop {
@@ -21,8 +21,8 @@ pub trait PathAnswerer: Drop {
     ghost use Rattle.std.specs.List.{list_any};
     ghost use Rattle.glob_lists.specs.Paths.{IsPlainPath};
     ghost use Rattle.record_streams.specs.Records.{Adds, GrowsBy, StaysAllowed, answered_by};
-    ghost use Rattle.told_paths.specs.declared.quoting.Quoting.TheVariants.{Full};
-    ghost use Rattle.told_paths.specs.Quoting.{is_unusual};
+    ghost use Rattle.git_paths.specs.declared.quoting.Quoting.TheVariants.{Full};
+    ghost use Rattle.git_paths.specs.Quoting.{is_unusual};
     ghost use Rattle.tree_answers.specs.Records.{LeadsAsTold};
 
     /// Why a path got no answer.
@@ -86,7 +86,7 @@ pub trait FormWord {
 }
 
 impl FormWord for Brand {
-    ghost use Rattle.told_paths.specs.declared.quoting.Quoting.TheVariants.{Full};
+    ghost use Rattle.git_paths.specs.declared.quoting.Quoting.TheVariants.{Full};
     ghost use Rattle.tree_answers.specs.declared.form.Form.TheVariants.{Lines};
 
     ghost form = { Lines Full };
@@ -123,6 +123,7 @@ impl<A: PathAnswerer, W: FormWord> Answerer for RecordAnswerer<A, W> {
     ghost refused = { λ _. AllByRecursion (IsRefusal A.refuses A.Fault.from_gives) };
 
     #[inline(always)]
+    #[tactic(auto, using(crate::proofs::lemmas::PlainNames::names_are_plain))]
     fn answer(&mut self, text: &mut Vec<u8>, bytes: &[u8]) -> Result<(), A::Fault> {
         // most records are usual names, in which there is no byte 0 and no quote to look for
         if are_usual_names(bytes) {
@@ -135,6 +136,7 @@ impl<A: PathAnswerer, W: FormWord> Answerer for RecordAnswerer<A, W> {
 impl<A: PathAnswerer, W: FormWord> RecordAnswerer<A, W> {
     /// Appends what is written about any record.
     #[inline(never)]
+    #[tactic(auto, using(crate::proofs::lemmas::PlainNames::names_are_plain))]
     fn answer_unusual(&mut self, text: &mut Vec<u8>, bytes: &[u8]) -> Result<(), A::Fault>
         ensures stays { StaysAllowed (A.answers self.old.paths) (A.answers self.new.paths) }
         ensures written { OnOk result (Adds (IsTextOf (A.answers self.new.paths) W.form bytes.now) text.old.items text.new.items) }

@@ -12,9 +12,9 @@ use Rattle.glob_attributes.specs.Equations.Files.{attributes_of}
 use Rattle.glob_attributes.specs.Macros.{Definition, macros_of}
 use Rattle.glob_attributes.specs.States.{Assigned, IsAssigned, Lists, state_in, states_in}
 use Rattle.glob_attributes.specs.Told.{names_read, with_names}
-use Rattle.told_paths.specs.declared.standpoint.Standpoint.{Standpoint}
-use Rattle.told_paths.specs.Paths.{names_folder, parts_of}
-use Rattle.told_paths.specs.Standpoints.{led}
+use Rattle.git_paths.specs.declared.standpoint.Standpoint.{Standpoint}
+use Rattle.git_paths.specs.Paths.{names_folder, parts_of}
+use Rattle.git_paths.specs.Standpoints.{led}
 use Rattle.tree_answers.specs.declared.form.Form.{Form}
 use Rattle.tree_answers.specs.Attributes.{answer_text, label_text}
 use Rattle.tree_answers.specs.Lines.{name_text}

@@ -16,10 +16,10 @@ use Rattle.glob_lines.specs.Lines.{HasNo}
 use Rattle.glob_lists.specs.Paths.{IsPlainPath}
 use Rattle.glob_trees.specs.Trees.{IsAbove}
 use Rattle.glob_trees.specs.Ways.{Folder, folders_to, start_of, with_entries}
-use Rattle.told_paths.specs.declared.standpoint.Standpoint.{Standpoint}
-use Rattle.told_paths.specs.Paths.{IsLastName, is_name, names_folder, parts_of}
-use Rattle.told_paths.specs.Quoting.{is_unusual}
-use Rattle.told_paths.specs.Standpoints.{led, shown}
+use Rattle.git_paths.specs.declared.standpoint.Standpoint.{Standpoint}
+use Rattle.git_paths.specs.Paths.{IsLastName, is_name, names_folder, parts_of}
+use Rattle.git_paths.specs.Quoting.{is_unusual}
+use Rattle.git_paths.specs.Standpoints.{led, shown}
 use Rattle.tree_answers.specs.declared.form.Form.{Form}
 use Rattle.tree_answers.specs.declared.form.Form.TheVariants.{Lines, Records}
 use Rattle.tree_answers.specs.Lines.{behind, name_text}

@@ -3,9 +3,9 @@ use Rattle.std.specs.Prelude.{ℕ, Bool, false, if◌then◌else◌, List, []}
 use Rattle.std.specs.Option.{option_map_or}
 use Rattle.git_index.specs.Entries.{Tracked, starting_with}
 use Rattle.glob_trees.specs.Ways.{Folder}
-use Rattle.told_paths.specs.declared.standpoint.Standpoint.{Standpoint}
-use Rattle.told_paths.specs.Paths.{folder_of, names_folder, parts_of}
-use Rattle.told_paths.specs.Standpoints.{led}
+use Rattle.git_paths.specs.declared.standpoint.Standpoint.{Standpoint}
+use Rattle.git_paths.specs.Paths.{folder_of, names_folder, parts_of}
+use Rattle.git_paths.specs.Standpoints.{led}
 use Rattle.tree_commands.specs.declared.files.Listing.{Listing}
 use Rattle.tree_commands.specs.Files.{Basis, basis_of}
 

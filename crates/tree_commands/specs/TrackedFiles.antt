@@ -10,9 +10,9 @@ use Rattle.gix_glob.specs.Bytes.{slash}
 use Rattle.gix_glob.specs.EntryLists.{EntryList}
 use Rattle.glob_trees.specs.Ways.{Folder}
 use Rattle.record_streams.specs.Records.{TextOf}
-use Rattle.told_paths.specs.declared.standpoint.Standpoint.{Standpoint}
-use Rattle.told_paths.specs.Paths.{names_folder, parts_of}
-use Rattle.told_paths.specs.Standpoints.{led, shown}
+use Rattle.git_paths.specs.declared.standpoint.Standpoint.{Standpoint}
+use Rattle.git_paths.specs.Paths.{names_folder, parts_of}
+use Rattle.git_paths.specs.Standpoints.{led, shown}
 use Rattle.tree_answers.specs.declared.form.Form.{Form}
 use Rattle.tree_commands.specs.declared.check_ignore.flags.IgnoreFlags.{IgnoreFlags}
 use Rattle.tree_commands.specs.CheckIgnore.{IsIgnoreAnswer, Question}

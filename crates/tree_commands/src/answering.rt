@@ -12,13 +12,13 @@ ghost use Rattle.tree_answers.specs.Records.{IsRefusal, IsTextOf};
 ghost use Rattle.tree_commands.specs.Answering.{IsTextOfFirst, StopsAt, TextOfNamed, TextOfPaths, Writes};
 ghost use Rattle.tree_commands.specs.Private.Answering.{FailsAt};
 
+use git_paths::are_usual_names;
 use gix_glob::search::Watched;
 use glob_lines::write_whole;
 use record_streams::{RecordFault, RecordStream};
 use std::alloc::Global;
 use std::io::{Read, Write};
 use std::marker::{Brand, PhantomData};
-use told_paths::are_usual_names;
 use tree_answers::{Form, FormWord, PathAnswerer, RecordAnswerer};
 
 /// Reads records to the reader's end, each in a line or before a NUL, and writes for each what is written about the path that it names.
@@ -115,6 +115,7 @@ pub fn answer_paths<A: PathAnswerer, W: Write>(
 }
 
 /// Appends what is written about each path, up to the first that gets no answer: of that nothing is appended.
+#[tactic(auto, using(tree_answers::proofs::lemmas::PlainNames::names_are_plain))]
 fn append_each<A: PathAnswerer>(
     answerer: &mut A,
     text: &mut Vec<u8>,

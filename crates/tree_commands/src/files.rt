@@ -8,8 +8,8 @@ ghost use Rattle.gix_glob.specs.Watched.{has_failed, inner};
 ghost use Rattle.glob_lines.specs.Transfers.{AppendsFront};
 ghost use Rattle.glob_lists.specs.Deciding.{BasesAreFolders};
 ghost use Rattle.glob_trees.specs.Ways.{GivesOnly, start_of};
-ghost use Rattle.told_paths.specs.Paths.{names_folder, parts_of};
-ghost use Rattle.told_paths.specs.Standpoints.{led};
+ghost use Rattle.git_paths.specs.Paths.{names_folder, parts_of};
+ghost use Rattle.git_paths.specs.Standpoints.{led};
 ghost use Rattle.tree_commands.specs.declared.files.fault.FilesFault.TheVariants as faults;
 ghost use Rattle.tree_commands.specs.FileTrees.{FileTree, StaysKnown};
 ghost use Rattle.tree_commands.specs.Files.{ComesBefore, IsMet, IsReached, IsTold, MayAsk, path_line};
@@ -48,6 +48,7 @@ use crate::files::source::FileSource;
 use crate::files::terms::Terms;
 use crate::files::writing::PathLines;
 use git_index::Index;
+use git_paths::{LeadFault, Standpoint};
 use gix_glob::pattern::Case;
 use gix_glob::search::Watched;
 use glob_lines::GitIgnoreLines;
@@ -55,7 +56,6 @@ use glob_lists::PreparedList;
 use std::alloc::Global;
 use std::io;
 use std::io::Write;
-use told_paths::{LeadFault, Standpoint};
 use tree_answers::Form;
 
 /// What is asked of a listing.

@@ -9,8 +9,8 @@ ghost use Rattle.gix_glob.specs.Bytes.{slash};
 ghost use Rattle.gix_glob.specs.Watched.{has_failed, inner};
 ghost use Rattle.glob_lines.specs.Transfers.{AppendsFront};
 ghost use Rattle.record_streams.specs.Faults.{is_write_fault, told_refusal};
-ghost use Rattle.told_paths.specs.declared.standpoint.LeadFault.TheVariants.{Empty, Outside};
-ghost use Rattle.told_paths.specs.Standpoints.{led, shown};
+ghost use Rattle.git_paths.specs.declared.standpoint.LeadFault.TheVariants.{Empty, Outside};
+ghost use Rattle.git_paths.specs.Standpoints.{led, shown};
 ghost use Rattle.tree_commands.specs.declared.files.mark.Mark.TheVariants as marks;
 ghost use Rattle.tree_commands.specs.Answering.{Writes};
 ghost use Rattle.tree_commands.specs.CheckIgnore.{question_of};
@@ -22,13 +22,13 @@ use crate::check_ignore::{IgnoreFault, IgnoreFlags, IgnoreSources, PathKinds, ch
 use crate::files::mark::Mark;
 use crate::files::writing::append_path_line;
 use git_index::{Entry, Kind};
+use git_paths::{LeadFault, Standpoint};
 use gix_glob::search::Watched;
 use glob_lines::GitIgnoreLines;
 use glob_trees::{FolderLists, Tree};
 use record_streams::RecordFault;
 use std::alloc::{AllocError, Global};
 use std::io::Write;
-use told_paths::{LeadFault, Standpoint};
 use tracked_paths::TrackedPaths;
 use tree_answers::Form;
 

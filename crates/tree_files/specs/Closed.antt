@@ -4,7 +4,7 @@ use Rattle.std.specs.List.{starts_with}
 use Rattle.std.specs.BTreeSet.{contains_by}
 use Rattle.std.specs.Cmp.Lexicographic.{slice_cmp}
 use Rattle.std.specs.Ordering.{nat_cmp}
-use Rattle.told_paths.specs.Paths.{folder_of}
+use Rattle.git_paths.specs.Paths.{folder_of}
 use Rattle.glob_trees.specs.Ways.{Folder}
 use Rattle.tree_files.specs.declared.closed_folders.ClosedFolders.{ClosedFolders}
 

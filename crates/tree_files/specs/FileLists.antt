@@ -6,7 +6,7 @@ use Rattle.gix_glob.specs.Loading.{IsLoaded}
 use Rattle.glob_lines.specs.Equations.GitLines.{git_entries_of}
 use Rattle.glob_lines.specs.Plain.{PlainEntry}
 use Rattle.glob_trees.specs.Ways.{Folder}
-use Rattle.told_paths.specs.Paths.{below}
+use Rattle.git_paths.specs.Paths.{below}
 
 -- the list is what a parser means by some bytes of the file of this name; or it has no patterns, as where no file is read
 abbrev pub IsOfFile : {V : Type 0} → (List ℕ → List ℕ → List (Entry V)) → List ℕ → EntryList V → Type 0

@@ -3,9 +3,9 @@ ghost use Rattle.std.specs.Prelude.{◌≡◌, ◌++◌, ◌∷◌, ◌⊎◌, �
 ghost use Rattle.gix_glob.specs.Bytes.{slash};
 ghost use Rattle.tree_files.specs.Closed.{HasShut, IsClosed, is_shut};
 
+use git_paths::folder_of;
 use std::alloc::{AllocError, Global};
 use std::collections::BTreeSet;
-use told_paths::folder_of;
 
 /// Folders in which nothing can be seen. What lies below one isn't looked at.
 #[derive(Drop)]

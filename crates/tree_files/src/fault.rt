@@ -2,9 +2,9 @@
 ghost use Rattle.std.specs.Prelude.{◌≡◌};
 ghost use Rattle.tree_files.specs.declared.fault.CheckFault.TheVariants.{Memory};
 
+use git_paths::LeadFault;
 use std::alloc::{AllocError, Global};
 use thiserror::Error;
-use told_paths::LeadFault;
 use tree_answers::NameFault;
 use tree_commands::check_attr::AttributeFault;
 use tree_commands::check_ignore::IgnoreFault;

@@ -13,6 +13,7 @@ use crate::seen_files::seen_file_list;
 use crate::sources::{FolderFiles, IGNORE_FILE};
 use crate::standing::{OwnFile, file_in, own_file};
 use crate::telling::tell_line;
+use git_paths::folder_of;
 use gix_glob::search::pattern::List;
 use glob_lines::GitIgnoreLines;
 use glob_trees::{FolderLists, list_in_folder};
@@ -23,7 +24,6 @@ use std::fs::FileType;
 use std::io::ErrorKind;
 use std::rt::{Clock, Files};
 use std::{fs, io};
-use told_paths::folder_of;
 use tree_commands::files::source::{EntryKind, FileSource, FolderNames};
 
 /// The folders below the one that the program stands in.

@@ -1,7 +1,7 @@
 //! The ignore files of folders.
 ghost use Rattle.std.specs.Prelude.{◌≡◌, IfOk, codes};
 ghost use Rattle.gix_glob.specs.EntryLists.{entry_list_of};
-ghost use Rattle.told_paths.specs.Paths.{below};
+ghost use Rattle.git_paths.specs.Paths.{below};
 ghost use Rattle.tree_files.specs.FileLists.{IsOfFolder, IsSpelled};
 ghost use Rattle.tree_files.specs.Indexed.{is_indexed};
 

@@ -2,7 +2,7 @@
 ghost use Rattle.std.specs.Prelude.{◌≡◌, ◌≢◌, ◌↔◌, IfOk, IsTrue, string_bytes};
 ghost use Rattle.std.specs.IoError.{error_kind};
 ghost use Rattle.std.specs.declared.io.ErrorKind.TheVariants as kinds;
-ghost use Rattle.told_paths.specs.Paths.{below};
+ghost use Rattle.git_paths.specs.Paths.{below};
 
 use crate::fault::CheckFault;
 use crate::telling::tell_line;

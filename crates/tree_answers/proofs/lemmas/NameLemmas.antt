@@ -2,9 +2,9 @@
 use Rattle.std.proofs.Common.{◌≡◌, ℕ, false, List, ap, refl, ◌++◌, codes}
 use Rattle.std.specs.Prelude.{if◌then◌else◌}
 use Rattle.std.specs.List.{flat_map, list_any}
-use Rattle.told_paths.specs.declared.quoting.Quoting.TheVariants.{Full}
-use Rattle.told_paths.specs.Quoting.{escaped, is_unusual}
-use Rattle.told_paths.proofs.lemmas.UsualLemmas.{none_unusual_by}
+use Rattle.git_paths.specs.declared.quoting.Quoting.TheVariants.{Full}
+use Rattle.git_paths.specs.Quoting.{escaped, is_unusual}
+use Rattle.git_paths.proofs.lemmas.UsualLemmas.{none_unusual_by}
 use Rattle.tree_answers.specs.declared.form.Form.{Form}
 use Rattle.tree_answers.specs.declared.form.Form.TheVariants.{Lines, Records}
 use Rattle.tree_answers.specs.Lines.{name_text}

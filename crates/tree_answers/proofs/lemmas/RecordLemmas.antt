@@ -7,8 +7,8 @@ use Rattle.std.proofs.lemmas.Bool.Decides.{Decides-eqb}
 use Rattle.std.proofs.lemmas.Slice.Eq.{starts_is}
 use Rattle.glob_lines.specs.Lines.{HasNo}
 use Rattle.record_streams.specs.Records.{Adds, GrowsBy, answered_by}
-use Rattle.told_paths.specs.declared.quoting.Quoting.TheVariants.{Full}
-use Rattle.told_paths.specs.Quoting.{is_unusual}
+use Rattle.git_paths.specs.declared.quoting.Quoting.TheVariants.{Full}
+use Rattle.git_paths.specs.Quoting.{is_unusual}
 use Rattle.tree_answers.specs.declared.form.Form.{Form}
 use Rattle.tree_answers.specs.declared.form.Form.TheVariants.{Lines, Records}
 use Rattle.tree_answers.specs.Records.{AccountsFor, IsTextOf, NamesPath, begins_with_quote, is_zero}

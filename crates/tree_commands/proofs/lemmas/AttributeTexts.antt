@@ -12,7 +12,7 @@ use Rattle.tree_answers.specs.declared.form.Form.{Form}
 use Rattle.tree_answers.specs.Attributes.{answer_text, label_text}
 use Rattle.tree_commands.specs.Private.AttributeAnswers.{shown_text, unspecified_text}
 use Rattle.tree_commands.proofs.lemmas.AttributeWalks.{flat_last}
-pub use Rattle.told_paths.proofs.lemmas.FrontLemmas.{front_of_front}
+pub use Rattle.git_paths.proofs.lemmas.FrontLemmas.{front_of_front}
 
 pub map_twice : {X Y Z : Type 0} (f : Y → Z) (g : X → Y) (xs : List X) → map f (map g xs) ≡ map (λ x. f (g x)) xs
 map_twice f g [] = refl

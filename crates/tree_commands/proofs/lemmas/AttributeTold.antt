@@ -1,9 +1,9 @@
 -- Paths that are told by usual names, from the top: they are where they lead.
 use Rattle.std.proofs.Common.{◌≡◌, ◌≢◌, ℕ, true, false, List, [], ◌∷◌, Some, refl, ap, ◌∙◌}
 use Rattle.glob_lists.specs.Paths.{IsPlainPath}
-use Rattle.told_paths.specs.declared.standpoint.Standpoint.{Standpoint}
-use Rattle.told_paths.specs.Paths.{names_folder, parts_of}
-use Rattle.told_paths.specs.Standpoints.{led}
+use Rattle.git_paths.specs.declared.standpoint.Standpoint.{Standpoint}
+use Rattle.git_paths.specs.Paths.{names_folder, parts_of}
+use Rattle.git_paths.specs.Standpoints.{led}
 use Rattle.tree_answers.specs.Records.{LeadsAsTold}
 use Rattle.tree_commands.specs.CheckAttr.{or_dot}
 use Rattle.tree_commands.proofs.lemmas.IgnoreLemmas.{led_here}

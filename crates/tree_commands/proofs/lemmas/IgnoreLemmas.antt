@@ -16,9 +16,9 @@ use Rattle.glob_trees.specs.TreeParts.{HasMappingAt, TreeParts}
 use Rattle.glob_trees.specs.Ways.{AreOnTheWay, Folder, IsListOf}
 use Rattle.record_streams.specs.Records.{Adds, GrowsBy, StaysAllowed, answered_by}
 use Rattle.pathspecs.specs.Leading.{word_front, word_leads}
-use Rattle.told_paths.specs.declared.standpoint.Standpoint.{Standpoint}
-use Rattle.told_paths.specs.Paths.{parts_of, walk}
-use Rattle.told_paths.specs.Standpoints.{is_absolute, led}
+use Rattle.git_paths.specs.declared.standpoint.Standpoint.{Standpoint}
+use Rattle.git_paths.specs.Paths.{parts_of, walk}
+use Rattle.git_paths.specs.Standpoints.{is_absolute, led}
 use Rattle.tracked_paths.specs.Holding.{IsHeld, LiesIn, LiesInSubmodule}
 use Rattle.tree_answers.specs.Lines.{Decision}
 use Rattle.tree_commands.specs.declared.check_ignore.flags.IgnoreFlags.{IgnoreFlags}

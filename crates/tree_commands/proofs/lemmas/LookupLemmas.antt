@@ -3,8 +3,8 @@ use Rattle.std.proofs.Common.{◌≡◌, ℕ, ◌==◌, Bool, true, false, cond,
 use Rattle.std.specs.List.{starts_with}
 use Rattle.std.proofs.lemmas.Bool.{eqb-true}
 use Rattle.git_index.specs.Entries.{Tracked, starting_with}
-use Rattle.told_paths.specs.Paths.{names_folder, parts_of}
-use Rattle.told_paths.specs.Standpoints.{led}
+use Rattle.git_paths.specs.Paths.{names_folder, parts_of}
+use Rattle.git_paths.specs.Standpoints.{led}
 use Rattle.tree_commands.specs.declared.files.Listing.{Listing}
 use Rattle.tree_commands.specs.Listings.{asked_basis, counted, told_in}
 use Rattle.tree_commands.specs.Lookups.{LookedUp}

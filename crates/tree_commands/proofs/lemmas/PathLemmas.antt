@@ -9,7 +9,7 @@ use Rattle.gix_glob.specs.Bytes.{EndsInSlash, HasByte, slash}
 use Rattle.glob_lines.specs.Lines.{HasNo}
 use Rattle.glob_lists.specs.Paths.{IsPlainPath}
 use Rattle.glob_trees.specs.Ways.{Folder, start_of}
-use Rattle.told_paths.specs.Paths.{is_name}
+use Rattle.git_paths.specs.Paths.{is_name}
 use Rattle.tree_commands.specs.Files.{IsEntryName}
 use Rattle.tree_commands.specs.Private.Listing.{EndsInName, LeadsOn, MayVisit}
 

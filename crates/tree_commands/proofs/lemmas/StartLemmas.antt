@@ -11,7 +11,7 @@ use Rattle.glob_trees.specs.Trees.{IsAbove}
 use Rattle.glob_trees.specs.Ways.{Folder, start_of, unless_empty, with_entries}
 use Rattle.glob_trees.proofs.lemmas.Folders.{above_is_front, above_is_shorter, above_slash, slash_below}
 use Rattle.glob_trees.proofs.lemmas.WayLemmas.{folders_other}
-use Rattle.told_paths.specs.Paths.{IsLastName}
+use Rattle.git_paths.specs.Paths.{IsLastName}
 use Rattle.tree_commands.specs.declared.files.choosing.Chosen.{Chosen}
 use Rattle.tree_commands.specs.declared.files.choosing.Chosen.TheVariants.{All, Ignored, Unignored}
 use Rattle.tree_commands.specs.FileTrees.{FileTree}

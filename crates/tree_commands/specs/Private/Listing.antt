@@ -10,7 +10,7 @@ use Rattle.gix_glob.specs.EntryLists.{EntryList, entry_list_of}
 use Rattle.glob_lists.specs.Paths.{IsPlainPath}
 use Rattle.glob_trees.specs.Trees.{IsAbove}
 use Rattle.glob_trees.specs.Ways.{Folder, start_of, unless_empty}
-use Rattle.told_paths.specs.Paths.{IsLastName}
+use Rattle.git_paths.specs.Paths.{IsLastName}
 use Rattle.tree_commands.specs.declared.files.choosing.Chosen.{Chosen}
 use Rattle.tree_commands.specs.declared.files.choosing.Chosen.TheVariants.{All, Ignored, Unignored}
 use Rattle.tree_commands.specs.declared.files.choosing.Folders.{Folders}

@@ -7,10 +7,10 @@ ghost use Rattle.glob_attributes.specs.Views.{assignment_with};
 ghost use Rattle.glob_attributes.specs.States.{state_in};
 ghost use Rattle.glob_lists.specs.Paths.{IsPlainPath};
 ghost use Rattle.record_streams.specs.Records.{Adds};
-ghost use Rattle.told_paths.specs.declared.quoting.Quoting.TheVariants.{Full};
-ghost use Rattle.told_paths.specs.Paths.{names_folder, parts_of};
-ghost use Rattle.told_paths.specs.Quoting.{is_unusual};
-ghost use Rattle.told_paths.specs.Standpoints.{led};
+ghost use Rattle.git_paths.specs.declared.quoting.Quoting.TheVariants.{Full};
+ghost use Rattle.git_paths.specs.Paths.{names_folder, parts_of};
+ghost use Rattle.git_paths.specs.Quoting.{is_unusual};
+ghost use Rattle.git_paths.specs.Standpoints.{led};
 ghost use Rattle.tree_answers.specs.Attributes.{label_text};
 ghost use Rattle.tree_answers.specs.Lines.{name_text};
 ghost use Rattle.tree_answers.specs.Records.{LeadsAsTold};
@@ -22,12 +22,12 @@ use crate::check_attr::fault::AttributeFault;
 use crate::check_attr::folders::AttributeFolders;
 use crate::check_attr::question::Question;
 use crate::check_attr::walk::{Asking, FolderAttributes};
+use git_paths::Standpoint;
 use gix_glob::search::pattern;
 use glob_attributes::{Assignment, AttributeLines, PathAttributes, State};
 use glob_lists::{ListIndex, RepositoryPath, plain_path};
 use std::alloc::{AllocError, Global};
 use std::marker::Model;
-use told_paths::Standpoint;
 use tree_answers::{Form, PathAnswerer, append_answer, append_label, path_text};
 
 /// What answers each told path by the states of its attributes. Contracts see whether a path got no answer: then none gets one any more.

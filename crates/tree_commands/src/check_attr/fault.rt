@@ -2,9 +2,9 @@
 ghost use Rattle.std.specs.Prelude.{◌≡◌};
 ghost use Rattle.tree_commands.specs.declared.check_attr.fault.AttributeFault.TheVariants.{Memory};
 
+use git_paths::LeadFault;
 use std::alloc::{AllocError, Global};
 use thiserror::Error;
-use told_paths::LeadFault;
 use tree_answers::NameFault;
 
 /// Why a path got no answer.

@@ -2,9 +2,9 @@
 ghost use Rattle.std.specs.Prelude.{◌≡◌};
 ghost use Rattle.tree_commands.specs.Private.AttributeWays.{asked_of, files_in};
 
+use git_paths::Standpoint;
 use gix_glob::pattern::Case;
 use std::marker::{Brand, Model};
-use told_paths::Standpoint;
 use tree_answers::Form;
 
 /// The bytes of the attribute files that count for each path; none of a file that isn't there.

@@ -11,8 +11,8 @@ ghost use Rattle.glob_trees.specs.TreeParts.{HasMappingAt};
 ghost use Rattle.glob_trees.specs.Ways.{GoesOn};
 ghost use Rattle.pathspecs.specs.Leading.{word_names_folder};
 ghost use Rattle.pathspecs.specs.Spelling.{Spelt, seen, spelt_by};
-ghost use Rattle.told_paths.specs.declared.quoting.Quoting.TheVariants.{Full};
-ghost use Rattle.told_paths.specs.Quoting.{is_unusual};
+ghost use Rattle.git_paths.specs.declared.quoting.Quoting.TheVariants.{Full};
+ghost use Rattle.git_paths.specs.Quoting.{is_unusual};
 ghost use Rattle.tracked_paths.specs.Holding.{IsHeld, LiesInSubmodule};
 ghost use Rattle.tree_answers.specs.Lines.{Decision};
 ghost use Rattle.tree_answers.specs.Records.{LeadsAsTold};
@@ -25,6 +25,7 @@ use crate::check_ignore::flags::IgnoreFlags;
 use crate::check_ignore::kinds::{PathKinds, left_behind_top};
 use crate::check_ignore::running::IgnoreSources;
 use crate::check_ignore::unlinked::UnlinkedFolders;
+use git_paths::Standpoint;
 use gix_glob::search::pattern;
 use gix_glob::search::pattern::Mapping;
 use glob_lines::GitIgnoreLines;
@@ -33,7 +34,6 @@ use glob_trees::FolderLists;
 use pathspecs::{Pathspec, is_path};
 use std::alloc::{AllocError, Global};
 use std::marker::{Brand, PhantomData};
-use told_paths::Standpoint;
 use tracked_paths::TrackedPaths;
 use tree_answers::{DecidingLine, PathAnswerer, append_line};
 
@@ -48,7 +48,7 @@ impl AskedQuestion for Brand {
     ghost use Rattle.std.specs.Prelude.{None, [], false};
     ghost use Rattle.gix_glob.specs.declared.pattern.Case.TheVariants.{Sensitive};
     ghost use Rattle.glob_lists.specs.Rules.{by_git};
-    ghost use Rattle.told_paths.specs.declared.quoting.Quoting.TheVariants.{Full};
+    ghost use Rattle.git_paths.specs.declared.quoting.Quoting.TheVariants.{Full};
     ghost use Rattle.tree_answers.specs.declared.form.Form.TheVariants.{Lines};
     ghost use Rattle.tree_commands.specs.CheckIgnore.{nothing_known};
 

@@ -20,6 +20,7 @@ use crate::check_ignore::finding::Finder;
 use crate::check_ignore::flags::IgnoreFlags;
 use crate::check_ignore::kinds::PathKinds;
 use crate::check_ignore::unlinked::UnlinkedFolders;
+use git_paths::Standpoint;
 use gix_glob::search::Watched;
 use glob_lines::GitIgnoreLines;
 use glob_trees::{FolderLists, Tree};
@@ -27,7 +28,6 @@ use record_streams::RecordFault;
 use std::alloc::Global;
 use std::io::{Read, Write};
 use std::marker::{Brand, PhantomData};
-use told_paths::Standpoint;
 use tracked_paths::TrackedPaths;
 
 /// Where answers come from.

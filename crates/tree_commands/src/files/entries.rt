@@ -6,7 +6,7 @@ ghost use Rattle.gix_glob.specs.Bytes.{slash};
 ghost use Rattle.glob_lists.specs.Deciding.{BasesAreFolders};
 ghost use Rattle.glob_lists.specs.Paths.{IsPlainPath};
 ghost use Rattle.glob_trees.specs.Ways.{GivesOnly};
-ghost use Rattle.told_paths.specs.Paths.{is_name};
+ghost use Rattle.git_paths.specs.Paths.{is_name};
 ghost use Rattle.tree_commands.specs.FileTrees.{FileTree, StaysKnown, names_in};
 ghost use Rattle.tree_commands.specs.Files.{IsEntryName, is_folder, is_git};
 ghost use Rattle.tree_commands.specs.Private.Listing.{AddsFound, Among, EndsInName, IsChosenThere, IsFoundAmong, IsMetThere, IsNoneAmong, LeadsOn, LiesThere, StandsThere, seen_lists, terms_of};

@@ -16,10 +16,10 @@ use crate::files::lister::{Lister, push_own};
 use crate::files::pending::Pending;
 use crate::files::source::{EntryKind, FileSource};
 use crate::files::terms::{Terms, is_hidden, leaves_out, takes_all};
+use git_paths::last_name;
 use glob_lists::plain_path;
 use glob_trees::TreeFault;
 use std::alloc::{AllocError, Global};
-use told_paths::last_name;
 
 impl<'a> Lister<'a> {
     /// Begins at a path that is told from the top, by no bytes where it is the top itself. It may be told as a folder's.

@@ -9,11 +9,11 @@ ghost use Rattle.tree_commands.specs.Files.{mark_text, marked_name, path_line, s
 ghost use Rattle.tree_commands.specs.Private.Listing.{WritesOut};
 
 use crate::files::mark::Mark;
+use git_paths::{Quoting, Standpoint, append_quoted, has_unusual};
 use gix_glob::search::Watched;
 use std::alloc::{AllocError, Global};
 use std::io;
 use std::io::Write;
-use told_paths::{Quoting, Standpoint, append_quoted, has_unusual};
 use tree_answers::Form;
 
 /// From how many bytes on lines are written although more follow.

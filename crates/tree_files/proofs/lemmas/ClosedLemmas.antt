@@ -2,7 +2,7 @@
 use Rattle.std.proofs.Common.{◌≡◌, ℕ, ◌+◌, ◌≤◌, ◌==◌, Bool, true, false, IsTrue, if◌then◌else◌, List, [], ◌∷◌, length, refl, sym, ap, subst, ◌∙◌, arith}
 use Rattle.std.specs.List.{list_any}
 use Rattle.std.proofs.lemmas.Bool.{eqb-false, eqb-true, false≢true}
-use Rattle.told_paths.specs.Paths.{folder_of, is_slash}
+use Rattle.git_paths.specs.Paths.{folder_of, is_slash}
 use Rattle.glob_trees.specs.Ways.{Folder}
 use Rattle.tree_files.specs.Closed.{HasShut, IsOnTheWay, here, above, is_shut}
 use Rattle.tree_files.specs.declared.closed_folders.ClosedFolders.{ClosedFolders}

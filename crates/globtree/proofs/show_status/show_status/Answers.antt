@@ -2,8 +2,8 @@ use Rattle.std.proofs.Common.{◌≡◌, ◌&&◌, ℕ, false, List, MatchBool, 
 use Rattle.std.proofs.lemmas.Result.{IfOk-weaker}
 use Rattle.core_settings.specs.declared.untracked.ShowUntracked.{ShowUntracked}
 use Rattle.gix_glob.specs.Watched.{inner}
-use Rattle.told_paths.specs.declared.quoting.Quoting.{Quoting}
-use Rattle.told_paths.specs.declared.quoting.Quoting.TheVariants.{Full}
+use Rattle.git_paths.specs.declared.quoting.Quoting.{Quoting}
+use Rattle.git_paths.specs.declared.quoting.Quoting.TheVariants.{Full}
 use Rattle.tree_commands.specs.declared.files.mark.Mark.TheVariants as marks
 use Rattle.tree_words.specs.declared.status.StatusFlags.{StatusFlags}
 use Rattle.tree_words.specs.Status.{is_any_ignored, tells_ignored, tells_untracked}

@@ -2,7 +2,7 @@ use Rattle.std.proofs.Common.{rules}
 use Rattle.std.proofs.lemmas.Iterator.Search.{any_from_yields_List}
 use Rattle.std.proofs.lemmas.Iterator.Splits.{YieldsList-from_slice_split}
 use borrow.Author.Tests.{tests}
-use Rattle.told_paths.specs.Paths.{is_slash}
+use Rattle.git_paths.specs.Paths.{is_slash}
 use Rattle.pathspecs.specs.Leading.{is_empty}
 use Rattle.pathspecs.proofs.leading.has_empty_part.Goals as goal
 

@@ -1,7 +1,7 @@
 use Rattle.std.proofs.Common.{arith}
 use Rattle.std.proofs.lemmas.Grind.{common_steps}
 use Rattle.std.specs.Io.{StartsWith}
-use Rattle.told_paths.proofs.lemmas.FrontLemmas.{front_of_front}
+use Rattle.git_paths.proofs.lemmas.FrontLemmas.{front_of_front}
 use Rattle.tree_answers.proofs.lines.append_deciding.Goals as goal
 
 pub returns-clause-kept : goal.returns-clause-kept

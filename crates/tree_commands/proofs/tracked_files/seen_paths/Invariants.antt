@@ -1,7 +1,7 @@
 use Rattle.std.proofs.Common.{◌≡◌, ℕ, List, map, take}
 use Rattle.std.specs.Borrow.{Bor}
 use Rattle.std.specs.Vec.{vec_items}
-use Rattle.told_paths.specs.Standpoints.{shown}
+use Rattle.git_paths.specs.Standpoints.{shown}
 use Rattle.tree_commands.proofs.tracked_files.seen_paths.Given as goal
 
 -- the paths so far, as they are seen

@@ -7,7 +7,7 @@ use Rattle.std.proofs.lemmas.Simd.{map-map}
 use Rattle.git_index.specs.Entries.{Tracked}
 use Rattle.gix_glob.specs.Watched.{inner}
 use Rattle.record_streams.specs.Records.{TextOf}
-use Rattle.told_paths.specs.Standpoints.{shown}
+use Rattle.git_paths.specs.Standpoints.{shown}
 use Rattle.tree_commands.specs.Answering.{Writes}
 use Rattle.tree_commands.specs.CheckIgnore.{IsIgnoreAnswer, question_of}
 use Rattle.tree_commands.specs.declared.check_ignore.flags.IgnoreFlags.{IgnoreFlags}

@@ -2,7 +2,7 @@
 use Rattle.std.proofs.Common.{◌≡◌, List, ap, sym, subst, ◌∙◌}
 use Rattle.gix_glob.specs.declared.pattern.Case.{Case}
 use Rattle.glob_attributes.specs.Macros.{Definition}
-use Rattle.told_paths.specs.declared.standpoint.Standpoint.{Standpoint}
+use Rattle.git_paths.specs.declared.standpoint.Standpoint.{Standpoint}
 use Rattle.tree_answers.specs.declared.form.Form.{Form}
 use Rattle.tree_commands.specs.CheckAttr.{Asked, Files, IsStatesText, Query, macros_for}
 use Rattle.tree_commands.specs.Private.AttributeAnswers.{labels_of}

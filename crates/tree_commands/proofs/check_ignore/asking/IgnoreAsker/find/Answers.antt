@@ -1,7 +1,7 @@
 use Rattle.std.proofs.Common.{◌≡◌, inl, Bool, Some, IfOk, [], rules, false, ap, subst, sym, ◌∙◌}
 use Rattle.std.specs.Option.{option_and_then, option_map_or}
 use Rattle.pathspecs.specs.Leading.{leads, names_folder_so, word_names_folder}
-use Rattle.told_paths.specs.Standpoints.{led}
+use Rattle.git_paths.specs.Standpoints.{led}
 use Rattle.tree_commands.specs.CheckIgnore.{Known, Question, asked_path, told_path}
 use Rattle.tree_commands.specs.Private.Finding.{IsFound}
 use Rattle.tree_commands.proofs.lemmas.IgnoreLemmas.{asked_bare, led_here, none_below, none_held, question_kept, told_plain}

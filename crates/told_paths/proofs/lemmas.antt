@@ -1,9 +1,0 @@
-pub mod FrontLeftLemmas
-pub mod FrontLemmas
-pub mod LaneLemmas
-pub mod LastLemmas
-pub mod NameLemmas
-pub mod PathLemmas
-pub mod QuotedLemmas
-pub mod SeenLemmas
-pub mod UsualLemmas
