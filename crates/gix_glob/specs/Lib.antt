@@ -1,4 +1,3 @@
-pub mod Watched
 pub mod Loading
 pub mod Paths
 pub mod Stripping

@@ -6,10 +6,9 @@ mod parser;
 mod parts;
 pub mod pattern;
 mod reading;
-mod watched;
 
 pub use base::has_file_part;
+pub use byte_streams::Watched;
 pub use fault::LoadFault;
 pub use files::add_patterns_file;
 pub use parser::Pattern;
-pub use watched::Watched;

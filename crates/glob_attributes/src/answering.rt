@@ -1,13 +1,12 @@
 //! A stream of paths, for each of which it is written which states attributes have.
 ghost use Rattle.std.specs.Prelude.{◌≡◌, false};
-ghost use Rattle.gix_glob.specs.Watched.{has_failed, inner};
+ghost use Rattle.byte_streams.specs.Watched.{has_failed, inner};
 ghost use Rattle.glob_attributes.specs.Answers.{IsAnswer};
-ghost use Rattle.record_streams.specs.Records.{TextOf};
-ghost use Rattle.record_streams.specs.Runs.{EndsRun};
+ghost use Rattle.byte_streams.specs.Records.{TextOf};
+ghost use Rattle.byte_streams.specs.Runs.{EndsRun};
 
 use crate::query::AttributeQuery;
-use gix_glob::search::Watched;
-use record_streams::{Answerer, RecordFault, RecordStream};
+use byte_streams::{Answerer, RecordFault, RecordStream, Watched};
 use std::alloc::{AllocError, Global};
 use std::io::{Read, Write};
 use std::marker::{Brand, PhantomData};

@@ -2,7 +2,7 @@
 ghost use Rattle.std.specs.Prelude.{◌≡◌, ◌++◌, IfOk, OnOk, map};
 ghost use Rattle.std.specs.Io.{StartsWith};
 ghost use Rattle.gix_glob.specs.EntryLists.{entry_list_of};
-ghost use Rattle.record_streams.specs.Records.{Adds};
+ghost use Rattle.byte_streams.specs.Records.{Adds};
 ghost use Rattle.glob_attributes.specs.Answers.{IsAnswer, IsAssignedTo, states_text};
 ghost use Rattle.glob_attributes.specs.Views.{seen_assignments};
 

@@ -12,6 +12,5 @@ pub mod NumbersLemmas
 pub mod OneText
 pub mod PathLineLemmas
 pub mod PlainLemmas
-pub mod TransferLemmas
 pub mod TrimLemmas
 pub mod ValuesLemmas

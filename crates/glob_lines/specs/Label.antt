@@ -1,7 +1,8 @@
 -- What the parser of labels means: the readings of what stands before the lines' tabs, with what stands after them as values.
 use Rattle.std.specs.Prelude.{◌≡◌, ◌⊎◌, ℕ, List, [], ◌∷◌, ◌++◌}
 use Rattle.gix_glob.specs.Entries.{Entry}
-use Rattle.glob_lines.specs.Lines.{EndsInFeed, HasNo}
+use Rattle.glob_lines.specs.Lines.{EndsInFeed}
+use Rattle.byte_streams.specs.Records.{HasNo}
 use Rattle.glob_lines.specs.Entries.{Entries, ReadsLine}
 
 -- a pattern with its label, and its number

@@ -1,5 +1,6 @@
 pub mod Decisions
 pub mod Entries
+pub mod Faults
 pub mod Ignore
 pub mod GitLines
 pub mod Label
@@ -9,7 +10,6 @@ pub mod Mappings
 pub mod Numbers
 pub mod PathLines
 pub mod Plain
-pub mod Transfers
 pub mod Values
 pub mod Equations
 pub mod Laws

@@ -1,14 +1,11 @@
 -- The lines of bytes, and texts that have one line for each of them.
 use Rattle.std.specs.Prelude.{◌≡◌, ◌≢◌, ◌⊎◌, ℕ, List, [], ◌∷◌, ◌++◌}
-use Rattle.std.specs.List.{AllByRecursion, AllZip, flat_map}
+use Rattle.std.specs.List.{AllZip, flat_map}
+use Rattle.byte_streams.specs.Records.{HasNo}
 
 -- the byte of a line feed
 abbrev pub line_feed : ℕ
 line_feed = 10
-
--- no byte of the text is this one
-abbrev pub HasNo : ℕ → List ℕ → Type 0
-HasNo byte text = AllByRecursion (λ b. b ≢ byte) text
 
 -- the texts, each followed by a line feed
 abbrev pub text_of_lines : List (List ℕ) → List ℕ

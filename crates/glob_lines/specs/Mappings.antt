@@ -9,7 +9,7 @@ use Rattle.glob_lines.specs.Lines.{WritesLines}
 use Rattle.glob_lines.specs.Numbers.{Picks, text_of_numbers}
 use Rattle.glob_lines.specs.PathLines.{WritesForPath}
 use Rattle.glob_lines.specs.Plain.{Plain, PlainEntry}
-use Rattle.glob_lines.specs.Transfers.{ReadsWhole}
+use Rattle.byte_streams.specs.Transfers.{ReadsWhole}
 
 -- The line has the numbers of the entries that answer for the path under the base of their list, in order, with one space between.
 pub record WritesNumbers (entries : List PlainEntry) (base : Option (List ℕ)) (rules : Rules) (path : List ℕ) (is_dir : Bool) (written : List ℕ) : Type 0 where

@@ -29,5 +29,4 @@ pub use ignore_line::{IgnoreLine, next_ended_line, next_ignore_line, without_byt
 pub use label::LabelLines;
 pub use list::run_list;
 pub use plain::PlainLines;
-pub use transfer::write_whole;
 pub use wild::run_wild;

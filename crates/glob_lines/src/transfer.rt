@@ -1,14 +1,13 @@
-//! Reading a reader to its end, and writing a text whole.
-ghost use Rattle.std.specs.Prelude.{◌≡◌, ◌↔◌, false, IsTrue, IfOk, OnOk, OnErr, IsErrOf, is_err};
+//! What the engines read and write: a reader to its end, and a whole output.
+ghost use Rattle.std.specs.Prelude.{◌≡◌, ◌↔◌, false, IsTrue, IfOk, OnOk, OnErr, IsErrOf};
 ghost use Rattle.std.specs.Io.KnownBytes.{Appends};
-ghost use Rattle.gix_glob.specs.Watched.{has_failed, inner};
-ghost use Rattle.glob_lines.specs.Transfers.{AppendsFront, ReadsWhole};
+ghost use Rattle.byte_streams.specs.Watched.{has_failed, inner};
+ghost use Rattle.byte_streams.specs.Transfers.{AppendsFront, ReadsWhole};
 
 use crate::fault::EngineFault;
-use gix_glob::search::Watched;
+use byte_streams::{Watched, write_whole};
 use std::alloc::Global;
-use std::io;
-use std::io::{ErrorKind, Read, Write};
+use std::io::{Read, Write};
 
 /// How many bytes one read asks for. The piece lies on the stack, so it is small.
 const PIECE: usize = 16 * 1024;
@@ -48,28 +47,4 @@ pub(crate) fn write_output<W: Write>(
     ensures only { OnErr result (IsErrOf result EngineFault.Write) }
 {
     write_whole(writer, text).map_err(|_| EngineFault::Write)
-}
-
-/// Writes the whole text. No call on the writer may have failed before, and a write that fails is not tried again, an interrupted
-/// one neither.
-///
-/// # Errors
-/// The fault of the write that failed, and [`ErrorKind::WriteZero`] where a write took no byte. A beginning of the text was
-/// written.
-pub fn write_whole<W: Write>(writer: &mut Watched<W>, text: &[u8]) -> io::Result<()>
-    requires { has_failed writer.old ≡ false }
-    ensures ok { OnOk result (Appends (W.contents (inner writer.old)) (W.contents (inner writer.new)) text.now) }
-    ensures err { OnErr result
-        (AppendsFront (W.contents (inner writer.old)) (W.contents (inner writer.new)) text.now) }
-    ensures flag { has_failed writer.new ≡ is_err result }
-{
-    let mut at = 0;
-    'pieces: while at < text.len() {
-        match writer.write(&text[at..]) {
-            Ok(0) => return Err(io::Error::from(ErrorKind::WriteZero)),
-            Ok(count) => at += count,
-            Err(error) => return Err(error),
-        }
-    }
-    Ok(())
 }

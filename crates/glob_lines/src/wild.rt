@@ -1,16 +1,17 @@
 //! The engine that matches each line of its input against one pattern.
 ghost use Rattle.std.specs.Prelude.{◌≡◌, [], ◌∷◌, ◌++◌, false, IsTrue, IfOk, OnOk};
 ghost use Rattle.std.specs.Io.KnownBytes.{Appends};
-ghost use Rattle.gix_glob.specs.Watched.{has_failed, inner};
+ghost use Rattle.byte_streams.specs.Watched.{has_failed, inner};
 ghost use Rattle.glob_lines.specs.Lines.{line_feed};
-ghost use Rattle.glob_lines.specs.Transfers.{AppendsFront, ReadsWhole, Run, TellsFaults};
+ghost use Rattle.glob_lines.specs.Faults.{TellsFaults};
+ghost use Rattle.byte_streams.specs.Transfers.{AppendsFront, ReadsWhole, Run};
 ghost use Rattle.glob_lines.specs.Values.{ValuesText};
 ghost use Rattle.glob_lines.specs.Private.Answering.{word_of};
 
 use crate::fault::EngineFault;
 use crate::lines::Lines;
 use crate::transfer::{read_whole, write_output};
-use gix_glob::search::Watched;
+use byte_streams::Watched;
 use gix_glob::wildmatch::{Mode, wildmatch};
 use std::alloc::{AllocError, Global};
 use std::io::{Read, Write};

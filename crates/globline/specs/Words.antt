@@ -10,7 +10,7 @@ use Rattle.gix_glob.specs.Paths.{Base, has_file_part}
 use Rattle.glob_lines.specs.Decisions.{DecisionsText}
 use Rattle.glob_lines.specs.Ignore.{Ignore}
 use Rattle.glob_lines.specs.Mappings.{MappingsText}
-use Rattle.glob_lines.specs.Transfers.{ReadsWhole, Run}
+use Rattle.byte_streams.specs.Transfers.{ReadsWhole, Run}
 use Rattle.glob_lines.specs.Values.{ValuesText}
 use Rattle.globline.specs.declared.command.Command.{Command}
 use Rattle.globline.specs.declared.command.Command.TheVariants as command

@@ -5,7 +5,7 @@ mod command;
 mod ignore_files;
 mod words;
 
-use gix_glob::search::Watched;
+use byte_streams::Watched;
 use program_start::{command_line, stand_ins};
 use std::process::ExitCode;
 pub use words::run_words;

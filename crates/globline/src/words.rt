@@ -1,8 +1,8 @@
 //! The words of the command line: what they ask for, and the status that the program ends with.
 ghost use Rattle.std.specs.Prelude.{◌≡◌, ◌≢◌, ◌⊎◌, ◌≤◌, ◌↔◌, ℕ, List, false, map, string_bytes, OnOk, OnErr};
 ghost use Rattle.std.specs.Io.KnownBytes.{Appends};
-ghost use Rattle.gix_glob.specs.Watched.{has_failed, inner};
-ghost use Rattle.glob_lines.specs.Transfers.{AppendsFront, ReadsWhole, Run};
+ghost use Rattle.byte_streams.specs.Watched.{has_failed, inner};
+ghost use Rattle.byte_streams.specs.Transfers.{AppendsFront, ReadsWhole, Run};
 ghost use Rattle.globline.specs.Words.{AnswersCommand, AnswersWords, AreWrong, Ask, usage};
 
 #[cfg(test)]
@@ -10,7 +10,7 @@ mod tests;
 
 use crate::command::{Command, command_of};
 use crate::ignore_files::lists_of;
-use gix_glob::search::Watched;
+use byte_streams::Watched;
 use glob_lines::{EngineFault, run_ignore, run_list, run_wild};
 use std::alloc::Global;
 use std::fs;

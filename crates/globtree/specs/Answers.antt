@@ -11,12 +11,12 @@ use Rattle.git_index.specs.Entries.{Tracked}
 use Rattle.gix_glob.specs.EntryLists.{EntryList}
 use Rattle.gix_glob.specs.declared.pattern.Case.{Case}
 use Rattle.gix_glob.specs.declared.pattern.Case.TheVariants.{Fold, Sensitive}
-use Rattle.glob_lines.specs.Transfers.{ReadsWhole, Run}
+use Rattle.byte_streams.specs.Transfers.{ReadsWhole, Run}
 use Rattle.glob_lists.specs.declared.rules.Rules.{Rules}
 use Rattle.glob_lists.specs.Rules.{by_git}
 use Rattle.glob_trees.specs.Ways.{Folder}
 use Rattle.pathspecs.specs.Leading.{word_front, word_leads}
-use Rattle.record_streams.specs.Records.{AnswersAll}
+use Rattle.byte_streams.specs.Records.{AnswersAll}
 use Rattle.git_paths.specs.declared.quoting.Quoting.{Quoting}
 use Rattle.git_paths.specs.declared.standpoint.Standpoint.{Standpoint}
 use Rattle.tree_answers.specs.Lines.{behind}

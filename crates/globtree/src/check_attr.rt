@@ -2,7 +2,7 @@
 ghost use Rattle.std.specs.Prelude.{◌≡◌, ◌⊎◌, ℕ, List, if◌then◌else◌, IfOk, MatchOption, false, true, map, string_bytes};
 ghost use Rattle.std.specs.Borrow.{Bor};
 ghost use Rattle.std.specs.List.{AllByRecursion};
-ghost use Rattle.gix_glob.specs.Watched.{has_failed, inner};
+ghost use Rattle.byte_streams.specs.Watched.{has_failed, inner};
 ghost use Rattle.glob_attributes.specs.Names.{is_name};
 ghost use Rattle.tree_commands.specs.CheckAttr.{all, named};
 ghost use Rattle.globtree.specs.Answers.{AnswersAttr, case_by};
@@ -14,7 +14,7 @@ use crate::fronts::case_of;
 use crate::outcomes::{ANSWERED, answer_of};
 use crate::outer_attributes::{OuterAttributes, outer_attributes};
 use crate::wrong_words::tell_misuse;
-use gix_glob::search::Watched;
+use byte_streams::Watched;
 use glob_attributes::is_name;
 use std::alloc::Global;
 use std::io::{Read, Write};

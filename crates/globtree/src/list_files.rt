@@ -1,7 +1,7 @@
 //! The command `files`.
 ghost use Rattle.std.specs.Prelude.{◌≡◌, ◌&&◌, ◌||◌, not, if◌then◌else◌, IfOk, MatchBool, OnOk, length, map};
 ghost use Rattle.gix_glob.specs.EntryLists.{entry_list_of};
-ghost use Rattle.gix_glob.specs.Watched.{inner};
+ghost use Rattle.byte_streams.specs.Watched.{inner};
 ghost use Rattle.glob_lists.specs.Rules.{by_git};
 ghost use Rattle.tree_commands.specs.declared.files.mark.Mark.TheVariants as marks;
 ghost use Rattle.globtree.specs.Answers.{AnswersFiles, AreFronts, ListsFound, ListsIgnored, ListsTracked, case_by};
@@ -17,8 +17,8 @@ use crate::listing::{copies_of, run_listing};
 use crate::opening::Purpose;
 use crate::outcomes::ANSWERED;
 use crate::told_name::{refuse_beyond_link, refuse_pattern};
+use byte_streams::Watched;
 use git_paths::Standpoint;
-use gix_glob::search::Watched;
 use std::alloc::{AllocError, Global};
 use std::io::Write;
 use std::rt::{Clock, Env, Files};

@@ -2,7 +2,7 @@
 ghost use Rattle.std.specs.Prelude.{◌≡◌, ℕ, IfOk, List, OnOk, Some, false, map, take};
 ghost use Rattle.std.specs.Borrow.{Bor};
 ghost use Rattle.gix_glob.specs.EntryLists.{entry_list_of};
-ghost use Rattle.gix_glob.specs.Watched.{has_failed, inner};
+ghost use Rattle.byte_streams.specs.Watched.{has_failed, inner};
 ghost use Rattle.tree_commands.specs.TrackedFiles.{paths_asked};
 ghost use Rattle.globtree.specs.Answers.{AreFronts, ListsIgnored, ListsIndex, ListsTracked};
 
@@ -11,9 +11,9 @@ use crate::moving::go_to_folders;
 use crate::outcomes::answer_of;
 use crate::told_name::refuse_pattern;
 use crate::work_tree::index_place;
+use byte_streams::Watched;
 use git_index::Index;
 use git_paths::Standpoint;
-use gix_glob::search::Watched;
 use glob_lines::GitIgnoreLines;
 use glob_trees::Tree;
 use std::alloc::Global;

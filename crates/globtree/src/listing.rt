@@ -1,15 +1,15 @@
 //! A listing of the files that are found, as it is run for a command.
 ghost use Rattle.std.specs.Prelude.{◌≡◌, IfOk, length};
 ghost use Rattle.std.specs.List.{AllZip};
-ghost use Rattle.gix_glob.specs.Watched.{inner};
+ghost use Rattle.byte_streams.specs.Watched.{inner};
 ghost use Rattle.globtree.specs.Answers.{ListsFound};
 ghost use Rattle.globtree.specs.Running.{IsAnswered};
 
 use crate::fault::{Fault, Result};
 use crate::fronts::Fronts;
 use crate::outcomes::ANSWERED;
+use byte_streams::Watched;
 use git_paths::LeadFault;
-use gix_glob::search::Watched;
 use glob_lines::GitIgnoreLines;
 use glob_lists::PreparedList;
 use repository_files::{DiskFiles, RepositoryVariables, User};

@@ -25,7 +25,7 @@ mod tracked;
 mod work_tree;
 mod wrong_words;
 
-use gix_glob::search::Watched;
+use byte_streams::Watched;
 use program_start::{command_line, stand_ins};
 pub use running::run_words;
 use std::io::IsTerminal;

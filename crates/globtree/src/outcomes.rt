@@ -2,7 +2,7 @@
 ghost use Rattle.std.specs.Prelude.{◌≡◌, IsErr, MatchResult, Ok, if◌then◌else◌};
 
 use crate::fault::{Fault, Result};
-use record_streams::RecordFault;
+use byte_streams::RecordFault;
 use std::alloc::AllocError;
 use tree_files::CheckFault;
 

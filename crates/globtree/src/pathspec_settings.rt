@@ -1,10 +1,10 @@
 //! The variables of the environment by which Git reads pathspecs otherwise: none that is true is taken.
 ghost use Rattle.std.specs.Prelude.{◌≡◌, [], IfOk, IsTrue, OnOk, false};
 ghost use Rattle.std.specs.Io.KnownBytes.{Consumes};
-ghost use Rattle.gix_glob.specs.Watched.{has_failed, inner};
+ghost use Rattle.byte_streams.specs.Watched.{has_failed, inner};
 
 use crate::fault::{Fault, Result};
-use gix_glob::search::Watched;
+use byte_streams::Watched;
 use repository_files::is_true;
 use std::alloc::Global;
 use std::io;

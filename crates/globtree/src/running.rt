@@ -1,7 +1,7 @@
 //! What the words ask for, done.
 ghost use Rattle.std.specs.Prelude.{◌≡◌, ◌≢◌, ◌⊎◌, IfOk, OnOk, false, map, string_bytes};
 ghost use Rattle.std.specs.Io.KnownBytes.{Appends};
-ghost use Rattle.gix_glob.specs.Watched.{has_failed, inner};
+ghost use Rattle.byte_streams.specs.Watched.{has_failed, inner};
 ghost use Rattle.tree_words.specs.Words.{AreWrong};
 ghost use Rattle.globtree.specs.Answers.{AnswersCommand, AnswersWords};
 ghost use Rattle.globtree.specs.Running.{IsAnswered, IsRefused, IsStatus};
@@ -14,7 +14,7 @@ use crate::outcomes::ANSWERED;
 use crate::show_config::show_config;
 use crate::show_status::show_status;
 use crate::wrong_words::{tell_no_text, tell_word_fault};
-use gix_glob::search::Watched;
+use byte_streams::Watched;
 use std::alloc::Global;
 use std::io::{ErrorKind, Read, Write};
 use std::rt::{Clock, Env, Files};

@@ -1,6 +1,6 @@
 //! The command `status`.
 ghost use Rattle.std.specs.Prelude.{◌≡◌, [], IfOk, map, string_bytes};
-ghost use Rattle.gix_glob.specs.Watched.{inner};
+ghost use Rattle.byte_streams.specs.Watched.{inner};
 ghost use Rattle.tree_words.specs.Operands.{operands_among};
 ghost use Rattle.globtree.specs.Answers.{AnswersStatus, IsAtTop};
 ghost use Rattle.globtree.specs.Running.{IsAnswered, flags_by, form_by, ignored_folders, named_if_normal, status_folders, untracked_by};
@@ -11,9 +11,9 @@ use crate::index_use::{IndexUse, take_from_index};
 use crate::listing::{copies_of, run_listing};
 use crate::opening::Purpose;
 use crate::outcomes::ANSWERED;
+use byte_streams::Watched;
 use core_settings::ShowUntracked;
 use git_paths::Standpoint;
-use gix_glob::search::Watched;
 use std::alloc::Global;
 use std::io::Write;
 use std::rt::{Clock, Env, Files};

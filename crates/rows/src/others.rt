@@ -6,7 +6,7 @@ use anyhow::Result;
 use git_repository::trusts;
 use gix_glob::search::Watched;
 use pathspecs::Pathspec;
-use record_streams::{Answerer, RecordStream};
+use byte_streams::{Answerer, RecordStream};
 use std::alloc::{AllocError, Global};
 
 /// Answers a record by the record in brackets.

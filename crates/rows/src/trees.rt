@@ -10,7 +10,7 @@ use gix_glob::search::{Pattern as _, Watched};
 use glob_lines::GitIgnoreLines;
 use glob_lists::{RepositoryPath, Rules};
 use glob_trees::{FolderLists, Tree, list_in_folder};
-use record_streams::RecordFault;
+use byte_streams::RecordFault;
 use std::alloc::{AllocError, Global};
 use tracked_paths::TrackedPaths;
 use tree_answers::Form;

@@ -2,14 +2,14 @@
 ghost use Rattle.std.specs.Prelude.{◌≡◌, IfOk, OnErr, OnOk};
 ghost use Rattle.std.specs.Io.{StartsWith};
 ghost use Rattle.std.specs.List.{AllByRecursion, before_first};
-ghost use Rattle.record_streams.specs.Records.{Adds, GrowsBy, StaysAllowed, answered_by, fault_of};
+ghost use Rattle.byte_streams.specs.Records.{Adds, GrowsBy, StaysAllowed, answered_by, fault_of};
 ghost use Rattle.tree_answers.specs.Records.{AccountsFor, IsRefusal, IsTextOf, NamesPath, begins_with_quote, is_zero};
 
 use crate::form::Form;
+use byte_streams::Answerer;
 use git_paths::are_usual_names;
 use glob_attributes::read_quoted;
 use memchr::memchr;
-use record_streams::Answerer;
 use std::alloc::{AllocError, Global};
 use std::marker::{Brand, PhantomData};
 use thiserror::Error;
@@ -20,7 +20,7 @@ pub trait PathAnswerer: Drop {
     ghost use Rattle.std.specs.Io.{StartsWith};
     ghost use Rattle.std.specs.List.{list_any};
     ghost use Rattle.glob_lists.specs.Paths.{IsPlainPath};
-    ghost use Rattle.record_streams.specs.Records.{Adds, GrowsBy, StaysAllowed, answered_by};
+    ghost use Rattle.byte_streams.specs.Records.{Adds, GrowsBy, StaysAllowed, answered_by};
     ghost use Rattle.git_paths.specs.declared.quoting.Quoting.TheVariants.{Full};
     ghost use Rattle.git_paths.specs.Quoting.{is_unusual};
     ghost use Rattle.tree_answers.specs.Records.{LeadsAsTold};

@@ -1,7 +1,7 @@
 -- Told paths that are answered one after the other: those that records name, or those of words.
 use Rattle.std.specs.Prelude.{◌≡◌, ℕ, Bool, if◌then◌else◌, List, [], ◌∷◌, ◌++◌, Option}
 use Rattle.std.specs.Io.KnownBytes.{Appends}
-use Rattle.record_streams.specs.Records.{TextOf}
+use Rattle.byte_streams.specs.Records.{TextOf}
 use Rattle.tree_answers.specs.declared.form.Form.{Form}
 use Rattle.tree_answers.specs.Records.{AccountsFor, IsTextOf}
 

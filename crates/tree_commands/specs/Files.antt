@@ -12,7 +12,7 @@ use Rattle.gix_glob.specs.declared.pattern.Case.TheVariants.{Sensitive, Fold}
 use Rattle.gix_glob.specs.declared.search.pattern.list.List as patterns
 use Rattle.gix_glob.specs.Bytes.{EndsInSlash, slash}
 use Rattle.gix_glob.specs.EntryLists.{EntryList, entry_list_of}
-use Rattle.glob_lines.specs.Lines.{HasNo}
+use Rattle.byte_streams.specs.Records.{HasNo}
 use Rattle.glob_lists.specs.Paths.{IsPlainPath}
 use Rattle.glob_trees.specs.Trees.{IsAbove}
 use Rattle.glob_trees.specs.Ways.{Folder, folders_to, start_of, with_entries}

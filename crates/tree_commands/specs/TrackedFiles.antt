@@ -9,7 +9,7 @@ use Rattle.git_index.specs.Entries.{Tracked}
 use Rattle.gix_glob.specs.Bytes.{slash}
 use Rattle.gix_glob.specs.EntryLists.{EntryList}
 use Rattle.glob_trees.specs.Ways.{Folder}
-use Rattle.record_streams.specs.Records.{TextOf}
+use Rattle.byte_streams.specs.Records.{TextOf}
 use Rattle.git_paths.specs.declared.standpoint.Standpoint.{Standpoint}
 use Rattle.git_paths.specs.Paths.{names_folder, parts_of}
 use Rattle.git_paths.specs.Standpoints.{led, shown}

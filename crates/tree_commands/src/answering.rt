@@ -2,20 +2,18 @@
 ghost use Rattle.std.specs.Prelude.{◌≡◌, false, if◌then◌else◌, [], map, Err, IfErr, IsOk, OnErr, OnOk};
 ghost use Rattle.std.specs.Io.KnownBytes.{Appends};
 ghost use Rattle.std.specs.List.{AllByRecursion};
-ghost use Rattle.gix_glob.specs.Watched.{has_failed, inner};
-ghost use Rattle.glob_lines.specs.Transfers.{AppendsFront};
-ghost use Rattle.record_streams.specs.Faults.{is_write_fault, told_refusal};
-ghost use Rattle.record_streams.specs.Records.{Adds, TextOf, TextOfAnswered};
-ghost use Rattle.record_streams.specs.Runs.{EndsRun};
+ghost use Rattle.byte_streams.specs.Watched.{has_failed, inner};
+ghost use Rattle.byte_streams.specs.Transfers.{AppendsFront};
+ghost use Rattle.byte_streams.specs.Faults.{is_write_fault, told_refusal};
+ghost use Rattle.byte_streams.specs.Records.{Adds, TextOf, TextOfAnswered};
+ghost use Rattle.byte_streams.specs.Runs.{EndsRun};
 ghost use Rattle.tree_answers.specs.Lines.{behind};
 ghost use Rattle.tree_answers.specs.Records.{IsRefusal, IsTextOf};
 ghost use Rattle.tree_commands.specs.Answering.{IsTextOfFirst, StopsAt, TextOfNamed, TextOfPaths, Writes};
 ghost use Rattle.tree_commands.specs.Private.Answering.{FailsAt};
 
+use byte_streams::{RecordFault, RecordStream, Watched, write_whole};
 use git_paths::are_usual_names;
-use gix_glob::search::Watched;
-use glob_lines::write_whole;
-use record_streams::{RecordFault, RecordStream};
 use std::alloc::Global;
 use std::io::{Read, Write};
 use std::marker::{Brand, PhantomData};

@@ -1,6 +1,6 @@
 //! Reading a source whole, by a loop of reads that tries none of them again.
 ghost use Rattle.std.specs.Prelude.{◌≡◌, ◌||◌, OnOk, IfSome};
-ghost use Rattle.gix_glob.specs.Watched.{has_failed, inner};
+ghost use Rattle.byte_streams.specs.Watched.{has_failed, inner};
 ghost use Rattle.gix_glob.specs.Loading.{IsBeginningOf};
 ghost use Rattle.gix_glob.specs.Private.Reading.{is_read_fault};
 

@@ -12,14 +12,15 @@ use Rattle.gix_glob.specs.Equations.Readings.{Reading}
 use Rattle.gix_glob.specs.Equations.GitLines.{git_reading_of}
 use Rattle.glob_lines.specs.GitLines.{BeginsWithGitLine, GivesGitText, GivesNothing, before_zero, return_of}
 use Rattle.glob_lines.specs.Ignore.{is_comment, without_mark}
-use Rattle.glob_lines.specs.Lines.{CutsLine, EndsInFeed, HasNo, line_feed}
+use Rattle.glob_lines.specs.Lines.{CutsLine, EndsInFeed, line_feed}
+use Rattle.byte_streams.specs.Records.{HasNo, IsCutAt}
 use Rattle.glob_lines.specs.Equations.Entries.{LineContent}
 use Rattle.glob_lines.specs.Equations.GitLines.{git_content, git_reading, git_text, is_silent, without_return}
 use Rattle.glob_lines.specs.Equations.Ignore.{text_before_spaces}
 use Rattle.glob_lines.specs.Equations.Lines.{lines_of}
 use Rattle.glob_lines.proofs.lemmas.EntriesLemmas.{Tells, TellsReadings}
 use Rattle.glob_lines.proofs.lemmas.IgnoreLemmas.{before_return, length-without_mark-le}
-use Rattle.glob_lines.proofs.lemmas.LinesLemmas.{IsCutAt, first_line_cut, length-lines_of-le}
+use Rattle.glob_lines.proofs.lemmas.LinesLemmas.{first_line_cut, length-lines_of-le}
 use Rattle.glob_lines.proofs.lemmas.TrimLemmas.{Trims-only, Trims-text_before_spaces}
 
 -- the law `git_readings_are_these`, restated: a lemma can't cite a clause

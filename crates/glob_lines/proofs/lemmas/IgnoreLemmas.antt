@@ -7,7 +7,8 @@ use Rattle.std.proofs.lemmas.Bool.Decides.{Decides-eqb}
 use Rattle.std.proofs.lemmas.List.{append_cancel_left}
 use Rattle.std.proofs.lemmas.Slice.Eq.{ends_is}
 use Rattle.std.proofs.lemmas.Bool.{cases_Bool, false≢true, ne_eqb}
-use Rattle.glob_lines.specs.Lines.{CutsLine, EndsInFeed, HasNo, line_feed}
+use Rattle.glob_lines.specs.Lines.{CutsLine, EndsInFeed, line_feed}
+use Rattle.byte_streams.specs.Records.{HasNo, IsCutAt}
 use Rattle.glob_lines.specs.Equations.Lines.{lines_of}
 use Rattle.glob_lines.specs.Equations.Entries.{LineContent}
 use Rattle.glob_lines.specs.Private.Trimming.{ends_in_return}
@@ -15,7 +16,7 @@ use Rattle.glob_lines.specs.GitLines.{return_of}
 use Rattle.glob_lines.specs.Ignore.{BeginsWithLine, EndsIgnoreLine, GivesTrimmed, Trims, is_comment, without_mark}
 use Rattle.glob_lines.specs.Equations.Ignore.{carriage_return, ignore_content, text_before_spaces, without_returns}
 use Rattle.glob_lines.proofs.lemmas.ListLemmas.{AllByRecursion-append_parts}
-use Rattle.glob_lines.proofs.lemmas.LinesLemmas.{CutsLine-by, CutsLine-open, CutsLine-shorter, HasLine, IsCutAt, TellsLines, has_line, length-lines_of-le, lines_of-last, lines_of-line}
+use Rattle.glob_lines.proofs.lemmas.LinesLemmas.{CutsLine-by, CutsLine-open, CutsLine-shorter, HasLine, TellsLines, has_line, length-lines_of-le, lines_of-last, lines_of-line}
 use Rattle.glob_lines.proofs.lemmas.EntriesLemmas.{Tells}
 use Rattle.glob_lines.proofs.lemmas.TrimLemmas.{Trims-only, Trims-text_before_spaces}
 

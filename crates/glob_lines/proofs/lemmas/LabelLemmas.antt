@@ -12,12 +12,14 @@ use Rattle.glob_lines.specs.Entries.{ReadsLine}
 use Rattle.glob_lines.specs.Label.{GivesLabel, Label, tab}
 use Rattle.glob_lines.specs.Laws.Label.{entry_with_empty_label}
 use Rattle.glob_lines.specs.Equations.Label.{is_tab, label_of, label_content}
-use Rattle.glob_lines.specs.Lines.{EndsInFeed, HasNo, line_feed}
+use Rattle.glob_lines.specs.Lines.{EndsInFeed, line_feed}
+use Rattle.byte_streams.specs.Records.{HasNo}
 use Rattle.glob_lines.specs.Equations.Lines.{lines_of}
 use Rattle.glob_lines.specs.Equations.Entries.{LineContent, entries_from, entry_of_content, entry_of_line, line_reading}
 use Rattle.glob_lines.specs.Plain.{GivesItself, Plain, PlainEntry}
 use Rattle.glob_lines.specs.Equations.Plain.{plain_content}
-use Rattle.glob_lines.proofs.lemmas.LinesLemmas.{HasNo-not_found, IsCutAt-found, TellsLines-lines_of}
+use Rattle.glob_lines.proofs.lemmas.LinesLemmas.{TellsLines-lines_of}
+use Rattle.byte_streams.proofs.lemmas.CutLemmas.{HasNo-not_found, IsCutAt-found}
 use Rattle.glob_lines.proofs.lemmas.EntriesLemmas.{Entries-are, Entries-only, ReadingsAreThese, Tells, TellsReadings-line}
 use Rattle.glob_lines.proofs.lemmas.PlainLemmas.{Tells-plain_content}
 

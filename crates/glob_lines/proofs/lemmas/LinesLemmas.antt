@@ -1,12 +1,12 @@
 -- The lines of bytes: the relation and the equations agree.
-use Rattle.std.proofs.Common.{◌≡◌, ◌≢◌, inl, inr, ⊎_elim, ℕ, zero, suc, ◌+◌, ◌<◌, ◌≤◌, cond, List, [], ◌∷◌, ◌++◌, length, length-append, take, drop, get_or, Some, None, refl, sym, ap, subst, ◌∙◌, append_assoc, append-nil, le_refl, take_all, take-append-drop, arith}
+use Rattle.std.proofs.Common.{◌≡◌, ◌≢◌, inl, inr, ⊎_elim, ℕ, zero, suc, ◌+◌, ◌<◌, ◌≤◌, cond, List, [], ◌∷◌, ◌++◌, length, length-append, take, drop, Some, None, refl, sym, ap, subst, ◌∙◌, append_assoc, append-nil, le_refl, arith}
 use Rattle.std.specs.List.{AllZip, onto_first}
-use Rattle.std.proofs.lemmas.Bool.{ne_eqb, eqb-true, eq-eqb}
+use Rattle.std.proofs.lemmas.Bool.{ne_eqb}
 use Rattle.std.proofs.lemmas.Bool.Decides.{eqb_tells}
-use Rattle.std.proofs.lemmas.List.{drop_more, flat_map_more}
+use Rattle.std.proofs.lemmas.List.{flat_map_more}
 use Rattle.std.proofs.lemmas.List.Elements.{AllZip-push}
-use Rattle.memchr.specs.Find.{IsFirstByte, is_byte}
-use Rattle.glob_lines.specs.Lines.{CutsLine, EndsInFeed, HasNo, Lines, WritesLines, line_feed, text_of_lines}
+use Rattle.glob_lines.specs.Lines.{CutsLine, EndsInFeed, Lines, WritesLines, line_feed, text_of_lines}
+use Rattle.byte_streams.specs.Records.{HasNo}
 use Rattle.glob_lines.specs.Equations.Lines.{lines_of}
 
 -- ---- the equations, a line at a time
@@ -24,32 +24,6 @@ pub lines_of-last : (text : List ℕ) → text ≢ [] → HasNo line_feed text �
 lines_of-last [] some h = absurd (some refl)
 lines_of-last (b ∷ []) some h = lines_of-cons b [] h.0
 lines_of-last (b ∷ c ∷ text) some h = lines_of-cons b (c ∷ text) h.0 ∙ ap (onto_first b) (lines_of-last (c ∷ text) (λ e. cc) h.1)
-
--- the bytes before place k don't hold this byte
-pub HasNo-take : (byte : ℕ) (bytes : List ℕ) (k : ℕ) → ((j : ℕ) → j < k → get_or bytes j 0 ≢ byte) → HasNo byte (take k bytes)
-HasNo-take byte bytes zero h = tt
-HasNo-take byte [] (suc k) h = tt
-HasNo-take byte (b ∷ bytes) (suc k) h = (h 0 (omega arith), HasNo-take byte bytes k (λ j below. h (suc j) (omega arith)))
-
--- ---- what a search for a byte tells
-
--- the bytes before the first of this byte, and what follows it
-pub record IsCutAt (byte : ℕ) (bytes front rest : List ℕ) : Type 0 where
-  pub none : HasNo byte front
-  pub joined : bytes ≡ front ++ byte ∷ rest
-
-pub IsCutAt-found : (byte : ℕ) (bytes : List ℕ) (place : ℕ) → IsFirstByte (is_byte byte) bytes (Some place) → IsCutAt byte bytes (take place bytes) (drop (place + 1) bytes)
-IsCutAt-found byte bytes place h =
-    let inside : place < length bytes = h.0.high in
-    let here : get_or bytes place 0 ≡ byte = eqb-true _ _ h.1 in
-    record {
-      none = HasNo-take byte bytes place (λ j below is. h.0.before j (omega arith) below (eq-eqb _ _ is));
-      joined = sym (take-append-drop place bytes) ∙ ap (λ l. take place bytes ++ l) (drop_more bytes place 0 inside ∙ ap (λ c. c ∷ drop (place + 1) bytes) here);
-    }
-
-pub HasNo-not_found : (byte : ℕ) (bytes : List ℕ) → IsFirstByte (is_byte byte) bytes None → HasNo byte bytes
-HasNo-not_found byte bytes h =
-    subst (HasNo byte) (take_all (length bytes) bytes (le_refl _)) (HasNo-take byte bytes (length bytes) (λ j below is. h j (omega arith) below (eq-eqb _ _ is)))
 
 -- ---- the relation and the equations
 

@@ -8,7 +8,7 @@ use Rattle.gix_glob.specs.declared.wildmatch.Mode.{Mode}
 use Rattle.gix_glob.specs.EntryLists.{EntryList}
 use Rattle.glob_lines.specs.Decisions.{DecisionsText}
 use Rattle.glob_lines.specs.Mappings.{MappingsText, ReadsBoth}
-use Rattle.glob_lines.specs.Transfers.{ReadsWhole, Run}
+use Rattle.byte_streams.specs.Transfers.{ReadsWhole, Run}
 use Rattle.glob_lines.specs.Values.{ValuesText}
 use Rattle.glob_lines.specs.declared.fault.EngineFault.{EngineFault}
 use Rattle.glob_lines.specs.declared.fault.EngineFault.TheVariants.{Memory, Read, Write}

@@ -1,7 +1,7 @@
 //! What the program answers to its words: the status, the output and what is told.
 
 use super::{run_words, without_words};
-use gix_glob::search::Watched;
+use byte_streams::Watched;
 use std::alloc::{AllocError, Global};
 use std::fs;
 use std::io::ErrorKind;

@@ -5,8 +5,7 @@ use Rattle.std.specs.List.{AllZip, before_first, list_any, starts_with}
 use Rattle.std.proofs.lemmas.Bool.{cases_Bool, false≢true}
 use Rattle.std.proofs.lemmas.Bool.Decides.{Decides-eqb}
 use Rattle.std.proofs.lemmas.Slice.Eq.{starts_is}
-use Rattle.glob_lines.specs.Lines.{HasNo}
-use Rattle.record_streams.specs.Records.{Adds, GrowsBy, answered_by}
+use Rattle.byte_streams.specs.Records.{Adds, GrowsBy, HasNo, answered_by}
 use Rattle.git_paths.specs.declared.quoting.Quoting.TheVariants.{Full}
 use Rattle.git_paths.specs.Quoting.{is_unusual}
 use Rattle.tree_answers.specs.declared.form.Form.{Form}

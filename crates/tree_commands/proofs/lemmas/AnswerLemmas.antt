@@ -3,8 +3,8 @@ use Rattle.std.proofs.Common.{◌≡◌, ℕ, suc, ◌+◌, ◌<◌, List, [], �
 use Rattle.std.proofs.Math.Seq.{drop-cons}
 use Rattle.std.specs.List.{AllZip}
 use Rattle.std.proofs.lemmas.List.{map-append, take-append-drop, take_more}
-use Rattle.record_streams.specs.Records.{Adds, GrowsBy, StaysAllowed, TextOf, TextOfAnswered}
-use Rattle.record_streams.proofs.lemmas.RecordLemmas.{answered_further, answered_no_more, answered_one}
+use Rattle.byte_streams.specs.Records.{Adds, GrowsBy, StaysAllowed, TextOf, TextOfAnswered}
+use Rattle.byte_streams.proofs.lemmas.RecordLemmas.{answered_further, answered_no_more, answered_one}
 
 pub AllZip-weaker : {A B : Type 0} (R S : A → B → Type 0) → ((x : A) (y : B) → R x y → S x y) → (xs : List A) (ys : List B) → AllZip R xs ys → AllZip S xs ys
 AllZip-weaker R S on [] [] h = tt

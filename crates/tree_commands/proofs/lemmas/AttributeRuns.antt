@@ -3,12 +3,12 @@ use Rattle.std.proofs.Common.{◌≡◌, ℕ, Bool, false, List, [], Option, Err
 use Rattle.std.proofs.KnownBytes.{Appends-nil, Consumes-nil}
 use Rattle.std.proofs.lemmas.Bool.{false≢true}
 use Rattle.std.specs.Io.KnownBytes.{Appends, Consumes}
-use Rattle.glob_lines.specs.Transfers.{AppendsFront, Run}
-use Rattle.record_streams.specs.declared.fault.RecordFault.TheVariants.{Memory}
-use Rattle.record_streams.specs.Records.{AnswersFirst, TextOf}
-use Rattle.record_streams.proofs.lemmas.RunLemmas.{Run-cut}
-use Rattle.record_streams.proofs.lemmas.StreamLemmas.{AppendsFront-whole}
-use Rattle.record_streams.specs.Runs.{EndsRun}
+use Rattle.byte_streams.specs.Transfers.{AppendsFront, Run}
+use Rattle.byte_streams.specs.declared.fault.RecordFault.TheVariants.{Memory}
+use Rattle.byte_streams.specs.Records.{AnswersFirst, TextOf}
+use Rattle.byte_streams.proofs.lemmas.RunLemmas.{Run-cut}
+use Rattle.byte_streams.proofs.lemmas.StreamLemmas.{AppendsFront-whole}
+use Rattle.byte_streams.specs.Runs.{EndsRun}
 use Rattle.tree_commands.specs.Answering.{IsTextOfFirst, Writes}
 
 none_answered : (Answers : List ℕ → List ℕ → Type 0) → TextOf Answers [] []

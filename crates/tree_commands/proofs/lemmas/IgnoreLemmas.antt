@@ -14,7 +14,7 @@ use Rattle.gix_glob.specs.EntryLists.{EntryList, entry_list_of}
 use Rattle.glob_lists.specs.Paths.{IsPlainPath}
 use Rattle.glob_trees.specs.TreeParts.{HasMappingAt, TreeParts}
 use Rattle.glob_trees.specs.Ways.{AreOnTheWay, Folder, IsListOf}
-use Rattle.record_streams.specs.Records.{Adds, GrowsBy, StaysAllowed, answered_by}
+use Rattle.byte_streams.specs.Records.{Adds, GrowsBy, StaysAllowed, answered_by}
 use Rattle.pathspecs.specs.Leading.{word_front, word_leads}
 use Rattle.git_paths.specs.declared.standpoint.Standpoint.{Standpoint}
 use Rattle.git_paths.specs.Paths.{parts_of, walk}

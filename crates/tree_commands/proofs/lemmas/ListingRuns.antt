@@ -8,7 +8,7 @@ use Rattle.std.proofs.lemmas.List.{flat_map_more, length-take-le, take-take, tak
 use Rattle.git_index.specs.Entries.{IsTracked}
 use Rattle.gix_glob.specs.Bytes.{EndsInSlash}
 use Rattle.gix_glob.specs.EntryLists.{EntryList}
-use Rattle.glob_lines.specs.Transfers.{AppendsFront}
+use Rattle.byte_streams.specs.Transfers.{AppendsFront}
 use Rattle.glob_trees.specs.Ways.{Folder, GivesOnly, start_of}
 use Rattle.tree_commands.specs.declared.files.choosing.Chosen.TheVariants.{Ignored}
 use Rattle.tree_commands.specs.declared.files.pending.Pending.{Pending}

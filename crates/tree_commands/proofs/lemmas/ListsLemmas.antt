@@ -6,7 +6,7 @@ use Rattle.std.proofs.lemmas.Option.{same_Some}
 use Rattle.gix_glob.specs.Bytes.{slash}
 use Rattle.gix_glob.specs.declared.search.pattern.list.List as patterns
 use Rattle.gix_glob.specs.EntryLists.{EntryList, entry_list_of}
-use Rattle.glob_lines.specs.Lines.{HasNo}
+use Rattle.byte_streams.specs.Records.{HasNo}
 use Rattle.glob_lists.specs.Deciding.{BasesAreFolders, HasFolder}
 use Rattle.glob_trees.specs.Ways.{Folder, base_of_folder, folders_to, start_of, unless_empty, with_entries}
 use Rattle.glob_trees.proofs.lemmas.WayLemmas.{folders_other, folders_slash}

@@ -6,7 +6,7 @@ use Rattle.std.specs.Ordering.{MatchOrdering, nat_cmp, ordering_then}
 use Rattle.std.specs.declared.cmp.Ordering.{Ordering}
 use Rattle.std.specs.declared.cmp.Ordering.TheVariants.{Less, Equal, Greater}
 use Rattle.gix_glob.specs.Bytes.{slash}
-use Rattle.glob_lines.specs.Lines.{HasNo}
+use Rattle.byte_streams.specs.Records.{HasNo}
 use Rattle.tree_commands.specs.Files.{ComesBefore}
 
 -- ---- the order by cases on the bytes

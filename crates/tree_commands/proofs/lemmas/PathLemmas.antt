@@ -6,7 +6,7 @@ use Rattle.std.proofs.lemmas.List.{get_or-append_right, get_or_append_left, same
 use Rattle.std.proofs.lemmas.List.Elements.{All-from_recursion}
 use Rattle.gix_glob.specs.declared.pattern.Case.{Case}
 use Rattle.gix_glob.specs.Bytes.{EndsInSlash, HasByte, slash}
-use Rattle.glob_lines.specs.Lines.{HasNo}
+use Rattle.byte_streams.specs.Records.{HasNo}
 use Rattle.glob_lists.specs.Paths.{IsPlainPath}
 use Rattle.glob_trees.specs.Ways.{Folder, start_of}
 use Rattle.git_paths.specs.Paths.{is_name}

@@ -5,15 +5,15 @@ use Rattle.std.specs.Io.KnownBytes.{Appends, Consumes, Keeps}
 use Rattle.std.specs.List.{AllByRecursion}
 use Rattle.std.proofs.lemmas.Bool.{false≢true}
 use Rattle.std.proofs.lemmas.Result.{on_err_weaker, on_ok_weaker}
-use Rattle.glob_lines.specs.Transfers.{AppendsFront, ReadsWhole, Run}
-use Rattle.record_streams.specs.declared.fault.RecordFault.{RecordFault}
-use Rattle.record_streams.specs.declared.fault.RecordFault.TheVariants.{Answer, Endless, Memory, Read, Write}
-use Rattle.record_streams.specs.Faults.{is_endless, is_read_fault, is_write_fault, told_refusal}
-use Rattle.record_streams.specs.Records.{Adds, AnswersAll, AnswersEnded, AnswersFirst, AnswersSome, GrowsBy, TextOf, TextOfAnswered}
-use Rattle.record_streams.specs.Runs.{EndsRun}
-use Rattle.record_streams.proofs.lemmas.RecordLemmas.{Weakens}
-use Rattle.record_streams.proofs.lemmas.StreamLemmas.{AppendsFront-whole}
-use Rattle.record_streams.proofs.lemmas.RunLemmas.{Run-all_weaker, Run-ended_weaker, Run-first_weaker, Run-some_weaker}
+use Rattle.byte_streams.specs.Transfers.{AppendsFront, ReadsWhole, Run}
+use Rattle.byte_streams.specs.declared.fault.RecordFault.{RecordFault}
+use Rattle.byte_streams.specs.declared.fault.RecordFault.TheVariants.{Answer, Endless, Memory, Read, Write}
+use Rattle.byte_streams.specs.Faults.{is_endless, is_read_fault, is_write_fault, told_refusal}
+use Rattle.byte_streams.specs.Records.{Adds, AnswersAll, AnswersEnded, AnswersFirst, AnswersSome, GrowsBy, TextOf, TextOfAnswered}
+use Rattle.byte_streams.specs.Runs.{EndsRun}
+use Rattle.byte_streams.proofs.lemmas.RecordLemmas.{Weakens}
+use Rattle.byte_streams.proofs.lemmas.StreamLemmas.{AppendsFront-whole}
+use Rattle.byte_streams.proofs.lemmas.RunLemmas.{Run-all_weaker, Run-ended_weaker, Run-first_weaker, Run-some_weaker}
 use Rattle.tree_answers.specs.declared.form.Form.{Form}
 use Rattle.tree_answers.specs.Records.{AccountsFor, IsTextOf}
 use Rattle.tree_commands.specs.Answering.{IsTextOfFirst, StopsAt, TextOfNamed, TextOfPaths, Writes}

@@ -5,7 +5,7 @@ use Rattle.std.proofs.lemmas.Bool.{cases_lt, false≢true}
 use Rattle.std.proofs.lemmas.List.{length-take-le, take_all, take_more}
 use Rattle.gix_glob.specs.Bytes.{HasByte, slash}
 use Rattle.gix_glob.specs.EntryLists.{EntryList}
-use Rattle.glob_lines.specs.Lines.{HasNo}
+use Rattle.byte_streams.specs.Records.{HasNo}
 use Rattle.glob_lists.specs.Paths.{IsPlainPath}
 use Rattle.glob_trees.specs.Trees.{IsAbove}
 use Rattle.glob_trees.specs.Ways.{Folder, start_of, unless_empty, with_entries}

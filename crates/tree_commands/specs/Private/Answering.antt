@@ -1,6 +1,6 @@
 -- What is appended for paths of which one got no answer.
 use Rattle.std.specs.Prelude.{◌≡◌, ℕ, List, ◌∷◌, ◌++◌}
-use Rattle.record_streams.specs.Records.{Adds, TextOf}
+use Rattle.byte_streams.specs.Records.{Adds, TextOf}
 
 -- the text of the first of these paths was appended, and the next one got this fault
 pub record FailsAt {F : Type 0} (Answers : List ℕ → List ℕ → Type 0) (Refuses : List ℕ → F → Type 0) (paths : List (List ℕ)) (old new : List ℕ) (fault : F) : Type 0 where

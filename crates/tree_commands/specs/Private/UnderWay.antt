@@ -4,7 +4,7 @@ use Rattle.std.specs.Io.KnownBytes.{Appends}
 use Rattle.std.specs.List.{AllByRecursion, flat_map}
 use Rattle.gix_glob.specs.declared.pattern.Case.{Case}
 use Rattle.gix_glob.specs.EntryLists.{EntryList}
-use Rattle.glob_lines.specs.Transfers.{AppendsFront}
+use Rattle.byte_streams.specs.Transfers.{AppendsFront}
 use Rattle.glob_trees.specs.Ways.{Folder, start_of}
 use Rattle.tree_commands.specs.declared.files.lister.Lister.{Lister}
 use Rattle.tree_commands.specs.declared.files.pending.Pending.{Pending}

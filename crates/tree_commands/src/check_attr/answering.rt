@@ -6,7 +6,7 @@ ghost use Rattle.std.specs.Vec.{vec_items};
 ghost use Rattle.glob_attributes.specs.Views.{assignment_with};
 ghost use Rattle.glob_attributes.specs.States.{state_in};
 ghost use Rattle.glob_lists.specs.Paths.{IsPlainPath};
-ghost use Rattle.record_streams.specs.Records.{Adds};
+ghost use Rattle.byte_streams.specs.Records.{Adds};
 ghost use Rattle.git_paths.specs.declared.quoting.Quoting.TheVariants.{Full};
 ghost use Rattle.git_paths.specs.Paths.{names_folder, parts_of};
 ghost use Rattle.git_paths.specs.Quoting.{is_unusual};

@@ -4,17 +4,17 @@ ghost use Rattle.std.specs.Io.KnownBytes.{Appends};
 ghost use Rattle.std.specs.List.{AllByRecursion};
 ghost use Rattle.std.specs.Vec.{vec_items};
 ghost use Rattle.gix_glob.specs.EntryLists.{entry_list_of};
-ghost use Rattle.gix_glob.specs.Watched.{has_failed, inner};
+ghost use Rattle.byte_streams.specs.Watched.{has_failed, inner};
 ghost use Rattle.glob_attributes.specs.Views.{seen_assignments};
-ghost use Rattle.glob_lines.specs.Transfers.{AppendsFront};
+ghost use Rattle.byte_streams.specs.Transfers.{AppendsFront};
 ghost use Rattle.glob_lists.specs.Deciding.{BasesAreFolders};
 ghost use Rattle.glob_lists.specs.Rules.{by_git};
-ghost use Rattle.record_streams.specs.Faults.{is_write_fault, told_refusal};
-ghost use Rattle.record_streams.specs.Records.{TextOf};
+ghost use Rattle.byte_streams.specs.Faults.{is_write_fault, told_refusal};
+ghost use Rattle.byte_streams.specs.Records.{TextOf};
 ghost use Rattle.tree_answers.specs.Attributes.{label_text};
 ghost use Rattle.tree_answers.specs.Lines.{behind};
 ghost use Rattle.tree_answers.specs.Records.{IsTextOf};
-ghost use Rattle.record_streams.specs.Runs.{EndsRun};
+ghost use Rattle.byte_streams.specs.Runs.{EndsRun};
 ghost use Rattle.tree_commands.specs.Answering.{IsTextOfFirst, StopsAt, TextOfNamed, TextOfPaths, Writes};
 ghost use Rattle.tree_commands.specs.CheckAttr.{IsStatesText, macros_for};
 ghost use Rattle.tree_commands.specs.Private.AttributeAnswers.{labels_of};
@@ -29,12 +29,11 @@ use crate::check_attr::kept_lists::kept_list;
 use crate::check_attr::outer::{asking_of, front_lists, macros_of_files, top_lists};
 use crate::check_attr::question::{AskedAttributes, AttributeQuestion, Question};
 use crate::check_attr::walk::FolderAttributes;
+use byte_streams::{RecordFault, Watched};
 use gix_glob::pattern::Case;
-use gix_glob::search::Watched;
 use gix_glob::search::pattern::List;
 use glob_attributes::{AttributeLines, MacroTable};
 use glob_lists::{ListIndex, Rules};
-use record_streams::RecordFault;
 use std::alloc::{AllocError, Global};
 use std::io::{Read, Write};
 use std::marker::Brand;
@@ -46,7 +45,7 @@ use tree_answers::{Form, append_label};
 ///
 /// The files that count for a path are those of the question, and those that the source has of the folders on the way to it. The source is
 /// asked for a folder when a path first lies there, and again only where folders were so many that all were forgotten; for none below one
-/// that doesn't stand there. How records are read and answers written, [`RecordStream::run`](record_streams::RecordStream::run) tells. No
+/// that doesn't stand there. How records are read and answers written, [`RecordStream::run`](byte_streams::RecordStream::run) tells. No
 /// call on the reader or the writer may have failed before, and none that fails is tried again.
 ///
 /// # Errors

@@ -2,11 +2,11 @@
 ghost use Rattle.std.specs.Prelude.{◌≡◌, ◌⊎◌, ℕ, List, false, map, Err, IfOk, MatchResult, Ok, OnErr};
 ghost use Rattle.std.specs.Io.KnownBytes.{Appends};
 ghost use Rattle.std.specs.List.{AllByRecursion};
-ghost use Rattle.gix_glob.specs.Watched.{has_failed, inner};
-ghost use Rattle.glob_lines.specs.Transfers.{AppendsFront};
-ghost use Rattle.record_streams.specs.Faults.{is_write_fault, told_refusal};
-ghost use Rattle.record_streams.specs.Records.{TextOf};
-ghost use Rattle.record_streams.specs.Runs.{EndsRun};
+ghost use Rattle.byte_streams.specs.Watched.{has_failed, inner};
+ghost use Rattle.byte_streams.specs.Transfers.{AppendsFront};
+ghost use Rattle.byte_streams.specs.Faults.{is_write_fault, told_refusal};
+ghost use Rattle.byte_streams.specs.Records.{TextOf};
+ghost use Rattle.byte_streams.specs.Runs.{EndsRun};
 ghost use Rattle.tree_answers.specs.Lines.{behind};
 ghost use Rattle.tree_answers.specs.Records.{IsTextOf};
 ghost use Rattle.tree_commands.specs.Answering.{IsTextOfFirst, StopsAt, TextOfNamed, TextOfPaths, Writes};
@@ -20,11 +20,10 @@ use crate::check_ignore::finding::Finder;
 use crate::check_ignore::flags::IgnoreFlags;
 use crate::check_ignore::kinds::PathKinds;
 use crate::check_ignore::unlinked::UnlinkedFolders;
+use byte_streams::{RecordFault, Watched};
 use git_paths::Standpoint;
-use gix_glob::search::Watched;
 use glob_lines::GitIgnoreLines;
 use glob_trees::{FolderLists, Tree};
-use record_streams::RecordFault;
 use std::alloc::Global;
 use std::io::{Read, Write};
 use std::marker::{Brand, PhantomData};
@@ -49,7 +48,7 @@ pub struct IgnoreSources<S: FolderLists<GitIgnoreLines>, K> {
 /// pattern that [`Tree::find`] answers, by the rules of the tree; about the top only patterns for names decide. A slash at the end of a path belongs to it. What stands at a path is asked only where the answer depends
 /// on it; links are looked for where the tree didn't enter the folders of a path.
 ///
-/// How records are read and answers written, [`RecordStream::run`](record_streams::RecordStream::run) tells. No call on the reader or
+/// How records are read and answers written, [`RecordStream::run`](byte_streams::RecordStream::run) tells. No call on the reader or
 /// the writer may have failed before, and none that fails is tried again.
 ///
 /// # Errors

@@ -1,7 +1,7 @@
 //! The lines of paths that are listed, and how they are written.
 ghost use Rattle.std.specs.Prelude.{◌≡◌, ◌++◌, ◌==◌, [], true, OnErr, OnOk};
 ghost use Rattle.std.specs.Io.KnownBytes.{Appends};
-ghost use Rattle.gix_glob.specs.Watched.{has_failed, inner};
+ghost use Rattle.byte_streams.specs.Watched.{has_failed, inner};
 ghost use Rattle.std.specs.List.{list_any};
 ghost use Rattle.tree_answers.specs.Lines.{name_text};
 ghost use Rattle.tree_answers.specs.declared.form.Form.TheVariants as forms;
@@ -9,8 +9,8 @@ ghost use Rattle.tree_commands.specs.Files.{mark_text, marked_name, path_line, s
 ghost use Rattle.tree_commands.specs.Private.Listing.{WritesOut};
 
 use crate::files::mark::Mark;
+use byte_streams::Watched;
 use git_paths::{Quoting, Standpoint, append_quoted, has_unusual};
-use gix_glob::search::Watched;
 use std::alloc::{AllocError, Global};
 use std::io;
 use std::io::Write;

@@ -5,7 +5,7 @@ ghost use Rattle.std.specs.String.{string_bytes};
 ghost use Rattle.gix_glob.specs.EntryLists.{entry_list_of};
 ghost use Rattle.gix_glob.specs.Loading.{IsBeginningOf, IsLoaded, is_unread};
 ghost use Rattle.gix_glob.specs.Paths.{has_file_part};
-ghost use Rattle.gix_glob.specs.Watched.{has_failed, inner};
+ghost use Rattle.byte_streams.specs.Watched.{has_failed, inner};
 
 use super::List;
 use crate::search::base::base_of;

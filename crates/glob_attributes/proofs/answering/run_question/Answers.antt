@@ -1,7 +1,7 @@
 -- The run keeps no account of what was answered.
 use Rattle.std.proofs.lemmas.Result.{on_err_weaker, on_ok_weaker}
-use Rattle.record_streams.proofs.lemmas.RecordLemmas.{answered_anyhow}
-use Rattle.record_streams.proofs.lemmas.RunLemmas.{Run-all_weaker, Run-ended_weaker, Run-first_weaker, Run-some_weaker}
+use Rattle.byte_streams.proofs.lemmas.RecordLemmas.{answered_anyhow}
+use Rattle.byte_streams.proofs.lemmas.RunLemmas.{Run-all_weaker, Run-ended_weaker, Run-first_weaker, Run-some_weaker}
 use Rattle.glob_attributes.proofs.answering.run_question.Goals as goal
 
 pub returns : goal.returns

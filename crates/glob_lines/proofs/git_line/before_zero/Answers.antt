@@ -1,7 +1,7 @@
 -- The first byte 0 ends what stands before it.
 use Rattle.std.proofs.Common.{sym}
 use Rattle.glob_lines.proofs.lemmas.GitLineLemmas.{before_zero-cut, before_zero-none}
-use Rattle.glob_lines.proofs.lemmas.LinesLemmas.{HasNo-not_found, IsCutAt-found}
+use Rattle.byte_streams.proofs.lemmas.CutLemmas.{HasNo-not_found, IsCutAt-found}
 use Rattle.glob_lines.proofs.git_line.before_zero.Goals as goal
 
 pub returns-in-Some : goal.returns-in-Some

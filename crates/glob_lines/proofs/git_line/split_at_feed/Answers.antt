@@ -4,7 +4,7 @@ use Rattle.std.proofs.lemmas.List.{drop_all, take_rest}
 use Rattle.glob_lines.specs.Lines.{EndsInFeed, line_feed}
 use Rattle.glob_lines.proofs.lemmas.GitLineLemmas.{CutsLine-at_feed}
 use Rattle.glob_lines.proofs.lemmas.IgnoreLemmas.{CutsLine-last}
-use Rattle.glob_lines.proofs.lemmas.LinesLemmas.{HasNo-not_found, IsCutAt-found}
+use Rattle.byte_streams.proofs.lemmas.CutLemmas.{HasNo-not_found, IsCutAt-found}
 use Rattle.glob_lines.proofs.git_line.split_at_feed.Goals as goal
 
 pub returns-in-Some-clause-cut : goal.returns-in-Some-clause-cut

@@ -3,7 +3,7 @@ use Rattle.std.proofs.Common.{◌≡◌, ◌+◌, [], length, take, drop, ap, ar
 use Rattle.std.proofs.lemmas.List.{drop_all, take_rest}
 use Rattle.glob_lines.specs.Lines.{line_feed}
 use Rattle.glob_lines.proofs.lemmas.IgnoreLemmas.{CutsLine-before_feed, CutsLine-last}
-use Rattle.glob_lines.proofs.lemmas.LinesLemmas.{HasNo-not_found, IsCutAt-found}
+use Rattle.byte_streams.proofs.lemmas.CutLemmas.{HasNo-not_found, IsCutAt-found}
 use Rattle.glob_lines.proofs.ignore_line.split_ended_line.Goals as goal
 
 pub returns-in-Some-clause-cut : goal.returns-in-Some-clause-cut

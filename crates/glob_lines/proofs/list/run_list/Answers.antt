@@ -2,8 +2,8 @@
 use Rattle.std.proofs.Common.{[], rules}
 use Rattle.std.proofs.lemmas.Result.{on_ok_weaker, IfErr-at_err}
 use Rattle.std.specs.Io.KnownBytes.{Appends}
-use Rattle.gix_glob.specs.Watched.{inner}
-use Rattle.glob_lines.specs.Transfers.{AppendsFront}
+use Rattle.byte_streams.specs.Watched.{inner}
+use Rattle.byte_streams.specs.Transfers.{AppendsFront}
 use Rattle.glob_lines.proofs.lemmas.MappingsLemmas.{mappings_text}
 use Rattle.glob_lines.proofs.list.run_list.Goals as goal
 

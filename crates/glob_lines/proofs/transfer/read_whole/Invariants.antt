@@ -1,6 +1,6 @@
 use Rattle.std.proofs.Common.{◌≡◌, ◌-◌, ◌^◌, false, vec_len}
 use Rattle.std.specs.Io.KnownBytes.{Consumes}
-use Rattle.gix_glob.specs.Watched.{has_failed, inner}
+use Rattle.byte_streams.specs.Watched.{has_failed, inner}
 use Rattle.glob_lines.proofs.transfer.read_whole.Given as goal
 
 -- the bytes so far were read, and no read failed

@@ -1,6 +1,6 @@
 -- What a write appends joins what was told so far.
 use Rattle.std.proofs.Common.{rules}
-use Rattle.glob_lines.proofs.lemmas.TransferLemmas.{Appends-more}
+use Rattle.byte_streams.proofs.lemmas.TransferLemmas.{Appends-more}
 use Rattle.globline.proofs.words.tell_usage.Goals as goal
 
 pub pieces-preserved : goal.pieces-preserved

@@ -1,7 +1,7 @@
 use Rattle.std.proofs.Common.{◌≡◌, List, OnOk, ℕ, ap, if◌then◌else◌, map, sym, string_bytes, subst, ◌∙◌}
 use Rattle.std.proofs.lemmas.Bool.{false≢true}
 use Rattle.std.specs.Borrow.{Bor}
-use Rattle.gix_glob.specs.Watched.{inner}
+use Rattle.byte_streams.specs.Watched.{inner}
 use Rattle.tree_commands.specs.CheckAttr as attributes
 use Rattle.tree_words.specs.Operands.{operands_among}
 use Rattle.globtree.specs.Answers.{ReadsStates, TellsStates}

@@ -1,7 +1,7 @@
 use Rattle.std.proofs.Common.{◌≡◌, ◌≢◌, Bool, true, false, if◌then◌else◌, IfOk, List, Option, ℕ, ap, map, refl, sym, subst, ◌∙◌}
 use Rattle.std.proofs.lemmas.Bool.{false≢true}
 use Rattle.std.specs.Borrow.{Bor}
-use Rattle.gix_glob.specs.Watched.{inner}
+use Rattle.byte_streams.specs.Watched.{inner}
 use Rattle.glob_lists.specs.Rules.{by_git}
 use Rattle.tree_commands.specs.CheckIgnore.{Question, nothing_known, question_of}
 use Rattle.globtree.specs.Answers.{ReadsIgnore, TellsIgnore}

@@ -1,5 +1,5 @@
 use Rattle.std.proofs.Common.{◌≡◌, ◌&&◌, ◌||◌, not, refl, Bool, true, false, ap, sym, ◌∙◌}
-use Rattle.gix_glob.specs.Watched.{inner}
+use Rattle.byte_streams.specs.Watched.{inner}
 use Rattle.tree_words.specs.Files.{are_usual, lists_tracked}
 use Rattle.globtree.proofs.lemmas.ListingLemmas.{index_alone, not_usual, where_false, where_true}
 use Rattle.globtree.proofs.list_files.list_files.Goals as goal

@@ -1,6 +1,6 @@
 use Rattle.std.proofs.Common.{◌||◌, ℕ, List, Option, subst}
 use Rattle.std.proofs.lemmas.Result.{IfOk-weaker}
-use Rattle.gix_glob.specs.Watched.{inner}
+use Rattle.byte_streams.specs.Watched.{inner}
 use Rattle.tree_commands.specs.declared.files.mark.Mark.TheVariants as marks
 use Rattle.tree_words.specs.Files.{are_usual}
 use Rattle.globtree.specs.Answers.{ListsFound}

@@ -1,6 +1,6 @@
 use Rattle.std.proofs.Common.{ℕ, List, Option, subst}
 use Rattle.std.proofs.lemmas.Result.{on_ok_weaker}
-use Rattle.gix_glob.specs.Watched.{inner}
+use Rattle.byte_streams.specs.Watched.{inner}
 use Rattle.tree_answers.specs.declared.form.Form.{Form}
 use Rattle.globtree.specs.Answers.{ListsIndex, ListsTracked}
 use Rattle.globtree.proofs.list_tracked.list_index.Goals as goal

@@ -2,7 +2,7 @@ use Rattle.std.proofs.Common.{ℕ, List, Option, map, subst}
 use Rattle.std.specs.Borrow.{Bor}
 use Rattle.std.specs.Io.KnownBytes.{Appends}
 use Rattle.std.specs.List.{flat_map}
-use Rattle.gix_glob.specs.Watched.{inner}
+use Rattle.byte_streams.specs.Watched.{inner}
 use Rattle.tree_commands.specs.declared.files.mark.Mark.TheVariants as marks
 use Rattle.tree_commands.specs.Files.{path_line}
 use Rattle.globtree.proofs.lemmas.ResultLemmas.{of_answer}

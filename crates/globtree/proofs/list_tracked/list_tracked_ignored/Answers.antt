@@ -1,7 +1,7 @@
 use Rattle.std.proofs.Common.{[], ℕ, List, Option, map, refl, subst}
 use Rattle.std.specs.Borrow.{Bor}
 use Rattle.std.specs.Io.KnownBytes.{Appends}
-use Rattle.gix_glob.specs.Watched.{inner}
+use Rattle.byte_streams.specs.Watched.{inner}
 use Rattle.tree_commands.specs.Answering.{Writes}
 use Rattle.tree_commands.specs.CheckIgnore.{nothing_known, question_of}
 use Rattle.tree_commands.specs.TrackedFiles.{AreIgnored, names_alone}

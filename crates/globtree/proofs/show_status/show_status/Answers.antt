@@ -1,7 +1,7 @@
 use Rattle.std.proofs.Common.{◌≡◌, ◌&&◌, ℕ, false, List, MatchBool, Option, ap, refl, subst, sym, ◌∙◌}
 use Rattle.std.proofs.lemmas.Result.{IfOk-weaker}
 use Rattle.core_settings.specs.declared.untracked.ShowUntracked.{ShowUntracked}
-use Rattle.gix_glob.specs.Watched.{inner}
+use Rattle.byte_streams.specs.Watched.{inner}
 use Rattle.git_paths.specs.declared.quoting.Quoting.{Quoting}
 use Rattle.git_paths.specs.declared.quoting.Quoting.TheVariants.{Full}
 use Rattle.tree_commands.specs.declared.files.mark.Mark.TheVariants as marks

@@ -1,9 +1,9 @@
 use Rattle.std.proofs.Common.{List, ℕ, map, OnErr, OnOk, subst, if◌then◌else◌, Err, ◌≡◌, []}
 use Rattle.std.specs.Io.KnownBytes.{Appends}
 use Rattle.std.specs.List.{AllByRecursion}
-use Rattle.gix_glob.specs.Watched.{inner}
-use Rattle.glob_lines.specs.Transfers.{AppendsFront}
-use Rattle.record_streams.specs.Faults.{told_refusal}
+use Rattle.byte_streams.specs.Watched.{inner}
+use Rattle.byte_streams.specs.Transfers.{AppendsFront}
+use Rattle.byte_streams.specs.Faults.{told_refusal}
 use Rattle.tree_commands.proofs.lemmas.RunLemmas.{words_cut, words_ok, words_refused}
 use Rattle.tree_commands.proofs.answering.answer_paths.Goals as goal
 

@@ -1,6 +1,6 @@
 use Rattle.std.proofs.Common.{◌≡◌, ◌<◌, length, map, take, drop, suc, subst, arith}
 use Rattle.std.proofs.lemmas.Grind.{common_steps}
-use Rattle.record_streams.specs.Records.{Adds, TextOfAnswered}
+use Rattle.byte_streams.specs.Records.{Adds, TextOfAnswered}
 use Rattle.tree_commands.proofs.lemmas.AnswerLemmas.{adds_kept, adds_more, map_split, map_take_more}
 use Rattle.tree_commands.proofs.answering.append_each.Goals as goal
 

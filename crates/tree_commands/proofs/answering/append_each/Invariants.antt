@@ -1,6 +1,6 @@
 -- The first paths were answered.
 use Rattle.std.proofs.Common.{map, take}
-use Rattle.record_streams.specs.Records.{Adds, TextOfAnswered}
+use Rattle.byte_streams.specs.Records.{Adds, TextOfAnswered}
 use Rattle.tree_commands.proofs.answering.append_each.Given as goal
 
 abbrev pub invariant-paths : goal.invariant-paths

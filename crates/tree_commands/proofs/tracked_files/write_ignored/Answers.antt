@@ -5,8 +5,8 @@ use Rattle.std.specs.Vec.{vec_items}
 use Rattle.std.specs.Io.KnownBytes.{Appends}
 use Rattle.std.proofs.lemmas.Simd.{map-map}
 use Rattle.git_index.specs.Entries.{Tracked}
-use Rattle.gix_glob.specs.Watched.{inner}
-use Rattle.record_streams.specs.Records.{TextOf}
+use Rattle.byte_streams.specs.Watched.{inner}
+use Rattle.byte_streams.specs.Records.{TextOf}
 use Rattle.git_paths.specs.Standpoints.{shown}
 use Rattle.tree_commands.specs.Answering.{Writes}
 use Rattle.tree_commands.specs.CheckIgnore.{IsIgnoreAnswer, question_of}

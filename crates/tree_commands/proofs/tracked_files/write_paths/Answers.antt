@@ -4,8 +4,8 @@ use Rattle.std.specs.Borrow.{Bor}
 use Rattle.std.specs.List.{flat_map}
 use Rattle.std.specs.Io.KnownBytes.{Appends}
 use Rattle.std.proofs.lemmas.List.Folds.{flat_map-map}
-use Rattle.gix_glob.specs.Watched.{inner}
-use Rattle.glob_lines.specs.Transfers.{AppendsFront}
+use Rattle.byte_streams.specs.Watched.{inner}
+use Rattle.byte_streams.specs.Transfers.{AppendsFront}
 use Rattle.tree_commands.specs.declared.files.mark.Mark.TheVariants as marks
 use Rattle.tree_commands.specs.Files.{path_line}
 use Rattle.tree_commands.proofs.tracked_files.write_paths.Goals as goal

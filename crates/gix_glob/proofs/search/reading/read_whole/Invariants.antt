@@ -1,6 +1,6 @@
 use Rattle.std.proofs.Common.{◌≡◌, ◌^◌, ◌-◌, vec_len}
 use Rattle.std.specs.Io.KnownBytes.{Consumes}
-use Rattle.gix_glob.specs.Watched.{has_failed, inner}
+use Rattle.byte_streams.specs.Watched.{has_failed, inner}
 use Rattle.gix_glob.proofs.search.reading.read_whole.Given as goal
 
 -- what stands in the buffer was read, and no read failed

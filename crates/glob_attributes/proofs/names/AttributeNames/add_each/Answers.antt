@@ -5,7 +5,7 @@ use Rattle.std.specs.Vec.{vec_items}
 use Rattle.std.specs.declared.alloc.Global.{Global}
 use Rattle.std.proofs.lemmas.List.{take-append-drop}
 use Rattle.std.proofs.lemmas.Option.{slice_get-map, slice_get_read}
-use Rattle.record_streams.proofs.lemmas.StreamLemmas.{on_any_err}
+use Rattle.byte_streams.proofs.lemmas.StreamLemmas.{on_any_err}
 use Rattle.glob_attributes.specs.declared.assignment.Assignment.{Assignment}
 use Rattle.glob_attributes.specs.Views.{assignment_with, seen_assignments}
 use Rattle.glob_attributes.specs.Told.{with_names}

@@ -3,7 +3,7 @@ use Rattle.std.proofs.Common.{ℕ, List, ap, refl, sym, subst, ◌∙◌}
 use Rattle.std.specs.List.{flat_map}
 use Rattle.glob_lines.specs.Equations.Ignore.{without_returns}
 use Rattle.glob_lines.specs.Equations.Lines.{lines_of}
-use Rattle.record_streams.proofs.lemmas.StreamLemmas.{on_any_err}
+use Rattle.byte_streams.proofs.lemmas.StreamLemmas.{on_any_err}
 use Rattle.glob_attributes.specs.Readings.{line_gives}
 use Rattle.glob_attributes.specs.Told.{AddsSome, names_given, names_read, with_names}
 use Rattle.glob_attributes.proofs.lemmas.FileLemmas.{lines_of-rest}

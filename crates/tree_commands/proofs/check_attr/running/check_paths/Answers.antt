@@ -1,6 +1,6 @@
 -- Nothing was written where memory was refused.
 use Rattle.std.proofs.Common.{map}
-use Rattle.gix_glob.specs.Watched.{inner}
+use Rattle.byte_streams.specs.Watched.{inner}
 use Rattle.tree_commands.proofs.lemmas.AttributeRuns.{none_first}
 use Rattle.tree_commands.proofs.check_attr.running.check_paths.Goals as goal
 

@@ -1,6 +1,6 @@
 use Rattle.std.proofs.Common.{◌≡◌, Bool, false, Ok, Err, MatchResult, map, subst}
 use Rattle.std.specs.List.{AllByRecursion}
-use Rattle.gix_glob.specs.Watched.{inner}
+use Rattle.byte_streams.specs.Watched.{inner}
 use Rattle.tree_commands.specs.Answering.{StopsAt}
 use Rattle.tree_commands.specs.CheckIgnore.{IsIgnoreAnswer, Refuses}
 use Rattle.tree_commands.proofs.lemmas.RunLemmas.{if_any, same_err, same_refusal}

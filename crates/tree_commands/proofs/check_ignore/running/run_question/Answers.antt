@@ -1,6 +1,6 @@
 use Rattle.std.proofs.Common.{◌≡◌, ◌⊎◌, ℕ, Bool, List, Ok, Err, MatchResult, subst}
 use Rattle.std.specs.List.{AllByRecursion}
-use Rattle.record_streams.specs.Faults.{told_refusal}
+use Rattle.byte_streams.specs.Faults.{told_refusal}
 use Rattle.tree_answers.specs.Records.{IsRefusal}
 use Rattle.tree_commands.specs.Answering.{TextOfNamed}
 use Rattle.tree_commands.specs.declared.check_ignore.fault.IgnoreFault.TheVariants.{BadlyQuoted}

@@ -1,6 +1,6 @@
 use Rattle.std.proofs.Common.{Bool, [], ◌∷◌, subst, sym, ap, ◌∙◌, ◌||◌}
 use Rattle.std.specs.Prelude.{is_some}
-use Rattle.record_streams.specs.Records.{GrowsBy}
+use Rattle.byte_streams.specs.Records.{GrowsBy}
 use Rattle.tree_commands.specs.CheckIgnore.{IsStatus, Question, counted}
 use Rattle.tree_commands.proofs.lemmas.IgnoreLemmas.{answer_found, answers_stay, line_found, status_failed, status_grows, told_there}
 use Rattle.tree_commands.proofs.check_ignore.asking.IgnoreAskerPathAnswerer.answer_path.Goals as goal

@@ -1,0 +1,5 @@
+pub mod CutLemmas
+pub mod RecordLemmas
+pub mod RunLemmas
+pub mod StreamLemmas
+pub mod TransferLemmas

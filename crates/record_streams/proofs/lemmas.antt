@@ -1,3 +1,0 @@
-pub mod RecordLemmas
-pub mod RunLemmas
-pub mod StreamLemmas

@@ -1,4 +1,0 @@
-pub mod Faults
-pub mod Records
-pub mod Runs
-pub mod Private
