@@ -16,7 +16,8 @@ import sys
 import tempfile
 
 sys.dont_write_bytecode = True
-from lists import Load, make_tree, write
+from lists import make_tree, write
+from mixture import Load
 
 HERE = os.path.dirname(os.path.abspath(__file__))
 PROGRAM = os.path.join(os.path.dirname(HERE), "out", "globtree")

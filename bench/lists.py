@@ -8,89 +8,23 @@ FOLDER/patterns and FOLDER/paths of the first size, and runs nothing."""
 import argparse
 import itertools
 import os
-import random
 import re
 import shutil
 import subprocess
 import sys
 import tempfile
 
+sys.dont_write_bytecode = True
+from mixture import Load
+
 HERE = os.path.dirname(os.path.abspath(__file__))
 PROGRAM = os.path.join(os.path.dirname(HERE), "out", "globline")
-
-SYLLABLES = "ba co di fu ge ha jo ki lu me no pa qu ri so ta vu we xi za lib src test build node mod core util main app pkg data conf log tmp".split()
-ENDINGS = "rs c h o py pyc js css html md txt log json toml lock png so a swp bak class gz yml tmp".split()
-
-
-class Load:
-    """A realistic mixture: names, endings, rooted paths and the rest, a fifth for folders, a twentieth negative."""
-
-    def __init__(self, seed):
-        self.random = random.Random(seed)
-        self.names = [self.word() for _ in range(400)]
-
-    def word(self, syllables=None):
-        return "".join(self.random.choice(SYLLABLES) for _ in range(syllables or self.random.choice((1, 2, 2, 3))))
-
-    def ending(self):
-        return self.random.choice(ENDINGS) if self.random.random() < 0.5 else self.word(2)
-
-    def folders(self, count):
-        return "/".join(self.random.choice(self.names) for _ in range(count))
-
-    def pattern(self):
-        kind = self.random.random()
-        if kind < 0.40:
-            text = self.word(3) + ("" if self.random.random() < 0.5 else "." + self.ending())
-        elif kind < 0.62:
-            text = "*." + self.ending()
-        elif kind < 0.74:
-            text = "/" + self.folders(self.random.randrange(1, 4))
-        elif kind < 0.82:
-            text = self.folders(2) + "/*." + self.ending()
-        elif kind < 0.88:
-            text = "**/" + self.word(2) + "/" + self.word(2)
-        elif kind < 0.93:
-            text = self.word(1) + "*." + self.ending()
-        elif kind < 0.96:
-            text = "*" + self.word(1) + "*"
-        elif kind < 0.98:
-            text = self.word(2) + "[0-9]." + self.ending()
-        else:
-            text = self.folders(1) + "/**/" + self.word(2)
-        if self.random.random() < 0.2:
-            text += "/"
-        return "!" + text if self.random.random() < 0.05 else text
-
-    def name_pattern(self):
-        """A plain name or a literal end."""
-        return self.word(3) + ("" if self.random.random() < 0.5 else "." + self.ending()) if self.random.random() < 0.65 else "*." + self.ending()
-
-    def path(self):
-        parts = [self.random.choice(self.names) for _ in range(self.random.choice((0, 1, 2, 3, 3, 4, 5)))]
-        parts.append(self.word(2) + ("" if self.random.random() < 0.1 else "." + self.ending()))
-        return "/".join(parts)
-
-    def tree(self, count):
-        """So many folders, each but the first below an earlier one, at most five deep."""
-        folders = [""]
-        known = {""}
-        while len(folders) < count:
-            folder = self.random.choice(folders) + self.random.choice(self.names) + "/"
-            if folder.count("/") <= 5 and folder not in known:
-                known.add(folder)
-                folders.append(folder)
-        return folders
-
-    def path_in(self, folder):
-        return folder + self.word(2) + ("" if self.random.random() < 0.1 else "." + self.ending())
-
-    def path_below(self, folder):
-        """A path below a folder, of three to six parts where the folder has fewer."""
-        parts = self.random.randrange(3, 7) - 1
-        while folder.count("/") < parts:
-            folder += self.random.choice(self.names) + "/"
-        return self.path_in(folder)
+# the kinds of lists: how a pattern is made, how many there are, and the most instructions that a path may take `globline ignore`
+KINDS = {
+    "mixture": (Load.pattern, "10,100,1000,10000", None),
+    "sets": (Load.set_pattern, "1000", 7_000),
+    "open": (Load.open_pattern, "100", 35_000),
+}
 
 
 def write(file, lines):
@@ -260,7 +194,8 @@ def count_hostile(o):
 
 def main():
     args = argparse.ArgumentParser(description=__doc__, formatter_class=argparse.RawDescriptionHelpFormatter)
-    args.add_argument("--sizes", default="10,100,1000,10000")
+    args.add_argument("--kind", choices=KINDS, default="mixture", help="of what patterns: realistic ones; names, and sets in three of a hundred; or without a literal end; status 1 where a goal of the last two is missed")
+    args.add_argument("--sizes", help="how many patterns, as 10,100,1000")
     args.add_argument("--paths", type=int, default=1000)
     args.add_argument("--seed", type=int, default=5)
     args.add_argument("--make", metavar="FOLDER")
@@ -276,14 +211,16 @@ def main():
         return count_folders(o)
     if o.names:
         return count_names(o)
-    sizes = [int(size) for size in o.sizes.split(",")]
+    pattern, sizes, most = KINDS[o.kind]
+    sizes = [int(size) for size in (o.sizes or sizes).split(",")]
+    missed = 0
     rows = {} if o.make else programs()
     points = {name: [] for name in rows}
     if rows:
         print("| Patterns | " + " | ".join(rows) + " |\n|---" + "|---" * len(rows) + "|")
     for size in sizes:
         load = Load(o.seed)
-        patterns = [load.pattern() for _ in range(size)]
+        patterns = [pattern(load) for _ in range(size)]
         paths = [load.path() for _ in range(o.paths)]
         if o.make:
             os.makedirs(o.make, exist_ok=True)
@@ -296,13 +233,15 @@ def main():
             found = {name: counted(words, size, folder, paths) for name, words in rows.items()}
         for name, (a_path, _) in found.items():
             points[name].append((size, a_path))
-        # what git reads before the first path isn't the patterns alone
-        cells = [f"{a_path:,.0f}" + ("" if name.startswith("git") else f" ({a_pattern:,.0f})") for name, (a_path, a_pattern) in found.items()]
+        missed += most is not None and found["globline ignore"][0] > most
+        # what git reads before the first path isn't the patterns alone, and among the other kinds the paths' costs differ too much for a rest
+        cells = [f"{a_path:,.0f}" + ("" if most or name.startswith("git") else f" ({a_pattern:,.0f})") for name, (a_path, a_pattern) in found.items()]
         print(f"| {size:,} | " + " | ".join(cells) + " |", flush=True)
     if o.draw:
         import draw
 
         draw.lists(o.draw, points)
+    sys.exit(1 if missed else 0)
 
 
 if __name__ == "__main__":

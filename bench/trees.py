@@ -14,7 +14,8 @@ import sys
 import tempfile
 
 sys.dont_write_bytecode = True
-from lists import Load, cost_of_path, make_tree, write
+from lists import cost_of_path, make_tree, write
+from mixture import Load
 
 HERE = os.path.dirname(os.path.abspath(__file__))
 PROGRAM = os.path.join(os.path.dirname(HERE), "out", "globtree")
