@@ -1,4 +1,4 @@
-//! Calls the Rust crate's matcher and this repository's on the same inputs, for matcher.py to count.
+//! Calls the Rust crate's matcher, this repository's and Git's on the same inputs, for matcher.py to count.
 mod work;
 
 use std::hint::black_box;
@@ -17,16 +17,21 @@ struct Parts {
 unsafe extern "C" {
     fn gix_glob_wildmatch(pattern: *const u8, pattern_len: usize, value: *const u8, value_len: usize, mode: u8) -> bool;
     fn gix_glob_matches(pattern: *const Parts, value: *const u8, value_len: usize, mode: u8) -> bool;
+    #[cfg(git)]
+    fn wildmatch(pattern: *const u8, text: *const u8, flags: u32) -> i32;
 }
 
 type Engine = fn(&[u8], &[u8], u8) -> bool;
 type Matcher = fn(&upstream::Pattern, &[u8], u8) -> bool;
 
-/// Whether a text matches a value. The first engine is the one that others are compared with, the last does nothing.
-const ENGINES: [(&str, Engine); 3] = [
+/// Whether a text matches a value. The first engine is the one that others are compared with, the third does nothing.
+const ENGINES: &[(&str, Engine)] = &[
     ("crate", |p, v, m| upstream::wildmatch(p.into(), v.into(), Mode::from_bits_retain(m))),
     ("here", |p, v, m| unsafe { gix_glob_wildmatch(p.as_ptr(), p.len(), v.as_ptr(), v.len(), m) }),
     ("nothing", |_, _, _| false),
+    // both texts end with a NUL; its flags are ours, the other way round
+    #[cfg(git)]
+    ("git", |p, v, m| unsafe { wildmatch(p.as_ptr(), v.as_ptr(), (m >> 1 | (m & 1) << 1).into()) } == 0),
 ];
 
 /// Whether a parsed pattern matches a value, by its shortcuts.
@@ -71,12 +76,15 @@ fn run(e: Engine, cases: &[work::Case]) -> (u64, u64) {
 
 fn main() {
     let args: Vec<String> = std::env::args().skip(1).collect();
-    let all = work::loads();
+    let mut all = work::loads();
     match args.iter().map(String::as_str).collect::<Vec<_>>()[..] {
         // one engine and load, N times: for instruction counts, as the difference of two N
         ["count", engine, load, n] => {
             let e = ENGINES.iter().find(|e| e.0 == engine).expect("engine").1;
-            let w = all.iter().find(|w| w.name == load).expect("load");
+            let w = all.iter_mut().find(|w| w.name == load).expect("load");
+            if engine == "git" {
+                w.cases.iter_mut().for_each(work::Case::end_with_nul);
+            }
             let n: u32 = n.parse().unwrap();
             let mut calls = 0;
             for _ in 0..n {

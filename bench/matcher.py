@@ -3,7 +3,8 @@
 
 SOURCES is a checkout of gix-glob 0.28.0, or the folder src of one. Its files are read where they lie; none is kept here. The
 library is crates/gix_glob_c/out/libgix_glob_c.a, which `examples/c/install PREFIX` or `rt lib` builds. Both are called on the
-same inputs in one process. What is printed is instructions a call, by valgrind's callgrind, less what the harness takes."""
+same inputs in one process. What is printed is instructions a call, or a unit of the load, by valgrind's callgrind, less what the
+harness takes. With `--git FOLDER`, where Git's source lies, its wildmatch.c is counted too by the unit (it ends on those loads)."""
 import argparse
 import os
 import re
@@ -47,8 +48,8 @@ def rustc(out, name, file, *more, edition="2024"):
           "-L", out, "--crate-name", name, *more, file], env={**os.environ, "BENCH_OUT": out})
 
 
-def build(out, sources, library):
-    """Builds the crate over small stubs of its dependencies, and the driver over both engines."""
+def build(out, sources, library, git):
+    """Builds the crate over small stubs of its dependencies, Git's matcher where its folder is told, and the driver over the engines."""
     if not os.path.isfile(library):
         sys.exit(f"matcher: there is no {library}: build it by `rt lib` in crates/gix_glob_c")
     os.makedirs(out, exist_ok=True)
@@ -64,7 +65,11 @@ def build(out, sources, library):
             file.write(f'#[path = "{source(sources, name)}"]\npub mod {name};\n')
     uses = [word for it in ("bitflags", "bstr", "gix_utils", "gix_features") for word in ("--extern", f"{it}={out}/lib{it}.rlib")]
     rustc(out, "upstream", f"{HERE}/upstream.rs", *kind, *uses)
-    rustc(out, "driver", f"{HERE}/driver.rs", "--extern", f"upstream={out}/libupstream.rlib", "-o", f"{out}/driver", f"-Clink-arg={os.path.abspath(library)}")
+    links = [f"-Clink-arg={os.path.abspath(library)}"]
+    if git:
+        said([os.environ.get("CC", "cc"), "-O3", "-c", "-include", f"{HERE}/stubs/git.h", "-o", f"{out}/wildmatch.o", f"{git}/wildmatch.c"])
+        links += ["--cfg=git", f"-Clink-arg={out}/wildmatch.o"]
+    rustc(out, "driver", f"{HERE}/driver.rs", "--extern", f"upstream={out}/libupstream.rlib", "-o", f"{out}/driver", *links)
     return f"{out}/driver"
 
 
@@ -83,10 +88,12 @@ def counted(driver, *words):
     return rates[0] - rates[1]
 
 
-def goals():
+def goals(only):
+    """The goals of the loads whose names hold a word: ratios to the crate's, and instructions a unit."""
     with open(f"{HERE}/goals.txt", encoding="utf-8") as file:
-        lines = [line.partition("#")[0].split() for line in file]
-    return {words[0]: float(words[1]) for words in lines if words}
+        lines = [line.partition("#")[0].strip().split(None, 3) for line in file]
+    lines = [words for words in lines if words and only in words[0]]
+    return {words[0]: float(words[1]) for words in lines if len(words) == 2}, [words for words in lines if len(words) > 2]
 
 
 def judge(driver, loads):
@@ -98,6 +105,17 @@ def judge(driver, loads):
         crate, here = (counted(driver, how, engine, load) for engine in ENGINES)
         missed += here / crate > goal
         print(f"| `{load}` | {crate:,.0f} | {here:,.0f} | {here / crate:.{3 if here / crate < 0.01 else 2}f} | {goal:.2f} |", flush=True)
+    return missed
+
+
+def judge_units(driver, loads, engines):
+    """Prints what a unit of each load takes each engine, and answers how many are above their goal."""
+    print(f"\n| Load | Unit | {' | '.join(engines).title()} | At most |\n|---|---{'|---' * len(engines)}|---|")
+    missed = 0
+    for load, most, count, unit in loads:
+        costs = {engine: counted(driver, "count", engine, load) / int(count) for engine in engines}
+        missed += costs["here"] > float(most)
+        print(f"| `{load}` | {unit} | {' | '.join(f'{cost:,.1f}' for cost in costs.values())} | {most} |", flush=True)
     return missed
 
 
@@ -116,6 +134,7 @@ def main():
     args = argparse.ArgumentParser(description=__doc__, formatter_class=argparse.RawDescriptionHelpFormatter)
     args.add_argument("sources")
     args.add_argument("--library", default=LIBRARY)
+    args.add_argument("--git", metavar="FOLDER", help="where Git's source lies: its matcher is counted too")
     args.add_argument("--out", default=f"{HERE}/out", help="a folder for what is built")
     args.add_argument("--only", default="", help="a word that the names of the counted loads hold")
     args.add_argument("--fuzz", type=int, default=1_000_000, help="how many random inputs the answers are compared on")
@@ -123,10 +142,11 @@ def main():
     args.add_argument("--lengths", metavar="FILE.svg", help="count values of several lengths too, and draw them")
     args.add_argument("--sets", action="store_true", help="count hostile sets of two lengths too: twice the length is to cost at most twice as much")
     options = args.parse_args()
-    driver = build(os.path.abspath(options.out), options.sources, options.library)
+    driver = build(os.path.abspath(options.out), options.sources, options.library, options.git)
     print("Answers that differ from the crate's, of a load or of random inputs:")
     print(said([driver, "agree"]).stdout + said([driver, "fuzz", options.fuzz, 1]).stdout)
-    missed = judge(driver, {load: goal for load, goal in goals().items() if options.only in load})
+    ratios, units = goals(options.only)
+    missed = judge(driver, ratios) + judge_units(driver, units, ENGINES + ("git",) * bool(options.git))
     if options.sets:
         missed += doubled(driver)
     if options.draw:

@@ -17,6 +17,13 @@ pub struct Case {
     pub mode: u8,
 }
 
+impl Case {
+    /// Ends each text with a NUL, as Git's matcher reads them.
+    pub fn end_with_nul(&mut self) {
+        self.patterns.iter_mut().chain(&mut self.values).for_each(|text| text.0.push(0));
+    }
+}
+
 pub struct Load {
     pub name: &'static str,
     pub cases: Vec<Case>,
@@ -132,6 +139,12 @@ pub fn loads() -> Vec<Load> {
         Load { name: "long_miss_path", cases: vec![one("*xb".into(), "a".repeat(99_999) + "b", PATH)] },
         Load { name: "long_hit", cases: vec![one("*b".into(), "a".repeat(99_999) + "b", 0)] },
         Load { name: "long_literal", cases: vec![one("a".repeat(100_000), "a".repeat(100_000), 0)] },
+        Load { name: "long_literal_fold", cases: vec![one("aB".repeat(50_000), "Ab".repeat(50_000), FOLD)] },
+        Load { name: "set_run", cases: vec![one("[a-c]".repeat(16_384), "b".repeat(16_384), 0)] },
+        Load { name: "class_run", cases: vec![one("[[:alnum:]]".repeat(16_384), "b".repeat(16_384), 0)] },
+        Load { name: "members", cases: vec![members(512, 64)] },
+        // each star takes a part, and the next part doesn't begin as `yx`
+        Load { name: "star_parts", cases: vec![one("*/".repeat(5) + "yx", "a/".repeat(30) + "x", PATH)] },
     ]
 }
 
