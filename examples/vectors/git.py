@@ -1,7 +1,8 @@
 #!/usr/bin/env python3
-"""Answers rows of work trees, of attributes, of configuration, of repositories and of tracked paths by Git: tools/vectors examples/vectors/git.py [PROGRAM]
+"""Answers rows of work trees, of attributes, of configuration, of repositories and of tracked paths by Git: tools/vectors examples/vectors/git.py [PROGRAM [LIBRARY]]
 
-PROGRAM is another one that takes Git's words, as `globtree` does."""
+PROGRAM is another one that takes Git's words, as `globtree` does. LIBRARY is what a C compiler makes of .ci/exchange.c: by it also what
+`globtree` looks at is asked."""
 import contextlib
 import os
 import re
@@ -13,6 +14,7 @@ import rows
 
 PROGRAM = os.path.abspath(sys.argv[1]) if sys.argv[1:] else "git"
 IS_GIT = PROGRAM == "git"
+LIBRARY = [os.path.abspath(it) for it in sys.argv[2:]]
 ALONE = {"PATH": os.environ["PATH"], "HOME": "/nonexistent", "GIT_CONFIG_NOSYSTEM": "1"}
 # What Git reads from its configuration is an option of globtree. The system's file has a place that is built into Git.
 FOLDS = ["-c", "core.ignoreCase=true"] if IS_GIT else ["--ignore-case"]
@@ -54,6 +56,72 @@ def check_ignore(case, there, path, fields):
         told = ask(top, options, ["check-ignore", "-v", "-n", "-z", *NO_INDEX, "--stdin"], path + b"\0").split(b"\0")
         names = [name for name, _ in files]
         return [f"{names.index(told[0]) + 1}:{told[1].decode()}" if told[0] else None if told[1:] else "a fault"]
+
+
+# How a run of check-ignore ends that tells a fault.
+ENDINGS = (
+    # (of a folder that isn't there Git tells nothing else)
+    (rb"outside (repository|the work tree)|Invalid path '", b"outside"),
+    (rb"empty string|empty text", b"empty"),
+    (rb"badly quoted", b"badly quoted"),
+    (rb"beyond a symbolic link", b"link"),
+    (rb"pathspec magic|another sign", b"unspelt"),
+)
+# Where a record is told from the root, behind the sign of a path that is no pattern.
+FROM_ROOT = re.compile(rb"^(|::|:\([a-z]*\))/(?=[^.\n])", re.M)
+IGNORE_FILE = b".gitignore"
+NAME_OF_FILE = re.compile(rb"(^|(?<=[\n\0]))[^\n\0:]*\.gitignore(?=[\0:])")
+
+
+def run_in_tree(root, here, letters, records, **variables):
+    """Runs check-ignore in the folder of a tree, with the letters of options, on records that tell a path from the root of the row."""
+    options = [b"-" + letters[at : at + 1] for at in range(len(letters))]
+    command = [PROGRAM, "check-ignore", *NO_INDEX, "--stdin", *options]
+    asked = FROM_ROOT.sub(lambda it: it[1] + root + b"/", records)
+    return subprocess.run(command, cwd=os.path.join(root, b"w/t", here), input=asked, env={**ALONE, **variables}, capture_output=True, check=False)
+
+
+def ignore_runs(here, letters, there, records, *fields):
+    # (Git tells whatever else is wrong with a path from the root that is told from the top)
+    if IS_GIT and records.startswith(b":(top)/"):
+        return ()
+    with rows.tree_of(there, fields) as root:
+        ran = run_in_tree(root, here, letters, records)
+        told = {0: b"some", 1: b"none"}.get(ran.returncode)
+        ending = told or next((it for complaint, it in ENDINGS if re.search(rb"^fatal: .*(%s)" % complaint, ran.stderr, re.M)), ran.stderr)
+        return [NAME_OF_FILE.sub(b"", ran.stdout.replace(root, b"")), ending]
+
+
+def looked_at(here, letters, there, records, *fields):
+    """A line for each path that is looked at, but for ignore files and, right before them, their folders."""
+    if not LIBRARY:
+        return ()
+    with rows.tree_of(there, fields) as root:
+        looks = looks_of(root, run_in_tree(root, here, letters, records, LD_PRELOAD=LIBRARY[0], ASKED="yes"))
+    files = {at for at, it in enumerate(looks) if os.path.basename(it) == IGNORE_FILE}
+    folders = {at - 1 for at in files if looks[at - 1] == os.path.dirname(looks[at])}
+    return [b"".join(it + b"\n" for at, it in enumerate(looks) if at not in files | folders)]
+
+
+def looks_of(root, ran):
+    """What a run looked at behind the files of the repository: paths from the top, and with a slash in front those from the root."""
+    _, _, told = ran.stderr.rpartition(b"\n.git/info/exclude\n")
+    paths = [it.removeprefix(root) for it in told.split(b"\n") if it not in (b"", b".") and not it.startswith(b"fatal: ")]
+    return [it for it in paths if it == b"/" or not (root + b"/").startswith(it + b"/")]
+
+
+def trees_asked(paths, *fields):
+    """Which line decides about each path, and the folders in brackets whose ignore files are looked at."""
+    if not LIBRARY:
+        return ()
+    asked = paths.split(b"\n")
+    folders = [path[: path.rfind(b"/") + 1] for path in asked]
+    with rows.tree_of(b"\n".join(filter(None, folders)), fields) as root:
+        ran = run_in_tree(root, b"", b"vnz", b"".join(path.removesuffix(b"/") + b"\0" for path in asked), LD_PRELOAD=LIBRARY[0], ASKED="yes")
+    told = ran.stdout.split(b"\0")
+    decisions = [file.removesuffix(IGNORE_FILE) + b":" + line if file else b"-" for file, line in zip(told[::4], told[1::4])]
+    read = [os.path.dirname(it) for it in looks_of(root, ran) if os.path.basename(it) == IGNORE_FILE]
+    return [b" ".join(decisions), b"".join(b"<" + it + b">" for it in read)]
 
 
 def matching(mode, pattern, value):
@@ -462,6 +530,6 @@ def exclude_names(current, words, *fields):
     return [fault or told.split(":")[0]]
 
 
-OF_PATTERNS = (matching, git_paths, trees, trees_told, git_told, git_attributes, attribute_states, all_states, attribute_streams, attribute_names)
+OF_PATTERNS = (matching, git_paths, trees, trees_told, git_told, trees_asked, ignore_runs, looked_at, git_attributes, attribute_states, all_states, attribute_streams, attribute_names)
 OF_CONFIGURATION = (config_files, config_includes, config_sources, core_settings, status_settings, config_booleans)
 rows.answer({it.__name__: it for it in (*OF_PATTERNS, *OF_CONFIGURATION, repositories, work_trees, exclude_names, tracked_paths, folded_paths, pathspecs)})

@@ -70,9 +70,30 @@ def folder_of(files):
         yield top
 
 
+# what makes a folder a repository
+REPOSITORY = [(b".git/HEAD", b"ref: refs/heads/main\n"), (b".git/objects/x", b""), (b".git/refs/x", b"")]
+
+
 def repository_of(files):
     """The same, with what makes it a repository."""
-    return folder_of([(b".git/HEAD", b"ref: refs/heads/main\n"), (b".git/objects/x", b""), (b".git/refs/x", b""), *files])
+    return folder_of([*REPOSITORY, *files])
+
+
+@contextlib.contextmanager
+def tree_of(there, files):
+    """A folder that stands for the root, with a repository in `w/t` that has these ignore files, each its folder and its bytes. A line of
+    what is there is a folder of it, which ends in a slash, a link in it, which ends in @, or a path from the root that leads to it, with
+    a = at its end."""
+    names = [(folder + b"/" * bool(folder) + b".gitignore", text) for folder, text in pairs(files)]
+    with folder_of([(b"w/t/" + name, text) for name, text in [*REPOSITORY, *names]]) as root:
+        root = os.path.realpath(os.fsencode(root))
+        top = root + b"/w/t"
+        for line in filter(None, there.split(b"\n")):
+            path = os.path.join(root if line.endswith(b"=") else top, line[:-1])
+            os.makedirs(path if line.endswith(b"/") else os.path.dirname(path), exist_ok=True)
+            if not line.endswith(b"/"):
+                os.symlink(top if line.endswith(b"=") else root, path)
+        yield root
 
 
 def make(top, path):

@@ -4,8 +4,8 @@ use crate::answer::{Answer, one, told};
 use crate::row::Row;
 use anyhow::{Result, bail};
 use gix_glob::pattern::Case;
+use gix_glob::search::Pattern as _;
 use gix_glob::search::pattern::List;
-use gix_glob::search::{Pattern as _, has_file_part};
 use glob_attributes::{
     Assignment, AttributeLines, AttributeNames, MacroTable, is_name, keep_named,
 };
@@ -60,11 +60,8 @@ fn names_in(alloc: Global, words: &[u8]) -> Result<Vec<&[u8]>, AllocError> {
 fn list_kept(alloc: Global, file: &[u8], names: &[&[u8]]) -> Result<List<AttributeLines>> {
     let mut macros = MacroTable::new(alloc)?;
     macros.add_file(alloc, file)?;
-    if !has_file_part("attributes") {
-        bail!("a source without a file part");
-    }
-    let source = String::from_str(alloc, "attributes")?;
-    let mut list = List::from_bytes(alloc, file, source, None, AttributeLines::default())?;
+    let mut list = List::empty(alloc);
+    list.patterns = AttributeLines::default().bytes_to_patterns(alloc, file, "")?;
     keep_named(&mut list, names, &macros);
     Ok(list)
 }

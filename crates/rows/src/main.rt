@@ -11,7 +11,6 @@ mod matching;
 mod others;
 mod patterns;
 mod row;
-mod trees;
 
 use crate::answer::Answer;
 use crate::row::{Field, Row};
@@ -23,7 +22,7 @@ use std::process::ExitCode;
 use std::rt::Files;
 
 /// The subjects of the rows that are asked, each of which has a file.
-const SUBJECTS: [&str; 38] = [
+const SUBJECTS: [&str; 36] = [
     "matching",
     "starts",
     "attempts",
@@ -60,8 +59,6 @@ const SUBJECTS: [&str; 38] = [
     "folded_paths",
     "safe_directories",
     "config_sources",
-    "trees_asked",
-    "ignore_runs",
 ];
 
 /// What the libraries answer to a row of a subject. (The proof of a long `match` costs more than those of its parts.)
@@ -103,7 +100,7 @@ fn ask_lists(alloc: Global, subject: &str, row: &Row) -> Result<Answer> {
     }
 }
 
-/// The same of attributes, records, the index, configuration and trees.
+/// The same of attributes, records, the index and configuration.
 fn ask_files(alloc: Global, subject: &str, row: &Row) -> Result<Answer> {
     match subject {
         "pathspecs" => others::spelt_words(alloc, row),
@@ -117,8 +114,6 @@ fn ask_files(alloc: Global, subject: &str, row: &Row) -> Result<Answer> {
         "folded_paths" => index::folded_paths(alloc, row),
         "safe_directories" => others::safe_directories(alloc, row),
         "config_sources" => config::config_sources(alloc, row),
-        "trees_asked" => trees::trees_asked(alloc, row),
-        "ignore_runs" => trees::ignore_runs(alloc, row),
         _ => bail!("no subject"),
     }
 }
