@@ -92,25 +92,23 @@ mod tests {
     use super::*;
     use bitflags::Flags;
     use gix_glob::search::Pattern as _;
+    use std::test::Fail;
 
     #[test]
-    fn uses(rt: HostRuntime) {
+    fn uses(rt: HostRuntime) -> Result<(), Fail> {
         assert!(rt; matches_line(b"*.rs", b"src/lib.rs"));
         assert!(rt; !matches_line(b"/*.rs", b"src/lib.rs"));
         assert!(rt; !matches_line(b"", b"x"));
         assert!(rt; matches_counted(b"*b", b"ab", Mode::empty()));
         assert!(rt; !matches_counted(b"*b", b"ba", Mode::empty()));
-        let Ok(list) = rules(rt.alloc(), b"#c\n*.rs \n!x\r\n", ".gitignore") else {
-            return assert!(rt; false, "no memory");
-        };
+        let list = rules(rt.alloc(), b"#c\n*.rs \n!x\r\n", ".gitignore")?;
         assert!(rt; list.patterns.len() == 2);
         let lists = [list];
         assert!(rt; last_rule(&lists, b"src/lib.rs", false) == Some((0, 0)));
         assert!(rt; last_rule(&lists, b"x", false) == Some((0, 1)));
         assert!(rt; last_rule(&lists, b"y", false).is_none());
-        let Ok(mappings) = Whole.bytes_to_patterns(rt.alloc(), b"!a\nb\n", "f") else {
-            return assert!(rt; false, "no memory");
-        };
+        let mappings = Whole.bytes_to_patterns(rt.alloc(), b"!a\nb\n", "f")?;
         assert!(rt; mappings.len() == 1);
+        Ok(())
     }
 }

@@ -1,5 +1,6 @@
 //! Each public item as a caller writes it: its name, the types and the order of its arguments, its answer and its traits. What it answers
 //! is proved and asked elsewhere; where one of these forms changes, this no longer compiles.
+use crate::Whole;
 use bitflags::Flags;
 use gix_glob::pattern::{self, Case};
 use gix_glob::search::pattern::{List, Mapping, strip_base_handle_recompute_basename_pos};
@@ -136,17 +137,17 @@ fn lists(rt: HostRuntime) -> Result<(), Fail> {
     let (name, root): (&str, Option<&str>) = ("d/ig", Some(""));
     let has_part: bool = has_file_part(name);
     assert!(rt; has_part);
-    let empty: List<PlainLines> = List::empty(alloc);
+    let empty: List<IgnoreLines> = List::empty(alloc);
     let source_file = String::from_str(alloc, name)?;
-    let read: Result<List<PlainLines>, AllocError> = List::from_bytes(
+    let read: Result<List<IgnoreLines>, AllocError> = List::from_bytes(
         alloc,
         bytes,
         source_file,
         root,
-        PlainLines,
+        IgnoreLines,
     );
     let list = read?;
-    let copy: Result<List<PlainLines>, AllocError> = list.clone();
+    let copy: Result<List<IgnoreLines>, AllocError> = list.clone();
     assert!(rt; copy? == list && empty != list);
     let read = PlainLines.bytes_to_patterns(alloc, bytes, name);
     let mappings: Vec<Mapping<()>> = read?;
@@ -166,41 +167,42 @@ fn lists(rt: HostRuntime) -> Result<(), Fail> {
     } = list;
     let fields: (Vec<Mapping<()>>, Option<String>, Option<Vec<u8>>) = (patterns, source, base);
     assert!(rt; fields.0 == mappings && fields.1.is_some() && fields.2.is_some());
-    let source = String::from_str(alloc, name)?;
-    let (mut reader, mut buf) = (Watched::new(bytes), Vec::new(alloc));
-    let read: Result<Option<List<PlainLines>>, LoadFault> = List::from_reader(
-        alloc,
-        &mut reader,
-        source,
-        root,
-        &mut buf,
-        PlainLines,
-    );
-    assert!(rt; read?.is_some() && buf.as_slice() == bytes);
     Ok(())
 }
 
 #[test]
 fn files(rt: HostRuntime) -> Result<(), Fail> {
-    let (alloc, root): (_, Option<&str>) = (rt.alloc(), None);
+    let (alloc, bytes): (_, &[u8]) = (rt.alloc(), b"*.rs");
+    let (name, root): (&str, Option<&str>) = ("/dev/null", None);
     let mut buf: Vec<u8> = Vec::new(alloc);
-    let source = String::from_str(alloc, "/no/such/patterns")?;
-    let read: Result<Option<List<LabelLines>>, LoadFault> = List::from_file(
-        &rt, alloc, source, root, &mut buf, LabelLines,
+    let source = String::from_str(alloc, name)?;
+    let mut reader = Watched::new(bytes);
+    let read: Result<Option<List<Whole>>, LoadFault> = List::from_reader(
+        alloc,
+        &mut reader,
+        source,
+        root,
+        &mut buf,
+        Whole,
     );
-    assert!(rt; read?.is_none());
-    let mut patterns: Vec<List<LabelLines>> = Vec::new(alloc);
-    let source = String::from_str(alloc, "/no/such/patterns")?;
-    let is_added: Result<bool, LoadFault> = add_patterns_file::<LabelLines, _>(
+    assert!(rt; read?.is_some() && buf.as_slice() == bytes);
+    let source = String::from_str(alloc, name)?;
+    let read: Result<Option<List<Whole>>, LoadFault> = List::from_file(
+        &rt, alloc, source, root, &mut buf, Whole,
+    );
+    assert!(rt; read?.is_some() && buf.is_empty());
+    let mut patterns: Vec<List<Whole>> = Vec::new(alloc);
+    let source = String::from_str(alloc, name)?;
+    let is_added: Result<bool, LoadFault> = add_patterns_file::<Whole, _>(
         &rt,
         alloc,
         &mut patterns,
         source,
         root,
         &mut buf,
-        LabelLines,
+        Whole,
     );
-    assert!(rt; !is_added? && patterns.is_empty());
+    assert!(rt; is_added? && patterns.len() == 1);
     let fault = LoadFault::Read(io::Error::other("gone"));
     assert!(rt;
         matches!(fault, LoadFault::Read(_)) && matches!(LoadFault::Memory, LoadFault::Memory)
@@ -219,7 +221,7 @@ fn stripping(rt: HostRuntime) -> Result<(), Fail> {
         Case::Sensitive,
     );
     assert!(rt; left == Some((b"b/c".as_slice(), Some(2))));
-    let list: List<PlainLines> = List::empty(rt.alloc());
+    let list: List<IgnoreLines> = List::empty(rt.alloc());
     let left: Option<(&[u8], Option<usize>)> = list.strip_base_handle_recompute_basename_pos(
         relative_path,
         basename_pos,
