@@ -2,7 +2,7 @@
 use crate::compare::same;
 use crate::lists::list_of;
 use gix_glob::pattern::Case;
-use glob_lines::{PlainLines, bases_are_folders};
+use glob_lines::{LabelLines, bases_are_folders};
 use glob_lists::{CountedDecision, ListIndex, RepositoryPath, Rules};
 use std::alloc::{AllocError, Global};
 use std::process::Abort;
@@ -57,7 +57,7 @@ fn lines_of(alloc: Global, text: &str, others: usize) -> Result<Vec<u8>, AllocEr
 /// Compares what an index answers for the path of a row.
 fn check_path(
     rt: &(impl Abort + AllocGlobal),
-    index: &ListIndex<'_, PlainLines>,
+    index: &ListIndex<'_, LabelLines>,
     path: &str,
     wanted: CountedDecision,
     row: usize,
@@ -73,7 +73,7 @@ fn check_path(
 fn only_what_can_match_is_asked(rt: HostRuntime) -> Result<(), Fail> {
     for (row, (text, others, path, pair, asked)) in ROWS.into_iter().enumerate() {
         let lines = lines_of(rt.alloc(), text, others)?;
-        let lists = [list_of(rt.alloc(), PlainLines, &lines)?];
+        let lists = [list_of(rt.alloc(), &lines)?];
         assert!(rt; bases_are_folders(&lists));
         let index = ListIndex::new(rt.alloc(), &lists, Rules::by_crate(Case::Sensitive))?;
         check_path(&rt, &index, path, CountedDecision { pair, asked }, row)?;
@@ -150,7 +150,7 @@ fn path_of(alloc: Global, seed: &mut u32) -> Result<String, AllocError> {
 /// How many patterns are asked for 300 paths, and about how many of these none decides.
 fn count_asked(
     alloc: Global,
-    index: &ListIndex<'_, PlainLines>,
+    index: &ListIndex<'_, LabelLines>,
     seed: &mut u32,
 ) -> Result<(usize, usize), Fail> {
     let (mut asked, mut undecided): (usize, usize) = (0, 0);
@@ -168,7 +168,7 @@ fn count_asked(
 fn of_a_thousand_patterns_few_are_asked(rt: HostRuntime) -> Result<(), Fail> {
     let mut seed = 7;
     let lines = thousand_lines(rt.alloc(), &mut seed)?;
-    let lists = [list_of(rt.alloc(), PlainLines, lines.as_bytes())?];
+    let lists = [list_of(rt.alloc(), lines.as_bytes())?];
     assert!(rt; bases_are_folders(&lists));
     let index = ListIndex::new(rt.alloc(), &lists, Rules::by_crate(Case::Sensitive))?;
     let (asked, undecided) = count_asked(rt.alloc(), &index, &mut seed)?;

@@ -9,6 +9,7 @@ pub(crate) struct Source<'a> {
     piece: usize,
     calls_left: usize,
     kind: ErrorKind,
+    text: Option<&'static str>,
 }
 
 impl<'a> Source<'a> {
@@ -19,12 +20,21 @@ impl<'a> Source<'a> {
             piece,
             calls_left: successes,
             kind: ErrorKind::Other,
+            text: None,
         }
     }
 
     /// Fails with an error of this kind.
     pub(crate) fn failing_with(self, kind: ErrorKind) -> Source<'a> {
         Source { kind, ..self }
+    }
+
+    /// Fails with an error that has a text of its own.
+    pub(crate) fn telling(self, text: &'static str) -> Source<'a> {
+        Source {
+            text: Some(text),
+            ..self
+        }
     }
 
     /// What was not read.
@@ -37,7 +47,10 @@ impl Read for Source<'_> {
     fn read(&mut self, buf: &mut [u8]) -> io::Result<usize> {
         if self.calls_left == 0 {
             self.calls_left = usize::MAX;
-            return Err(io::Error::from(self.kind));
+            return Err(match self.text {
+                Some(text) => io::Error::new(self.kind, text),
+                None => io::Error::from(self.kind),
+            });
         }
         self.calls_left -= 1;
         let count = self.rest.len().min(self.piece).min(buf.len());

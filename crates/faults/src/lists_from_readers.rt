@@ -4,9 +4,8 @@ use crate::fakes::Source;
 use crate::told::{count_of, same_words};
 use gix_glob::search::Watched;
 use gix_glob::search::pattern::List;
-use glob_uses::Whole;
-use std::io;
-use std::io::{ErrorKind, Read};
+use glob_lines::LabelLines;
+use std::io::ErrorKind;
 use std::process::Abort;
 use std::test::Fail;
 
@@ -26,7 +25,7 @@ fn check_each_read(
         let mut buf = Vec::from_slice(rt.alloc(), b"old")?;
         let mut reader = Watched::new(Source::new(BYTES, piece, successes).failing_with(kind));
         let source = String::from_str(rt.alloc(), "src/ig")?;
-        let answer = List::from_reader(rt.alloc(), &mut reader, source, None, &mut buf, Whole);
+        let answer = List::from_reader(rt.alloc(), &mut reader, source, None, &mut buf, LabelLines);
         let words = if fails { words } else { "1 patterns" };
         same_words(rt, count_of(answer), words, successes)?;
         same(
@@ -39,16 +38,6 @@ fn check_each_read(
         same(rt, buf.as_slice() == read, "what is read", successes);
     }
     Ok(())
-}
-
-/// A reader on which each read fails, with a text of its own.
-#[derive(Drop)]
-struct Torn;
-
-impl Read for Torn {
-    fn read(&mut self, _buf: &mut [u8]) -> io::Result<usize> {
-        Err(io::Error::new(ErrorKind::Other, "told at reading"))
-    }
 }
 
 /// Catches a call that answers for each failed read that there is no file. The error of a read is handed on.
@@ -69,8 +58,8 @@ fn failed_read_is_none(rt: HostRuntime) -> Result<(), Fail> {
     }
     let mut buf = Vec::new(rt.alloc());
     let source = String::from_str(rt.alloc(), "d/ig")?;
-    let mut reader = Watched::new(Torn);
-    let answer = List::from_reader(rt.alloc(), &mut reader, source, None, &mut buf, Whole);
+    let mut reader = Watched::new(Source::new(BYTES, 1, 0).telling("told at reading"));
+    let answer = List::from_reader(rt.alloc(), &mut reader, source, None, &mut buf, LabelLines);
     let words = "reading patterns: told at reading";
     Ok(same_words(&rt, count_of(answer), words, 0)?)
 }

@@ -2,13 +2,13 @@
 use crate::compare::same;
 use gix_glob::search::LoadFault;
 use gix_glob::search::pattern::List;
-use glob_uses::Whole;
+use glob_lines::LabelLines;
 use std::alloc::{AllocError, Global};
 use std::process::Abort;
 
 /// How many patterns the list has, where there is one.
 pub(crate) fn count_of(
-    answer: Result<Option<List<Whole>>, LoadFault>,
+    answer: Result<Option<List<LabelLines>>, LoadFault>,
 ) -> Result<Option<usize>, LoadFault> {
     match answer? {
         Some(list) => Ok(Some(list.patterns.len())),

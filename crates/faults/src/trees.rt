@@ -1,9 +1,9 @@
 //! Trees whose source fails: the fault is told, and the next call answers right.
 use crate::compare::same;
+use crate::lists::list_of;
 use gix_glob::pattern::Case;
-use gix_glob::search::Pattern as _;
 use gix_glob::search::pattern::List;
-use glob_lines::IgnoreLines;
+use glob_lines::LabelLines;
 use glob_lists::{RepositoryPath, Rules};
 use glob_trees::{FolderLists, Tree, TreeFault, list_in_folder};
 use std::alloc::{AllocError, Global};
@@ -39,27 +39,25 @@ impl Failing {
     }
 
     /// The list of a folder, with the lines of its ignore file.
-    fn read(&self, folder: &[u8]) -> Result<List<IgnoreLines>, AllocError> {
+    fn read(&self, folder: &[u8]) -> Result<List<LabelLines>, AllocError> {
         let lines: &[u8] = match folder {
             b"" => b"x\n",
             b"a" => b"!x\n",
             b"a/b" => b"x\n",
             _ => b"",
         };
-        let mut list = List::empty(self.alloc);
-        list.patterns = IgnoreLines.bytes_to_patterns(self.alloc, lines, "")?;
-        Ok(list)
+        list_of(self.alloc, lines)
     }
 }
 
-impl FolderLists<IgnoreLines> for Failing {
+impl FolderLists<LabelLines> for Failing {
     type Fault = SourceFault;
 
     ghost shows = { λ _ _ _ _. Unit {0} };
 
     ghost gave = { λ _ _. ⊥ };
 
-    fn list_of(&mut self, folder: &[u8]) -> Result<List<IgnoreLines>, SourceFault> {
+    fn list_of(&mut self, folder: &[u8]) -> Result<List<LabelLines>, SourceFault> {
         self.calls = self.calls.saturating_add(1);
         if self.calls == self.fails_at {
             return Err(SourceFault::Broken);
@@ -74,7 +72,7 @@ impl FolderLists<IgnoreLines> for Failing {
 }
 
 /// The tree of the source whose call of this number fails.
-pub(crate) fn tree_of(alloc: Global, fails_at: usize) -> Result<Tree<IgnoreLines, Failing>, Fail> {
+pub(crate) fn tree_of(alloc: Global, fails_at: usize) -> Result<Tree<LabelLines, Failing>, Fail> {
     let source = Failing::at(alloc, fails_at);
     let rules = Rules::by_crate(Case::Sensitive);
     Ok(Tree::new(alloc, source, Vec::new(alloc), rules).ok_or("a tree")?)
@@ -82,7 +80,7 @@ pub(crate) fn tree_of(alloc: Global, fails_at: usize) -> Result<Tree<IgnoreLines
 
 /// Which pattern decides about the path of a line.
 pub(crate) fn answer_of(
-    tree: &mut Tree<IgnoreLines, Failing>,
+    tree: &mut Tree<LabelLines, Failing>,
     line: &[u8],
 ) -> Result<Option<(usize, usize)>, TreeFault<SourceFault>> {
     match RepositoryPath::of_line(line) {

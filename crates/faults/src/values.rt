@@ -1,10 +1,10 @@
 //! Patterns, mappings and lists as values: taken apart, copied, empty, and ordered.
 use crate::compare::same;
+use crate::lists::list_of;
 use bitflags::Flags;
 use gix_glob::pattern::{Case, Pattern};
-use gix_glob::search::Pattern as _;
 use gix_glob::search::pattern::{List, Mapping};
-use glob_lines::PlainLines;
+use glob_lines::LabelLines;
 use std::alloc::{AllocError, Global};
 use std::cmp::Ordering;
 use std::test::Fail;
@@ -20,7 +20,7 @@ fn values_are_taken_apart_and_copied(rt: HostRuntime) -> Result<(), Fail> {
         .err()
         .ok_or("no pattern")?;
     assert!(rt; back.as_slice() == b"a/*.c".as_slice());
-    let list: List<PlainLines> = List::empty(alloc);
+    let list: List<LabelLines> = List::empty(alloc);
     assert!(rt; list.patterns.is_empty() && list.source.is_none() && list.base.is_none());
     let left = list.strip_base_handle_recompute_basename_pos(b"a", Some(0), Case::Sensitive);
     assert!(rt; left == Some((b"a".as_slice(), Some(0))));
@@ -37,12 +37,12 @@ fn ascend<T: Ord>(first: &T, second: &T) -> bool {
 /// The mapping of a pattern line, with a value and a number.
 fn mapping(
     alloc: Global,
-    (line, value, sequence_number): (&str, u8, usize),
-) -> Result<Mapping<u8>, Fail> {
+    (line, value, sequence_number): (&str, &str, usize),
+) -> Result<Mapping<Vec<u8>>, Fail> {
     let pattern = Pattern::from_bytes(alloc, line.as_bytes())?.ok_or("a pattern")?;
     Ok(Mapping {
         pattern,
-        value,
+        value: Vec::from_slice(alloc, value.as_bytes())?,
         sequence_number,
     })
 }
@@ -51,33 +51,29 @@ fn mapping(
 type Parts = (&'static str, Option<&'static str>, Option<&'static str>);
 
 /// Such a list.
-fn list(alloc: Global, (lines, source, base): Parts) -> Result<List<PlainLines>, AllocError> {
-    let patterns = PlainLines.bytes_to_patterns(alloc, lines.as_bytes(), "")?;
-    let source = match source {
+fn list(alloc: Global, (lines, source, base): Parts) -> Result<List<LabelLines>, AllocError> {
+    let mut list = list_of(alloc, lines.as_bytes())?;
+    list.source = match source {
         Some(text) => Some(String::from_str(alloc, text)?),
         None => None,
     };
-    let base = match base {
+    list.base = match base {
         Some(text) => Some(Vec::from_slice(alloc, text.as_bytes())?),
         None => None,
     };
-    Ok(List {
-        patterns,
-        source,
-        base,
-    })
+    Ok(list)
 }
 
 /// Mappings ascend by pattern, value and number; lists by mappings, source and base.
 #[test]
 fn values_ascend(rt: HostRuntime) -> Result<(), Fail> {
     let mappings = [
-        (("/", 1, 2), ("a", 0, 1)),
-        (("a", 1, 2), ("b", 0, 1)),
-        (("a", 1, 2), ("!a", 0, 1)),
-        (("!a", 1, 2), ("/a", 0, 1)),
-        (("a", 0, 1), ("a", 1, 0)),
-        (("a", 0, 1), ("a", 0, 2)),
+        (("/", "b", 2), ("a", "a", 1)),
+        (("a", "b", 2), ("b", "a", 1)),
+        (("a", "b", 2), ("!a", "a", 1)),
+        (("!a", "b", 2), ("/a", "a", 1)),
+        (("a", "a", 1), ("a", "b", 0)),
+        (("a", "a", 1), ("a", "a", 2)),
     ];
     for (row, (low, high)) in mappings.into_iter().enumerate() {
         let (first, second) = (mapping(rt.alloc(), low)?, mapping(rt.alloc(), high)?);

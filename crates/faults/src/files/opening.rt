@@ -4,7 +4,7 @@ use super::{add_list, list_of};
 use crate::compare::same;
 use crate::told::{count_of, same_words};
 use gix_glob::search::pattern::List;
-use glob_uses::Whole;
+use glob_lines::LabelLines;
 use std::fs;
 use std::io::ErrorKind;
 use std::process::Abort;
@@ -72,7 +72,7 @@ fn a_file_is_opened_by_its_source_alone(rt: HostRuntime) -> Result<(), Fail> {
     let mut buf = Vec::new(rt.alloc());
     fs::write(&rt, path.as_str(), "*.rs")?;
     let files = OneFile::new(&rt, "r/d/ig", Opening::Opens(path.as_str()));
-    let list = List::from_file(&files, rt.alloc(), source, Some("r"), &mut buf, Whole);
+    let list = List::from_file(&files, rt.alloc(), source, Some("r"), &mut buf, LabelLines);
     fs::remove_file(&rt, path.as_str())?;
     let list = list?.ok_or("no list")?;
     let base = list.base.as_ref().map(|base| base.as_slice());

@@ -1,10 +1,10 @@
 //! Real files: long ones, linked ones, closed ones, and names that are no file.
+use super::one_file::{OneFile, Opening};
 use super::{add_list, list_of};
 use crate::compare::same;
 use crate::told::{count_of, same_words};
 use gix_glob::search::pattern::List;
-use glob_lines::PlainLines;
-use glob_uses::Whole;
+use glob_lines::LabelLines;
 use std::alloc::{AllocError, Global};
 use std::os::unix::fs::{PermissionsExt, symlink};
 use std::process::Abort;
@@ -13,21 +13,26 @@ use std::test::Fail;
 use std::{env, fs, process};
 
 /// A name of this run's own in the folder for files that don't last.
-pub(super) fn path_of(rt: &HostRuntime, name: &str) -> Result<String, Fail> {
+pub(crate) fn path_of(rt: &HostRuntime, name: &str) -> Result<String, Fail> {
     let number = process::id(rt.process());
     let folder = env::temp_dir(rt)?;
     let folder = folder.as_str();
     Ok(format!(in rt.alloc(); "{folder}/faults-{name}-{number}")?)
 }
 
+/// The file system in which this name is that of the real one.
+pub(crate) fn real<'a, F: Files>(rt: &'a F, name: &'a str) -> OneFile<'a, F> {
+    OneFile::new(rt, name, Opening::Opens(name))
+}
+
 /// A list of this pattern.
-fn list_with(alloc: Global, pattern: &[u8]) -> Result<List<Whole>, AllocError> {
+fn list_with(alloc: Global, pattern: &[u8]) -> Result<List<LabelLines>, AllocError> {
     let source = String::from_str(alloc, "d/ig")?;
-    List::from_bytes(alloc, pattern, source, None, Whole)
+    List::from_bytes(alloc, pattern, source, None, LabelLines)
 }
 
 /// Two lists, each of a pattern.
-fn two_lists(alloc: Global) -> Result<Vec<List<Whole>>, AllocError> {
+fn two_lists(alloc: Global) -> Result<Vec<List<LabelLines>>, AllocError> {
     let mut lists = Vec::new(alloc);
     lists.push(list_with(alloc, b"a*")?)?;
     lists.push(list_with(alloc, b"!b")?)?;
@@ -35,7 +40,7 @@ fn two_lists(alloc: Global) -> Result<Vec<List<Whole>>, AllocError> {
 }
 
 /// Whether the lists begin with those two, behind which there are none or empty ones.
-fn are_kept(alloc: Global, lists: &[List<Whole>]) -> Result<bool, AllocError> {
+fn are_kept(alloc: Global, lists: &[List<LabelLines>]) -> Result<bool, AllocError> {
     let (front, rest) = lists.split_at(lists.len().min(2));
     let are_empty = rest.iter().all(|list| list.patterns.is_empty());
     Ok(are_empty && front == two_lists(alloc)?.as_slice())
@@ -48,7 +53,7 @@ fn check_list<F: Abort + AllocGlobal + Files>(
     words: &str,
     row: usize,
 ) -> Result<(), Fail> {
-    let (answer, buf) = list_of(rt, rt.alloc(), name)?;
+    let (answer, buf) = list_of(&real(rt, name), rt.alloc(), name)?;
     same(rt, buf.is_empty(), "no bytes are left", row);
     Ok(same_words(rt, count_of(answer), words, row)?)
 }
@@ -61,7 +66,7 @@ fn check_added<F: Abort + AllocGlobal + Files>(
     row: usize,
 ) -> Result<(), Fail> {
     let mut lists = two_lists(rt.alloc())?;
-    let (answer, buf) = add_list(rt, rt.alloc(), &mut lists, name)?;
+    let (answer, buf) = add_list(&real(rt, name), rt.alloc(), &mut lists, name)?;
     same(rt, buf.is_empty(), "no bytes are left", row);
     let is_added = lists.len() == 3;
     same(rt, is_added == (words == "0 patterns"), "it is added", row);
@@ -94,7 +99,7 @@ fn file_always_fails(rt: HostRuntime) -> Result<(), Fail> {
 
 /// Whether the list of the file of this name has this text as its pattern, and the buffer has it as it was read.
 fn is_read_whole<F: AllocGlobal + Files>(rt: &F, name: &str, text: &[u8]) -> Result<bool, Fail> {
-    let (answer, buf) = list_of(rt, rt.alloc(), name)?;
+    let (answer, buf) = list_of(&real(rt, name), rt.alloc(), name)?;
     let list = answer?.ok_or("no list")?;
     let mapping = list.patterns.first().ok_or("no mapping")?;
     Ok(mapping.pattern.text() == text && buf.as_slice() == text && list.base.is_none())
@@ -125,7 +130,7 @@ fn a_file_without_permission_is_no_missing_one(rt: HostRuntime) -> Result<(), Fa
     fs::set_permissions(&rt, path.as_str(), fs::Permissions::from_mode(0))?;
     // whoever may read every file may read this one
     let is_open = fs::open(&rt, path.as_str()).is_ok();
-    let (answer, _) = list_of(&rt, rt.alloc(), path.as_str())?;
+    let (answer, _) = list_of(&real(&rt, path.as_str()), rt.alloc(), path.as_str())?;
     fs::remove_file(&rt, path.as_str())?;
     let words = if is_open {
         "1 patterns"
@@ -140,8 +145,7 @@ fn a_file_without_permission_is_no_missing_one(rt: HostRuntime) -> Result<(), Fa
 fn lines_of_a_file_are_numbered(rt: HostRuntime) -> Result<(), Fail> {
     let path = path_of(&rt, "lines")?;
     fs::write(&rt, path.as_str(), "*.rs\n\nsrc/\n")?;
-    let (source, mut buf) = (path.clone()?, Vec::new(rt.alloc()));
-    let answer = List::from_file(&rt, rt.alloc(), source, None, &mut buf, PlainLines);
+    let (answer, _) = list_of(&real(&rt, path.as_str()), rt.alloc(), path.as_str())?;
     fs::remove_file(&rt, path.as_str())?;
     let list = answer?.ok_or("no list")?;
     let [first, third] = list.patterns.as_slice() else {
@@ -161,10 +165,11 @@ fn a_list_is_added_behind_many(rt: HostRuntime) -> Result<(), Fail> {
     fs::write(&rt, path.as_str(), "a\n\nb\n")?;
     let mut lists = Vec::new(rt.alloc());
     for count in 1..80 {
-        let (answer, _) = add_list(&rt, rt.alloc(), &mut lists, path.as_str())?;
+        let files = real(&rt, path.as_str());
+        let (answer, _) = add_list(&files, rt.alloc(), &mut lists, path.as_str())?;
         let is_added = answer? && lists.len() == count;
         let patterns = lists.last().map_or(0, |added| added.patterns.len());
-        same(&rt, is_added && patterns == 1, "a list is added", count);
+        same(&rt, is_added && patterns == 2, "a list is added", count);
     }
     fs::remove_file(&rt, path.as_str())?;
     Ok(())

@@ -1,15 +1,17 @@
 //! Lists that are read from readers and from files.
+use crate::fakes::Source;
+use crate::files::real::{path_of, real};
 use gix_glob::search::pattern::{List, Mapping};
 use gix_glob::search::{LoadFault, Watched, add_patterns_file};
-use glob_lines::PlainLines;
+use glob_lines::LabelLines;
 use std::alloc::{AllocError, Global};
+use std::fs;
 use std::test::Fail;
-use std::{env, fs, process};
 
 const LINES: &[u8] = b"*.rs\n\n!src/\n";
 
 /// Whether the mappings are those of the lines.
-fn are_read(mappings: &[Mapping<()>]) -> bool {
+fn are_read(mappings: &[Mapping<Vec<u8>>]) -> bool {
     let [first, second] = mappings else {
         return false;
     };
@@ -25,9 +27,9 @@ fn read_into(
     alloc: Global,
     source: String,
     buf: &mut Vec<u8>,
-) -> Result<Option<List<PlainLines>>, LoadFault> {
-    let mut reader = Watched::new(LINES);
-    List::from_reader(alloc, &mut reader, source, None, buf, PlainLines)
+) -> Result<Option<List<LabelLines>>, LoadFault> {
+    let mut reader = Watched::new(Source::new(LINES, usize::MAX, usize::MAX));
+    List::from_reader(alloc, &mut reader, source, None, buf, LabelLines)
 }
 
 #[test]
@@ -40,21 +42,13 @@ fn a_list_is_read(rt: HostRuntime) -> Result<(), Fail> {
     Ok(())
 }
 
-/// A name of this run's own in the folder for files that don't last.
-fn path_of(rt: &HostRuntime) -> Result<String, Fail> {
-    let number = process::id(rt.process());
-    let folder = env::temp_dir(rt)?;
-    let folder = folder.as_str();
-    Ok(format!(in rt.alloc(); "{folder}/faults-lines-{number}")?)
-}
-
 #[test]
 fn a_list_is_read_from_a_file(rt: HostRuntime) -> Result<(), Fail> {
-    let path = path_of(&rt)?;
+    let path = path_of(&rt, "refused")?;
     let source = path.clone()?;
     fs::write(&rt, path.as_str(), LINES)?;
-    let mut buf = Vec::new(rt.alloc());
-    let read = List::from_file(&rt, rt.alloc(), source, None, &mut buf, PlainLines);
+    let (files, mut buf) = (real(&rt, path.as_str()), Vec::new(rt.alloc()));
+    let read = List::from_file(&files, rt.alloc(), source, None, &mut buf, LabelLines);
     fs::remove_file(&rt, path.as_str())?;
     assert!(rt; LINES.starts_with(&buf));
     assert!(rt; read?.is_some_and(|list| are_read(&list.patterns)));
@@ -62,16 +56,16 @@ fn a_list_is_read_from_a_file(rt: HostRuntime) -> Result<(), Fail> {
 }
 
 /// Two lists, with room for no third one.
-fn two_lists(alloc: Global) -> Result<Vec<List<PlainLines>>, AllocError> {
+fn two_lists(alloc: Global) -> Result<Vec<List<LabelLines>>, AllocError> {
     let mut lists = Vec::with_capacity(alloc, 2)?;
     let source = String::from_str(alloc, "d/ig")?;
-    lists.push(List::from_bytes(alloc, LINES, source, Some(""), PlainLines)?)?;
+    lists.push(List::from_bytes(alloc, LINES, source, Some(""), LabelLines)?)?;
     lists.push(List::empty(alloc))?;
     Ok(lists)
 }
 
 /// Whether the lists begin with those two.
-fn are_kept(lists: &[List<PlainLines>]) -> bool {
+fn are_kept(lists: &[List<LabelLines>]) -> bool {
     match lists {
         [first, second, ..] => {
             are_read(&first.patterns) && first.base.is_some() && second.patterns.is_empty()
@@ -83,18 +77,18 @@ fn are_kept(lists: &[List<PlainLines>]) -> bool {
 #[test]
 fn a_refusal_leaves_two_lists(rt: HostRuntime) -> Result<(), Fail> {
     let mut lists = two_lists(rt.alloc())?;
-    let path = path_of(&rt)?;
+    let path = path_of(&rt, "refused")?;
     let source = path.clone()?;
     fs::write(&rt, path.as_str(), LINES)?;
-    let mut buf = Vec::new(rt.alloc());
+    let (files, mut buf) = (real(&rt, path.as_str()), Vec::new(rt.alloc()));
     let added = add_patterns_file(
-        &rt,
+        &files,
         rt.alloc(),
         &mut lists,
         source,
         None,
         &mut buf,
-        PlainLines,
+        LabelLines,
     );
     fs::remove_file(&rt, path.as_str())?;
     assert!(rt; are_kept(&lists) && (lists.len() == 3) == added.is_ok());
