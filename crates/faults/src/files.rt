@@ -11,7 +11,7 @@ use std::alloc::{AllocError, Global};
 use std::rt::Files;
 
 /// The list of the file of this name, which has no root, and what is left in the buffer.
-fn list_of<F: Files>(
+pub(crate) fn list_of<F: Files>(
     files: &OneFile<'_, F>,
     alloc: Global,
     name: &str,
@@ -23,7 +23,7 @@ fn list_of<F: Files>(
 }
 
 /// Adds the list of the file of this name behind others: the answer, and what is left in the buffer.
-fn add_list<F: Files>(
+pub(crate) fn add_list<F: Files>(
     files: &OneFile<'_, F>,
     alloc: Global,
     lists: &mut Vec<List<LabelLines>>,

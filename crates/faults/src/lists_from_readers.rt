@@ -2,14 +2,27 @@
 use crate::compare::same;
 use crate::fakes::Source;
 use crate::told::{count_of, same_words};
-use gix_glob::search::Watched;
 use gix_glob::search::pattern::List;
+use gix_glob::search::{LoadFault, Watched};
 use glob_lines::LabelLines;
+use std::alloc::{AllocError, Global};
 use std::io::ErrorKind;
 use std::process::Abort;
 use std::test::Fail;
 
 const BYTES: &[u8] = b"*.rs";
+
+/// What reading a list comes to, what is left in the buffer, and whether a read failed.
+type Loaded = (Result<Option<List<LabelLines>>, LoadFault>, Vec<u8>, bool);
+
+/// The list of what is read, which has no root.
+pub(crate) fn list_of(alloc: Global, bytes: Source<'_>) -> Result<Loaded, AllocError> {
+    let mut buf = Vec::from_slice(alloc, b"old")?;
+    let source = String::from_str(alloc, "src/ig")?;
+    let mut reader = Watched::new(bytes);
+    let answer = List::from_reader(alloc, &mut reader, source, None, &mut buf, LabelLines);
+    Ok((answer, buf, reader.failed()))
+}
 
 /// Reads from a reader of so many bytes a read, of which each read fails in turn.
 fn check_each_read(
@@ -22,18 +35,11 @@ fn check_each_read(
         let given = successes.saturating_mul(piece);
         // the read behind the last byte finds the end
         let fails = given <= BYTES.len();
-        let mut buf = Vec::from_slice(rt.alloc(), b"old")?;
-        let mut reader = Watched::new(Source::new(BYTES, piece, successes).failing_with(kind));
-        let source = String::from_str(rt.alloc(), "src/ig")?;
-        let answer = List::from_reader(rt.alloc(), &mut reader, source, None, &mut buf, LabelLines);
+        let source = Source::new(BYTES, piece, successes).failing_with(kind);
+        let (answer, buf, has_failed) = list_of(rt.alloc(), source)?;
         let words = if fails { words } else { "1 patterns" };
         same_words(rt, count_of(answer), words, successes)?;
-        same(
-            rt,
-            reader.failed() == fails,
-            "whether the reader failed",
-            successes,
-        );
+        same(rt, has_failed == fails, "whether a read failed", successes);
         let read = &BYTES[..given.min(BYTES.len())];
         same(rt, buf.as_slice() == read, "what is read", successes);
     }
@@ -56,10 +62,8 @@ fn failed_read_is_none(rt: HostRuntime) -> Result<(), Fail> {
         check_each_read(&rt, 1, kind, words)?;
         check_each_read(&rt, BYTES.len(), kind, words)?;
     }
-    let mut buf = Vec::new(rt.alloc());
-    let source = String::from_str(rt.alloc(), "d/ig")?;
-    let mut reader = Watched::new(Source::new(BYTES, 1, 0).telling("told at reading"));
-    let answer = List::from_reader(rt.alloc(), &mut reader, source, None, &mut buf, LabelLines);
+    let source = Source::new(BYTES, 1, 0).telling("told at reading");
+    let (answer, ..) = list_of(rt.alloc(), source)?;
     let words = "reading patterns: told at reading";
     Ok(same_words(&rt, count_of(answer), words, 0)?)
 }

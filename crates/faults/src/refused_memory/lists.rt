@@ -1,8 +1,8 @@
 //! Lists that are read from readers and from files.
 use crate::fakes::Source;
 use crate::files::real::{path_of, real};
+use crate::{files, lists_from_readers};
 use gix_glob::search::pattern::{List, Mapping};
-use gix_glob::search::{LoadFault, Watched, add_patterns_file};
 use glob_lines::LabelLines;
 use std::alloc::{AllocError, Global};
 use std::fs;
@@ -22,21 +22,10 @@ fn are_read(mappings: &[Mapping<Vec<u8>>]) -> bool {
         && second.pattern.is_negative()
 }
 
-/// Reads the list of the lines into a buffer.
-fn read_into(
-    alloc: Global,
-    source: String,
-    buf: &mut Vec<u8>,
-) -> Result<Option<List<LabelLines>>, LoadFault> {
-    let mut reader = Watched::new(Source::new(LINES, usize::MAX, usize::MAX));
-    List::from_reader(alloc, &mut reader, source, None, buf, LabelLines)
-}
-
 #[test]
 fn a_list_is_read(rt: HostRuntime) -> Result<(), Fail> {
-    let mut buf = Vec::new(rt.alloc());
-    let source = String::from_str(rt.alloc(), "d/ig")?;
-    let read = read_into(rt.alloc(), source, &mut buf);
+    let source = Source::new(LINES, usize::MAX, usize::MAX);
+    let (read, buf, _) = lists_from_readers::list_of(rt.alloc(), source)?;
     assert!(rt; LINES.starts_with(&buf));
     assert!(rt; read?.is_some_and(|list| are_read(&list.patterns)));
     Ok(())
@@ -45,11 +34,10 @@ fn a_list_is_read(rt: HostRuntime) -> Result<(), Fail> {
 #[test]
 fn a_list_is_read_from_a_file(rt: HostRuntime) -> Result<(), Fail> {
     let path = path_of(&rt, "refused")?;
-    let source = path.clone()?;
     fs::write(&rt, path.as_str(), LINES)?;
-    let (files, mut buf) = (real(&rt, path.as_str()), Vec::new(rt.alloc()));
-    let read = List::from_file(&files, rt.alloc(), source, None, &mut buf, LabelLines);
+    let loaded = files::list_of(&real(&rt, path.as_str()), rt.alloc(), path.as_str());
     fs::remove_file(&rt, path.as_str())?;
+    let (read, buf) = loaded?;
     assert!(rt; LINES.starts_with(&buf));
     assert!(rt; read?.is_some_and(|list| are_read(&list.patterns)));
     Ok(())
@@ -78,19 +66,11 @@ fn are_kept(lists: &[List<LabelLines>]) -> bool {
 fn a_refusal_leaves_two_lists(rt: HostRuntime) -> Result<(), Fail> {
     let mut lists = two_lists(rt.alloc())?;
     let path = path_of(&rt, "refused")?;
-    let source = path.clone()?;
     fs::write(&rt, path.as_str(), LINES)?;
-    let (files, mut buf) = (real(&rt, path.as_str()), Vec::new(rt.alloc()));
-    let added = add_patterns_file(
-        &files,
-        rt.alloc(),
-        &mut lists,
-        source,
-        None,
-        &mut buf,
-        LabelLines,
-    );
+    let files = real(&rt, path.as_str());
+    let loaded = files::add_list(&files, rt.alloc(), &mut lists, path.as_str());
     fs::remove_file(&rt, path.as_str())?;
+    let (added, _) = loaded?;
     assert!(rt; are_kept(&lists) && (lists.len() == 3) == added.is_ok());
     assert!(rt; added?);
     Ok(())
