@@ -13,7 +13,7 @@ type Row<'a> = (&'a str, usize, &'a str, Option<(usize, usize)>, usize);
 
 /// A pattern is asked where the path ends as its literal end does; where it has none, where the path's last part has its literal bytes,
 /// side by side as they stand in it.
-const ROWS: [Row<'static>; 16] = [
+const ROWS: &[Row<'static>] = &[
     ("a\nb\na\n/c/a\n", 12, "a", Some((0, 2)), 2),
     ("a\nb\na\n/c/a\n", 12, "c/a", Some((0, 3)), 1),
     ("a\nb\na\n/c/a\n", 12, "b", Some((0, 1)), 1),
@@ -71,12 +71,16 @@ fn check_path(
 
 #[test]
 fn only_what_can_match_is_asked(rt: HostRuntime) -> Result<(), Fail> {
-    for (row, (text, others, path, pair, asked)) in ROWS.into_iter().enumerate() {
-        let lines = lines_of(rt.alloc(), text, others)?;
+    for (row, (text, others, path, pair, asked)) in ROWS.iter().enumerate() {
+        let lines = lines_of(rt.alloc(), text, *others)?;
         let lists = [list_of(rt.alloc(), &lines)?];
         assert!(rt; bases_are_folders(&lists));
         let index = ListIndex::new(rt.alloc(), &lists, Rules::by_crate(Case::Sensitive))?;
-        check_path(&rt, &index, path, CountedDecision { pair, asked }, row)?;
+        let wanted = CountedDecision {
+            pair: *pair,
+            asked: *asked,
+        };
+        check_path(&rt, &index, path, wanted, row)?;
     }
     Ok(())
 }

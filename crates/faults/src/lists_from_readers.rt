@@ -46,21 +46,23 @@ fn check_each_read(
     Ok(())
 }
 
+/// What each error of a read comes to.
+const ERRORS: &[(ErrorKind, &str)] = &[
+    (ErrorKind::IsADirectory, "none"),
+    (ErrorKind::NotADirectory, "none"),
+    (
+        ErrorKind::Interrupted,
+        "reading patterns: operation interrupted",
+    ),
+    (ErrorKind::Other, "reading patterns: other error"),
+];
+
 /// Catches a call that answers for each failed read that there is no file. The error of a read is handed on.
 #[test]
 fn failed_read_is_none(rt: HostRuntime) -> Result<(), Fail> {
-    let rows = [
-        (ErrorKind::IsADirectory, "none"),
-        (ErrorKind::NotADirectory, "none"),
-        (
-            ErrorKind::Interrupted,
-            "reading patterns: operation interrupted",
-        ),
-        (ErrorKind::Other, "reading patterns: other error"),
-    ];
-    for (kind, words) in rows {
-        check_each_read(&rt, 1, kind, words)?;
-        check_each_read(&rt, BYTES.len(), kind, words)?;
+    for (kind, words) in ERRORS {
+        check_each_read(&rt, 1, *kind, words)?;
+        check_each_read(&rt, BYTES.len(), *kind, words)?;
     }
     let source = Source::new(BYTES, 1, 0).telling("told at reading");
     let (answer, ..) = list_of(rt.alloc(), source)?;

@@ -89,23 +89,25 @@ pub(crate) fn answer_of(
     }
 }
 
+/// Paths, and what decides about each.
+const PATHS: &[(&[u8], Option<(usize, usize)>)] = &[
+    (b"a/b/x", Some((2, 0))),
+    (b"x", Some((0, 0))),
+    (b"a/x", Some((1, 0))),
+    (b"a/b/c", None),
+];
+
 /// Asks about paths, and once more where the source fails: how often it did. The row is the call that fails.
 fn faults_told(rt: &(impl Abort + AllocGlobal), fails_at: usize) -> Result<u32, Fail> {
-    let paths: [(&[u8], Option<(usize, usize)>); 4] = [
-        (b"a/b/x", Some((2, 0))),
-        (b"x", Some((0, 0))),
-        (b"a/x", Some((1, 0))),
-        (b"a/b/c", None),
-    ];
     let mut tree = tree_of(rt.alloc(), fails_at)?;
     let mut told = 0u32;
-    for (line, wanted) in paths {
+    for (line, wanted) in PATHS {
         let mut answer = answer_of(&mut tree, line);
         if answer == Err(TreeFault::Source(SourceFault::Broken)) {
             told = told.saturating_add(1);
             answer = answer_of(&mut tree, line);
         }
-        same(rt, answer == Ok(wanted), "what decides", fails_at);
+        same(rt, answer == Ok(*wanted), "what decides", fails_at);
     }
     Ok(told)
 }

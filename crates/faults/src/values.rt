@@ -34,11 +34,11 @@ fn ascend<T: Ord>(first: &T, second: &T) -> bool {
     is_less && second.cmp(first) == Ordering::Greater && first.cmp(first) == Ordering::Equal
 }
 
-/// The mapping of a pattern line, with a value and a number.
-fn mapping(
-    alloc: Global,
-    (line, value, sequence_number): (&str, &str, usize),
-) -> Result<Mapping<Vec<u8>>, Fail> {
+/// A pattern line, a value and a number.
+type Line = (&'static str, &'static str, usize);
+
+/// Such a mapping.
+fn mapping(alloc: Global, (line, value, sequence_number): Line) -> Result<Mapping<Vec<u8>>, Fail> {
     let pattern = Pattern::from_bytes(alloc, line.as_bytes())?.ok_or("a pattern")?;
     Ok(Mapping {
         pattern,
@@ -64,32 +64,40 @@ fn list(alloc: Global, (lines, source, base): Parts) -> Result<List<LabelLines>,
     Ok(list)
 }
 
-/// Mappings ascend by pattern, value and number; lists by mappings, source and base.
+/// Mappings of which each second one is greater: by pattern, value and number.
+const MAPPINGS: &[(Line, Line)] = &[
+    (("/", "b", 2), ("a", "a", 1)),
+    (("a", "b", 2), ("b", "a", 1)),
+    (("a", "b", 2), ("!a", "a", 1)),
+    (("!a", "b", 2), ("/a", "a", 1)),
+    (("a", "a", 1), ("a", "b", 0)),
+    (("a", "a", 1), ("a", "a", 2)),
+];
+
+/// Lists of which each second one is greater: by mappings, source and base.
+const LISTS: &[(Parts, Parts)] = &[
+    (("", Some("b"), Some("b")), ("a", None, None)),
+    (("a", Some("b"), None), ("a\nb", None, None)),
+    (("a\nb", None, None), ("b", None, None)),
+    (("a", None, Some("")), ("a", Some(""), None)),
+    (("", None, Some("")), ("", Some(""), None)),
+    (("", Some("a"), Some("")), ("", Some("b"), None)),
+    (("", Some("a"), None), ("", Some("a"), Some(""))),
+];
+
 #[test]
-fn values_ascend(rt: HostRuntime) -> Result<(), Fail> {
-    let mappings = [
-        (("/", "b", 2), ("a", "a", 1)),
-        (("a", "b", 2), ("b", "a", 1)),
-        (("a", "b", 2), ("!a", "a", 1)),
-        (("!a", "b", 2), ("/a", "a", 1)),
-        (("a", "a", 1), ("a", "b", 0)),
-        (("a", "a", 1), ("a", "a", 2)),
-    ];
-    for (row, (low, high)) in mappings.into_iter().enumerate() {
-        let (first, second) = (mapping(rt.alloc(), low)?, mapping(rt.alloc(), high)?);
+fn mappings_ascend(rt: HostRuntime) -> Result<(), Fail> {
+    for (row, (low, high)) in MAPPINGS.iter().enumerate() {
+        let (first, second) = (mapping(rt.alloc(), *low)?, mapping(rt.alloc(), *high)?);
         same(&rt, ascend(&first, &second), "mappings", row);
     }
-    let lists: [(Parts, Parts); 7] = [
-        (("", Some("b"), Some("b")), ("a", None, None)),
-        (("a", Some("b"), None), ("a\nb", None, None)),
-        (("a\nb", None, None), ("b", None, None)),
-        (("a", None, Some("")), ("a", Some(""), None)),
-        (("", None, Some("")), ("", Some(""), None)),
-        (("", Some("a"), Some("")), ("", Some("b"), None)),
-        (("", Some("a"), None), ("", Some("a"), Some(""))),
-    ];
-    for (row, (low, high)) in lists.into_iter().enumerate() {
-        let (first, second) = (list(rt.alloc(), low)?, list(rt.alloc(), high)?);
+    Ok(())
+}
+
+#[test]
+fn lists_ascend(rt: HostRuntime) -> Result<(), Fail> {
+    for (row, (low, high)) in LISTS.iter().enumerate() {
+        let (first, second) = (list(rt.alloc(), *low)?, list(rt.alloc(), *high)?);
         same(&rt, ascend(&first, &second), "lists", row);
     }
     Ok(())

@@ -40,27 +40,28 @@ fn check_added<F: Abort + AllocGlobal + Files>(
     Ok(same_words(rt, added, words, row)?)
 }
 
-/// Want of memory in opening is no failed read, and only what isn't there is no fault.
+/// What each error of opening comes to: want of memory is no failed read, and only what isn't there is no fault.
+const ERRORS: &[(ErrorKind, &str)] = &[
+    (ErrorKind::NotFound, "none"),
+    (ErrorKind::IsADirectory, "none"),
+    (ErrorKind::NotADirectory, "none"),
+    (
+        ErrorKind::OutOfMemory,
+        "out of memory while loading patterns",
+    ),
+    (
+        ErrorKind::PermissionDenied,
+        "reading patterns: told at opening",
+    ),
+    (ErrorKind::Interrupted, "reading patterns: told at opening"),
+    (ErrorKind::Other, "reading patterns: told at opening"),
+];
+
 #[test]
 fn each_error_of_opening_is_told(rt: HostRuntime) -> Result<(), Fail> {
-    let rows = [
-        (ErrorKind::NotFound, "none"),
-        (ErrorKind::IsADirectory, "none"),
-        (ErrorKind::NotADirectory, "none"),
-        (
-            ErrorKind::OutOfMemory,
-            "out of memory while loading patterns",
-        ),
-        (
-            ErrorKind::PermissionDenied,
-            "reading patterns: told at opening",
-        ),
-        (ErrorKind::Interrupted, "reading patterns: told at opening"),
-        (ErrorKind::Other, "reading patterns: told at opening"),
-    ];
-    for (row, (kind, words)) in rows.into_iter().enumerate() {
-        check_list(&rt, kind, words, row)?;
-        check_added(&rt, kind, words, row)?;
+    for (row, (kind, words)) in ERRORS.iter().enumerate() {
+        check_list(&rt, *kind, words, row)?;
+        check_added(&rt, *kind, words, row)?;
     }
     Ok(())
 }
