@@ -22,7 +22,7 @@ use std::process::ExitCode;
 use std::rt::Files;
 
 /// The subjects of the rows that are asked, each of which has a file.
-const SUBJECTS: [&str; 36] = [
+const SUBJECTS: &[&str] = &[
     "matching",
     "starts",
     "attempts",
