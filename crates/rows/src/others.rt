@@ -3,10 +3,10 @@
 use crate::answer::{Answer, field, one, room, told, two};
 use crate::row::Row;
 use anyhow::Result;
+use byte_streams::{Answerer, RecordStream};
 use git_repository::trusts;
 use gix_glob::search::Watched;
 use pathspecs::Pathspec;
-use byte_streams::{Answerer, RecordStream};
 use std::alloc::{AllocError, Global};
 
 /// Answers a record by the record in brackets.
