@@ -10,6 +10,7 @@ pub mod TakenByteCosts
 pub mod MetStarCosts
 pub mod MovedMarkCosts
 pub mod Scans
+pub mod SlashesAhead
 pub mod Findings
 pub mod Turns
 pub mod Texts

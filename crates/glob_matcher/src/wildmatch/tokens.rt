@@ -77,7 +77,7 @@ impl TokenKind {
 
 impl<'c, 'a, L: Ledger, M: Texts> Engine<'c, 'a, L, M> {
     /// Whether a place is inside the pattern and has this byte.
-    fn has_byte(&mut self, place: usize, byte: u8) -> bool
+    pub(super) fn has_byte(&mut self, place: usize, byte: u8) -> bool
         ensures answer { IsTrue result ↔ HasByte M.pattern place byte }
         ensures count { Takes self.old self.new 0 1 }
     {

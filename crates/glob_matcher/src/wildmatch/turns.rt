@@ -7,8 +7,10 @@ ghost use Rattle.glob_matcher.specs.Private.Reader.{IsToken, is_star};
 ghost use Rattle.glob_matcher.specs.Private.States.{StandsAt};
 ghost use Rattle.glob_matcher.specs.Private.Turns.{IsTurn};
 
+use super::barrier::NoBarrier;
 use super::engine::Engine;
-use super::needle::{stands_for_itself, stands_within_component};
+use super::needle::{ExactByte, stands_for_itself, stands_within_component};
+use super::scan::Scan;
 use super::state::{Crossing, State, Turn};
 use super::texts::Texts;
 use super::tokens::TokenKind;
@@ -100,20 +102,38 @@ impl<'c, 'a, L: Ledger, M: Texts> Engine<'c, 'a, L, M> {
         })
     }
 
-    /// A turn at a run of stars within a component: its mark is set, and the crossing one stays.
+    /// A turn at a run of stars within a component: its mark is set, and the crossing one stays. Where a slash follows, which
+    /// fits at no place before the component's end, the mark is moved there at once.
     #[inline(always)]
     fn local_turn(&mut self, state: State, after: usize) -> Turn
         requires stands { StandsAt M.way M.pattern M.value state }
         requires token { TokenAt M.way M.pattern state.place Local after }
         requires inside { after ≤ length M.pattern }
-        ensures { IsTurn M.way M.pattern M.value state (8 * (after - state.place) - 4) result self.old self.new }
+        ensures { IsTurn M.way M.pattern M.value state (8 * (after - state.place) - 5) result self.old self.new }
     {
         let mark = self.set_mark(after, state.at);
-        Turn::On(State {
-            place: after,
-            local: Some(mark),
-            ..state
-        })
+        if !self.has_byte(after, b'/') {
+            return Turn::On(State {
+                place: after,
+                local: Some(mark),
+                ..state
+            });
+        }
+        match self.scan(mark, ExactByte(b'/'), NoBarrier) {
+            Scan::Blocked(_) => Turn::NoMatch,
+            Scan::Undecided(end) => Turn::On(State {
+                place: end.place(),
+                at: end.at(),
+                local: Some(end),
+                ..state
+            }),
+            Scan::Found(found) => Turn::On(State {
+                place: found.place() + 1,
+                at: found.at() + 1,
+                local: None,
+                ..state
+            }),
+        }
     }
 
     /// A turn at a star, a question mark or an escape.
