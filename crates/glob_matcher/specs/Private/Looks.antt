@@ -2,6 +2,7 @@
 -- each byte of its spelling.
 use Rattle.std.specs.Prelude.{◌≡◌, ℕ, ◌+◌, ◌*◌, ◌<◌, ◌≤◌, List, Option, None, Some, MatchOption, max, length}
 use Rattle.glob_matcher.specs.declared.wildmatch.items.Item.{Item}
+use Rattle.glob_matcher.specs.declared.wildmatch.sets.SetPart.{SetPart}
 use Rattle.glob_matcher.specs.declared.wildmatch.sets.SetRead.{SetRead}
 use Rattle.glob_matcher.specs.declared.wildmatch.sets.Spelled.{Spelled}
 use Rattle.glob_matcher.specs.declared.wildmatch.sets.NextItem.{NextItem}
@@ -51,6 +52,13 @@ pub record IsSpelled (text : List ℕ) (low : Option ℕ) (i : ℕ) (s : Spelled
 pub record IsPaid (spare : ℕ) (before after : Counts) (i : ℕ) (known : Option ℕ) (s : Spelled) : Type 0 where
   pub steps : after.steps ≡ before.steps
   pub looks : after.looks + spare + 3 * i + search_front known i ≤ before.looks + 3 * s.next + search_front s.close s.next
+  pub low : before.looks ≤ after.looks
+
+-- A set's part is read from its bracket on: the looks are paid by the way, and by how far ahead the closing bracket is known; as
+-- many as `spare` are left over.
+pub record IsPartPaid (spare : ℕ) (before after : Counts) (part : SetPart) : Type 0 where
+  pub steps : after.steps ≡ before.steps
+  pub looks : after.looks + spare + 4 * part.place ≤ before.looks + 3 * part.cursor.place + search_front part.cursor.close part.cursor.place
   pub low : before.looks ≤ after.looks
 
 -- Where no item is spelled, they are paid by the way to the text's end, two a byte.

@@ -1,7 +1,8 @@
 -- What the reader of a pattern answers: the items of a set and the tokens, each with the place after it.
-use Rattle.std.specs.Prelude.{◌≡◌, ℕ, ◌+◌, ◌*◌, ◌<◌, ◌≤◌, Bool, true, false, not, IsTrue, List, [], length, Option, None, MatchOption, if◌then◌else◌}
+use Rattle.std.specs.Prelude.{◌≡◌, ◌≢◌, ◌↔◌, ℕ, ◌+◌, ◌*◌, ◌<◌, ◌≤◌, Bool, true, false, not, ◌&&◌, ◌||◌, ◌==◌, IsTrue, List, [], length, Option, None, MatchOption, if◌then◌else◌}
 use Rattle.glob_matcher.specs.declared.wildmatch.items.Item.{Item}
 use Rattle.glob_matcher.specs.declared.wildmatch.sets.Cursor.{Cursor}
+use Rattle.glob_matcher.specs.declared.wildmatch.sets.SetPart.{SetPart}
 use Rattle.glob_matcher.specs.declared.wildmatch.sets.SetRead.{SetRead}
 use Rattle.glob_matcher.specs.declared.wildmatch.sets.Spelled.{Spelled}
 use Rattle.glob_matcher.specs.declared.wildmatch.sets.NextItem.{NextItem}
@@ -9,11 +10,12 @@ use Rattle.glob_matcher.specs.declared.wildmatch.sets.NextItem.TheVariants as ne
 use Rattle.glob_matcher.specs.declared.wildmatch.way.Way.{Way}
 use Rattle.glob_matcher.specs.declared.wildmatch.tokens.TokenKind.{TokenKind}
 use Rattle.glob_matcher.specs.declared.wildmatch.tokens.TokenKind.TheVariants as kind
-use Rattle.glob_matcher.specs.Bytes.{HasByte}
-use Rattle.glob_matcher.specs.Private.Spelling.{close_bracket}
-use Rattle.glob_matcher.specs.Sets.{ItemsAt, Set, SetAt, member_of, set_holds}
+use Rattle.std.specs.List.{list_any}
+use Rattle.glob_matcher.specs.Bytes.{HasByte, is_path, open_bracket, backslash, slash}
+use Rattle.glob_matcher.specs.Private.Spelling.{close_bracket, dash, IsSign}
+use Rattle.glob_matcher.specs.Sets.{ItemsAt, Set, SetAt, item_holds, member_of, set_holds}
 use Rattle.glob_matcher.specs.Steps.{Counts}
-use Rattle.glob_matcher.specs.Private.Looks.{IsSpelled}
+use Rattle.glob_matcher.specs.Private.Looks.{IsKnown, IsSpelled}
 use Rattle.glob_matcher.specs.Tokens.{Token, Byte, Any, OneOf, Free, Local, Dirs, Nothing, TokenAt}
 
 -- what stands at place i, after the member `low` or none
@@ -46,6 +48,49 @@ at_first i = record { place = i; is_first = true; low = None; close = None }
 
 abbrev pub after_item : Spelled → Cursor
 after_item s = record { place = s.next; is_first = false; low = member_of s.item; close = s.close }
+
+-- The items from the start on are some items so far, one of which holds the byte if `held` says so, and those from this place on.
+pub record IsUnderway (text : List ℕ) (start : ℕ) (test : Item → Bool) (held first : Bool) (low : Option ℕ) (i : ℕ) : Type 0 where
+  pub forth : (xs : List Item) (close : ℕ) → ItemsAt text first low i xs close
+      → (ys : List Item) × ItemsAt text true None start ys close × (held || list_any test xs ≡ list_any test ys)
+  pub back : (ys : List Item) (close : ℕ) → ItemsAt text true None start ys close
+      → (xs : List Item) × ItemsAt text first low i xs close
+
+-- what is read of a set before its first item, and once one more item is; and whether it holds the byte where it closes
+abbrev pub part_opened : ℕ → Bool → SetPart
+part_opened place negated = record {
+  place = place;
+  is_negated = negated;
+  is_held = false;
+  cursor = at_first (first_item negated place);
+}
+
+abbrev pub part_past : Way → ℕ → SetPart → Spelled → SetPart
+part_past way b part s = record {
+  place = part.place;
+  is_negated = part.is_negated;
+  is_held = part.is_held || item_holds way b s.item;
+  cursor = after_item s;
+}
+
+abbrev pub part_holds : Way → ℕ → SetPart → Bool
+part_holds way b part = not (is_path way && b == slash) && (if part.is_negated then not part.is_held else part.is_held)
+
+-- A set is read for byte b up to where its reader stands.
+pub record IsPartRead (way : Way) (text : List ℕ) (b : ℕ) (part : SetPart) : Type 0 where
+  pub bracket : HasByte text part.place open_bracket
+  pub sign : IsTrue part.is_negated ↔ IsSign text (part.place + 1)
+  pub underway : IsUnderway text (first_item part.is_negated part.place) (item_holds way b) part.is_held part.cursor.is_first part.cursor.low part.cursor.place
+  pub past : part.place < part.cursor.place
+  pub inside : part.cursor.place ≤ length text
+  pub known : IsKnown text part.cursor.place part.cursor.close
+
+-- a byte of a set that is no bracket, backslash or `-`
+pub record IsPlainByte (b : ℕ) : Type 0 where
+  pub no_bracket : b ≢ open_bracket
+  pub no_close : b ≢ close_bracket
+  pub no_escape : b ≢ backslash
+  pub no_dash : b ≢ dash
 
 -- what the code keeps of a token: of a set its place alone
 abbrev pub kind_of : Token → TokenKind

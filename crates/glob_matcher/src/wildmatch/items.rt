@@ -94,7 +94,9 @@ impl Class {
         }
     }
 
-    /// Whether the class holds a byte, which is folded already where the mode asks for it.
+    /// Whether the class holds a byte, which is folded already where the mode asks for it. It is not inlined: its tests would be
+    /// made once for each set, before its items are read.
+    #[inline(never)]
     fn holds(self, byte: u8, way: Way) -> bool
         ensures { result ≡ class_holds way self byte }
     {
@@ -137,6 +139,7 @@ fn capital_lies(low: u8, high: u8, capital: u8, way: Way) -> bool
 }
 
 /// Whether a range holds a byte. Where case doesn't count, the ends in uppercase count too.
+#[inline(always)]
 fn range_holds(low: u8, high: u8, byte: u8, way: Way) -> bool
     ensures { result ≡ range_holds way low high byte }
 {
@@ -149,6 +152,7 @@ fn range_holds(low: u8, high: u8, byte: u8, way: Way) -> bool
 
 impl Item {
     /// Whether the item holds a byte.
+    #[inline(always)]
     pub fn holds(self, byte: u8, way: Way) -> bool
         ensures { result ≡ item_holds way byte self }
     {
@@ -161,6 +165,7 @@ impl Item {
     }
 
     /// The member that a range after this item begins from.
+    #[inline(always)]
     pub fn member(self) -> Option<u8>
         ensures { result ≡ member_of self }
     {

@@ -2,14 +2,16 @@
 //!
 //! Each `[:` wants to know where the first `]` after it is. That one stays the first for each later `[:` before it, so it is
 //! looked for only where it isn't known.
-ghost use Rattle.std.specs.Prelude.{◌↔◌, ℕ, ◌+◌, ◌-◌, ◌<◌, ◌≤◌, IsTrue, IfSome, MatchOption, Option, Some, length, slice_range, not, ◌&&◌, ◌==◌, ◌≡◌, if◌then◌else◌};
+ghost use Rattle.std.specs.Prelude.{◌↔◌, ℕ, ◌+◌, ◌-◌, ◌<◌, ◌≤◌, IsTrue, IfSome, IfNone, MatchOption, Option, Some, length, slice_range, not, ◌&&◌, ◌==◌, ◌≡◌, if◌then◌else◌};
 ghost use Rattle.glob_matcher.specs.Bytes.{HasByte, IsEscaped, is_path, open_bracket, backslash, slash};
 ghost use Rattle.glob_matcher.specs.Private.Spelling.{close_bracket, colon, dash, IsSign};
 ghost use Rattle.glob_matcher.specs.declared.wildmatch.items.Class.{Class};
+ghost use Rattle.glob_matcher.specs.Steps.{Counts};
+ghost use Rattle.glob_matcher.specs.declared.wildmatch.sets.NextItem.TheVariants as next_item;
 ghost use Rattle.glob_matcher.specs.Sets.{BeginsRange, BeginsClass, IsFirstFrom, IsUpperEnd, name_of};
 ghost use Rattle.glob_matcher.specs.Private.Takes.{Takes, TakesExactly, looks_at};
-ghost use Rattle.glob_matcher.specs.Private.Looks.{LookedAtEach, LookedOver, IsItemRead, IsKnown, IsPaidFor, read_end, search_front};
-ghost use Rattle.glob_matcher.specs.Private.Reader.{IsNextItem, IsSetRead, after_item, at_first, first_item};
+ghost use Rattle.glob_matcher.specs.Private.Looks.{LookedAtEach, LookedOver, IsItemRead, IsKnown, IsPaid, IsPaidFor, IsPartPaid, IsSpelled, read_end, search_front};
+ghost use Rattle.glob_matcher.specs.Private.Reader.{IsNextItem, IsPartRead, IsPlainByte, IsSetRead, after_item, at_first, first_item, part_holds, part_opened, part_past};
 
 use super::engine::Engine;
 use super::items::{Class, ClassName, Item};
@@ -29,6 +31,7 @@ struct Spelled {
 
 impl Spelled {
     /// Where the reader of a set stands after this item.
+    #[inline(always)]
     fn onward(self) -> Cursor
         ensures { result ≡ after_item self }
     {
@@ -75,18 +78,6 @@ struct Cursor {
 }
 
 impl Cursor {
-    /// At the place of a set's first item.
-    fn at_first(place: usize) -> Cursor
-        ensures { result ≡ at_first place }
-    {
-        Cursor {
-            place,
-            is_first: true,
-            low: None,
-            close: None,
-        }
-    }
-
     /// Whether the set closes at this byte.
     fn closes(self, byte: u8) -> bool
         ensures { IsTrue result ↔ (IsTrue (not self.is_first) × (byte ≡ close_bracket)) }
@@ -95,12 +86,68 @@ impl Cursor {
     }
 }
 
-/// Whether a set holds a byte, where it is known whether one of its items does: a negated one holds it if none does, but none
-/// holds a slash in path mode.
-fn decides_set(is_held: bool, is_negated: bool, byte: u8, way: Way) -> bool
-    ensures { result ≡ (not (is_path way && byte == slash) && (if is_negated then not is_held else is_held)) }
+/// What is read of a set so far, for one byte.
+#[derive(Clone, Copy)]
+pub struct SetPart {
+    /// The place of the set's bracket.
+    place: usize,
+    /// Whether the set is negated.
+    is_negated: bool,
+    /// Whether an item so far holds the byte.
+    is_held: bool,
+    /// Where the reader stands.
+    cursor: Cursor,
+}
+
+impl SetPart {
+    /// What is read before the first item, which stands at `first`.
+    #[inline(always)]
+    fn opened(place: usize, is_negated: bool, first: usize) -> SetPart
+        requires { first ≡ first_item is_negated place }
+        ensures { result ≡ part_opened place is_negated }
+    {
+        SetPart {
+            place,
+            is_negated,
+            is_held: false,
+            cursor: Cursor {
+                place: first,
+                is_first: true,
+                low: None,
+                close: None,
+            },
+        }
+    }
+
+    /// What is read once an item is that stands where the reader does.
+    #[inline(always)]
+    fn past(self, spelled: Spelled, byte: u8, way: Way) -> SetPart
+        ensures { result ≡ part_past way byte self spelled }
+    {
+        SetPart {
+            is_held: self.is_held || spelled.item.holds(byte, way),
+            cursor: spelled.onward(),
+            ..self
+        }
+    }
+
+    /// Whether the set holds the byte, where it closes: a negated one holds it if no item does, but none holds a slash in path
+    /// mode.
+    #[inline(always)]
+    fn holds(self, byte: u8, way: Way) -> bool
+        ensures { result ≡ part_holds way byte self }
+    {
+        !(way.is_path() && byte == b'/') && self.is_held != self.is_negated
+    }
+}
+
+/// Whether a byte of a set is a member by itself, whatever stands around it.
+#[inline(always)]
+fn is_plain(byte: u8) -> bool
+    ensures { IsTrue result → IsPlainByte byte }
 {
-    !(way.is_path() && byte == b'/') && is_held != is_negated
+    // most are letters, which lie past the brackets
+    byte > b']' || (byte < b'[' && byte != b'-')
 }
 
 impl<'c, 'a, L: Ledger, M: Texts> Engine<'c, 'a, L, M> {
@@ -361,6 +408,7 @@ impl<'c, 'a, L: Ledger, M: Texts> Engine<'c, 'a, L, M> {
     }
 
     /// Whether a sign that negates stands at this place.
+    #[inline(always)]
     fn has_sign(&mut self, place: usize) -> bool
         ensures answer { IsTrue result ↔ IsSign M.pattern place }
         ensures count { Takes self.old self.new 0 1 }
@@ -368,18 +416,125 @@ impl<'c, 'a, L: Ledger, M: Texts> Engine<'c, 'a, L, M> {
         matches!(self.look_at(place), Some(b'!' | b'^'))
     }
 
-    /// Whether the set whose bracket stands at this place is negated, and where its items begin.
-    fn set_opening(&mut self, place: usize) -> (bool, Cursor)
+    /// What is read of a set before its first item: its bracket stands at this place.
+    #[inline(always)]
+    fn set_opening(&mut self, place: usize) -> SetPart
         requires { HasByte M.pattern place open_bracket }
-        ensures sign { IsTrue result.0 ↔ IsSign M.pattern (place + 1) }
-        ensures begin { result.1 ≡ at_first (first_item result.0 place) }
-        ensures inside { (place < result.1.place) × (result.1.place ≤ length M.pattern) }
-        ensures count { Takes self.old self.new 0 1 }
+        ensures read { (b : ℕ) → IsPartRead M.way M.pattern b result }
+        ensures place { result.place ≡ place }
+        ensures count { IsPartPaid 3 self.old self.new result }
     {
         if self.has_sign(place + 1) {
-            return (true, Cursor::at_first(place + 2));
+            return SetPart::opened(place, true, place + 2);
         }
-        (false, Cursor::at_first(place + 1))
+        SetPart::opened(place, false, place + 1)
+    }
+
+    /// The range whose `-` stands at this place, if its upper end is spelled by itself.
+    #[inline(always)]
+    fn plain_range(
+        &mut self,
+        low: Option<u8>,
+        place: usize,
+        close: Option<usize>,
+    ) -> Option<Spelled>
+        requires here { HasByte M.pattern place dash }
+        requires known { IsKnown M.pattern place close }
+        ensures item { IfSome result (IsSpelled M.pattern low place) }
+        ensures paid { IfSome result (IsPaid 1 self.old self.new place close) }
+        ensures count { Takes self.old self.new 0 1 }
+    {
+        let Some(from) = low else {
+            return None;
+        };
+        if from == 0 {
+            return None;
+        }
+        match self.look_at(place + 1) {
+            None | Some(b']' | b'\\') => None,
+            Some(high) => Some(Spelled {
+                item: Item::Range(from, high),
+                next: place + 2,
+                close,
+            }),
+        }
+    }
+
+    /// The item where the cursor stands, if it is a member that is spelled by itself, or a range of two such.
+    #[inline(always)]
+    fn plain_item(&mut self, cursor: Cursor) -> Option<Spelled>
+        requires { IsKnown M.pattern cursor.place cursor.close }
+        ensures item { IfSome result (λ s. IsNextItem M.pattern cursor.is_first cursor.low cursor.place (next_item.Item s)) }
+        ensures paid { IfSome result (IsPaid 0 self.old self.new cursor.place cursor.close) }
+        ensures count { IfNone result (Takes self.old self.new 0 2) }
+    {
+        let Some(byte) = self.look_at(cursor.place) else {
+            return None;
+        };
+        if is_plain(byte) {
+            return Some(Spelled {
+                item: Item::Member(byte),
+                next: cursor.place + 1,
+                close: cursor.close,
+            });
+        }
+        if byte != b'-' {
+            return None;
+        }
+        self.plain_range(cursor.low, cursor.place, cursor.close)
+    }
+
+    /// Reads the items of a set up to the first that isn't plain, where case counts. Most sets have no other items, and a loop
+    /// that reads no others is short.
+    #[inline(always)]
+    fn plain_part(&mut self, first: SetPart, byte: u8) -> SetPart
+        requires { IsPartRead M.way M.pattern byte first }
+        ensures read { IsPartRead M.way M.pattern byte result }
+        ensures place { result.place ≡ first.place }
+        ensures count { (before : Counts) → IsPartPaid 3 before self.old first → IsPartPaid 1 before self.new result }
+    {
+        if self.folds() {
+            return first;
+        }
+        let mut part = first;
+        'items: while let Some(spelled) = self.plain_item(part.cursor) {
+            part = part.past(spelled, byte, Way::Plain);
+        }
+        part
+    }
+
+    /// Whether the set closes where its reader stands.
+    #[inline(always)]
+    fn closes_at(&mut self, cursor: Cursor) -> bool
+        ensures answer { IsTrue result ↔ (IsTrue (not cursor.is_first) × HasByte M.pattern cursor.place close_bracket) }
+        ensures count { Takes self.old self.new 0 1 }
+        ensures looked { IsTrue result → self.old.looks < self.new.looks }
+    {
+        !cursor.is_first && matches!(self.look_at(cursor.place), Some(b']'))
+    }
+
+    /// Reads the rest of a set for this byte; `None` where it doesn't close.
+    #[inline(never)]
+    fn rest_of_set(&mut self, first: SetPart, byte: u8) -> Option<SetRead>
+        requires { IsPartRead M.way M.pattern byte first }
+        ensures read { IsSetRead M.way M.pattern first.place byte result }
+        ensures count { (before : Counts) → IsPartPaid 0 before self.old first → LookedOver 4 before self.new first.place (read_end M.pattern result) }
+        ensures looked { IfSome result (λ set. self.old.looks < self.new.looks) }
+    {
+        let way = self.way();
+        let mut part = first;
+        'items: loop {
+            match self.next_item(part.cursor) {
+                NextItem::Item(spelled) => part = part.past(spelled, byte, way),
+                NextItem::Close => {
+                    return Some(SetRead {
+                        end: part.cursor.place + 1,
+                        holds: part.holds(byte, way),
+                    });
+                }
+                NextItem::Broken => return None,
+            }
+        }
     }
 
     /// The set whose bracket stands at this place, read for this byte; `None` where no set begins.
@@ -390,25 +545,14 @@ impl<'c, 'a, L: Ledger, M: Texts> Engine<'c, 'a, L, M> {
         ensures count { LookedOver 4 self.old self.new place (read_end M.pattern result) }
         ensures looked { IfSome result (λ set. self.old.looks < self.new.looks) }
     {
-        let way = self.way();
-        let (is_negated, first) = self.set_opening(place);
-        let mut is_held = false;
-        let mut cursor = first;
-        'items: loop {
-            match self.next_item(cursor) {
-                NextItem::Item(spelled) => {
-                    is_held = is_held || spelled.item.holds(byte, way);
-                    cursor = spelled.onward();
-                }
-                NextItem::Close => {
-                    let holds = decides_set(is_held, is_negated, byte, way);
-                    return Some(SetRead {
-                        end: cursor.place + 1,
-                        holds,
-                    });
-                }
-                NextItem::Broken => return None,
-            }
+        let opening = self.set_opening(place);
+        let part = self.plain_part(opening, byte);
+        if self.closes_at(part.cursor) {
+            return Some(SetRead {
+                end: part.cursor.place + 1,
+                holds: part.holds(byte, self.way()),
+            });
         }
+        self.rest_of_set(part, byte)
     }
 }

@@ -1,17 +1,25 @@
 -- What the reader of a set keeps of its looks: what is known of a closing bracket stays known further on, and how far it was looked for.
 use Rattle.std.proofs.lemmas.Bool.{cases_lt}
-use Rattle.std.proofs.Common.{◌≡◌, ℕ, Bool, false, ◌||◌, ◌+◌, ◌*◌, ◌<◌, ◌≤◌, List, length, Option, Some, None, MatchOption, inl, inr, refl, sym, subst, arith}
+use Rattle.std.proofs.Common.{◌≡◌, ◌↔◌, ℕ, Bool, true, false, ◌||◌, IsTrue, ◌+◌, ◌*◌, ◌<◌, ◌≤◌, List, [], length, Option, Some, None, MatchOption, inl, inr, refl, sym, subst, arith}
 use Rattle.glob_matcher.specs.declared.wildmatch.items.Item.{Item}
+use Rattle.glob_matcher.specs.declared.wildmatch.items.Item.TheVariants as item
+use Rattle.glob_matcher.specs.declared.wildmatch.items.Class.{Class}
+use Rattle.glob_matcher.specs.declared.wildmatch.items.Class.TheVariants as class
+use Rattle.glob_matcher.specs.declared.wildmatch.way.Way.{Way}
+use Rattle.glob_matcher.specs.declared.wildmatch.way.Way.TheVariants.{Plain, Path, FoldedPlain, FoldedPath, ExactPlain, ExactPath}
 use Rattle.glob_matcher.specs.declared.wildmatch.sets.Spelled.{Spelled}
-use Rattle.glob_matcher.specs.declared.wildmatch.sets.Cursor.{Cursor}
+use Rattle.glob_matcher.specs.declared.wildmatch.sets.SetPart.{SetPart}
+use Rattle.glob_matcher.specs.declared.wildmatch.sets.SetRead.{SetRead}
+use Rattle.std.specs.Prelude.{IfSome}
 use Rattle.glob_matcher.specs.declared.wildmatch.sets.NextItem.TheVariants as next_item
 use Rattle.glob_matcher.specs.Steps.{Counts}
-use Rattle.glob_matcher.specs.Bytes.{HasByte}
-use Rattle.glob_matcher.specs.Private.Spelling.{close_bracket}
-use Rattle.glob_matcher.specs.Private.Looks.{IsItemRead, IsKnown, IsPaid, LookedAtEach, search_front}
-use Rattle.glob_matcher.specs.Private.Reader.{IsNextItem, after_item, at_first}
+use Rattle.glob_matcher.specs.Bytes.{HasByte, folds, open_bracket}
+use Rattle.glob_matcher.specs.Sets.{ItemsAt, Set, SetAt, class_holds, item_holds}
+use Rattle.glob_matcher.specs.Private.Spelling.{close_bracket, IsSign}
+use Rattle.glob_matcher.specs.Private.Looks.{IsItemRead, IsKnown, IsPaid, IsPartPaid, LookedAtEach, search_front}
+use Rattle.glob_matcher.specs.Private.Reader.{IsNextItem, IsPartRead, IsSetThatHolds, after_item, first_item, part_holds, part_opened, part_past}
 use Rattle.glob_matcher.specs.Private.Takes.{Takes, TakesExactly, looks_at}
-use Rattle.glob_matcher.proofs.lemmas.reading.Walks.{IsUnderway, underway_first, underway_next}
+use Rattle.glob_matcher.proofs.lemmas.reading.Walks.{set_broken, set_closed, underway_first, underway_next}
 
 -- at most one look is taken at a place
 pub one_look : {before after : Counts} (byte : Option ℕ) → TakesExactly before after 0 (looks_at byte) → Takes before after 0 1
@@ -79,45 +87,106 @@ spare_taken {item = Some s} takes read = record {
   paid = record { steps = omega (arith, takes.steps, read.paid.steps); looks = omega (arith, takes.looks, read.paid.looks); low = omega (arith, takes.low, read.paid.low) };
 }
 
--- The reader of a set stands at this cursor: the items so far, and those from here on, are the set's; what is known of the closing
--- bracket; and what pays the looks.
-pub record IsReading (text : List ℕ) (place start : ℕ) (test : Item → Bool) (held : Bool) (cursor : Cursor) (before now : Counts) : Type 0 where
-  pub underway : IsUnderway text start test held cursor.is_first cursor.low cursor.place
-  pub past : place < cursor.place
-  pub inside : cursor.place ≤ length text
-  pub known : IsKnown text cursor.place cursor.close
-  pub steps : now.steps ≡ before.steps
-  pub looks : now.looks + 4 * place + 3 ≤ before.looks + 3 * cursor.place + search_front cursor.close cursor.place
-  pub low : before.looks ≤ now.looks
+-- what a byte that case doesn't change tells of an item is told in each way in which case counts
+item_of_plain : (way : Way) → folds way ≡ false → (b : ℕ) (x : Item) → item_holds Plain b x ≡ item_holds way b x
+item_of_plain Plain off b x = refl
+item_of_plain Path off b (item.Member m) = refl
+item_of_plain Path off b (item.Range low high) = refl
+item_of_plain Path off b (item.Class c) = by c where
+  by : (c : Class) → class_holds Plain c b ≡ class_holds Path c b
+  by class.Alnum = refl
+  by class.Alpha = refl
+  by class.Blank = refl
+  by class.Cntrl = refl
+  by class.Digit = refl
+  by class.Graph = refl
+  by class.Lower = refl
+  by class.Print = refl
+  by class.Punct = refl
+  by class.Space = refl
+  by class.Upper = refl
+  by class.Xdigit = refl
+item_of_plain FoldedPlain on b x = cc
+item_of_plain FoldedPath on b x = cc
+item_of_plain ExactPlain on b x = cc
+item_of_plain ExactPath on b x = cc
 
-module _ {text : List ℕ} {place start : ℕ} {test : Item → Bool} {before now : Counts} where
-  pub reading_first : {cursor : Cursor} → cursor ≡ at_first start → place < cursor.place → cursor.place ≤ length text
-      → Takes before now 0 1 → IsReading text place start test false cursor before now
-  reading_first {cursor = cursor} is past inside takes =
-      subst (λ (x : Cursor). IsReading text place start test false x before now) (sym is) (record {
-        underway = underway_first text start test;
-        past = subst (λ (x : Cursor). place < x.place) is past;
-        inside = subst (λ (x : Cursor). x.place ≤ length text) is inside;
-        known = tt;
-        steps = omega (arith, takes.steps);
-        looks =
-            let low : place < start = subst (λ (x : Cursor). place < x.place) is past in
-            omega (arith, takes.looks, low);
-        low = takes.low;
-      })
+past_bracket : (place : ℕ) (negated : Bool) → place < first_item negated place
+past_bracket place true = omega arith
+past_bracket place false = omega arith
 
-  pub reading_next : {held next_held : Bool} {cursor next : Cursor} {after : Counts} (s : Spelled)
-      → next_held ≡ held || test s.item → next ≡ after_item s
-      → IsReading text place start test held cursor before now → IsNextItem text cursor.is_first cursor.low cursor.place (next_item.Item s)
-      → IsPaid 0 now after cursor.place cursor.close s → IsReading text place start test next_held next before after
-  reading_next {held = held} {next_held = next_held} {after = after} s holds is so_far here paid =
-      subst (λ (x : Cursor). IsReading text place start test next_held x before after) (sym is)
-      (subst (λ (h : Bool). IsReading text place start test h (after_item s) before after) (sym holds) (record {
-        underway = underway_next s.item s.next so_far.underway here.0 here.1.item;
-        past = omega (arith, so_far.past, here.1.past);
-        inside = here.1.inside;
-        known = here.1.known;
-        steps = omega (arith, so_far.steps, paid.steps);
-        looks = omega (arith, so_far.looks, paid.looks);
-        low = omega (arith, so_far.low, paid.low);
-      }))
+pub sign_inside : {text : List ℕ} (place : ℕ) → IsSign text (place + 1) → place + 2 ≤ length text
+sign_inside place (inl e) = let inside = e.inside in omega arith
+sign_inside place (inr e) = let inside = e.inside in omega arith
+
+module _ {way : Way} {text : List ℕ} {b : ℕ} where
+  pub part_first : (place : ℕ) (negated : Bool) → HasByte text place open_bracket → IsTrue negated ↔ IsSign text (place + 1)
+      → first_item negated place ≤ length text → IsPartRead way text b (part_opened place negated)
+  part_first place negated bracket sign inside = record {
+    bracket = bracket;
+    sign = sign;
+    underway = underway_first text (first_item negated place) (item_holds way b);
+    past = past_bracket place negated;
+    inside = inside;
+    known = tt;
+  }
+
+  pub part_next : {part : SetPart} (s : Spelled) → IsPartRead way text b part
+      → IsNextItem text part.cursor.is_first part.cursor.low part.cursor.place (next_item.Item s) → IsPartRead way text b (part_past way b part s)
+  part_next s so_far here = record {
+    bracket = so_far.bracket;
+    sign = so_far.sign;
+    underway = underway_next s.item s.next so_far.underway here.0 here.1.item;
+    past = omega (arith, so_far.past, here.1.past);
+    inside = here.1.inside;
+    known = here.1.known;
+  }
+
+  pub part_next_plain : {part : SetPart} (s : Spelled) → folds way ≡ false → IsPartRead way text b part
+      → IsNextItem text part.cursor.is_first part.cursor.low part.cursor.place (next_item.Item s) → IsPartRead way text b (part_past Plain b part s)
+  part_next_plain {part} s off so_far here =
+      subst (λ (h : Bool). IsPartRead way text b (record { place = part.place; is_negated = part.is_negated; is_held = part.is_held || h; cursor = after_item s }))
+      (sym (item_of_plain way off b s.item)) (part_next s so_far here)
+
+  pub part_broken : {part : SetPart} → IsPartRead way text b part
+      → ((xs : List Item) (j : ℕ) → ¬ ItemsAt text part.cursor.is_first part.cursor.low part.cursor.place xs j)
+      → (s : Set) (end : ℕ) → ¬ SetAt text part.place s end
+  part_broken {part} so_far none = set_broken part.place part.is_negated so_far.sign so_far.underway none
+
+  pub part_read : {part : SetPart} → IsPartRead way text b part → ItemsAt text part.cursor.is_first part.cursor.low part.cursor.place [] part.cursor.place
+      → part.cursor.place < length text → IsSetThatHolds way text part.place b (part.cursor.place + 1) (part_holds way b part)
+  part_read {part} so_far closed inside =
+      let all = set_closed way b part.place part.is_negated so_far.bracket so_far.sign so_far.underway closed in record {
+        set = all.0;
+        here = all.1;
+        past = omega (arith, so_far.past);
+        inside = omega (arith, inside);
+        answer = all.2;
+      }
+
+pub paid_first : {before after : Counts} {place : ℕ} {negated : Bool} → Takes before after 0 1 → IsPartPaid 3 before after (part_opened place negated)
+paid_first {place = place} {negated} takes =
+    let past = past_bracket place negated in
+    record { steps = omega (arith, takes.steps); looks = omega (arith, takes.looks, past); low = takes.low }
+
+pub paid_next : {spare : ℕ} {before between after : Counts} {part : SetPart} (way : Way) (b : ℕ) (s : Spelled) → IsPartPaid spare before between part
+    → IsPaid 0 between after part.cursor.place part.cursor.close s → IsPartPaid spare before after (part_past way b part s)
+paid_next way b s so_far paid = record {
+  steps = omega (arith, so_far.steps, paid.steps);
+  looks = omega (arith, so_far.looks, paid.looks);
+  low = omega (arith, so_far.low, paid.low);
+}
+
+-- some of the looks that were left over are taken
+pub paid_less : {spare n : ℕ} {before between after : Counts} {part : SetPart} → IsPartPaid (spare + n) before between part
+    → Takes between after 0 n → IsPartPaid spare before after part
+paid_less so_far takes = record {
+  steps = omega (arith, so_far.steps, takes.steps);
+  looks = omega (arith, so_far.looks, takes.looks);
+  low = omega (arith, so_far.low, takes.low);
+}
+
+-- what was looked at before counts, too
+pub looked_on : (a b c : ℕ) (found : Option SetRead) → a ≤ b → IfSome found (λ set. b < c) → IfSome found (λ set. a < c)
+looked_on a b c None low more = tt
+looked_on a b c (Some set) low more = omega arith

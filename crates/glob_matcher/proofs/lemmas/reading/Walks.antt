@@ -7,7 +7,7 @@ use Rattle.glob_matcher.specs.declared.wildmatch.way.Way.{Way}
 use Rattle.glob_matcher.specs.Bytes.{HasByte, is_path, open_bracket, slash}
 use Rattle.glob_matcher.specs.Private.Spelling.{close_bracket, IsSign}
 use Rattle.glob_matcher.specs.Sets.{Set, SetAt, ItemAt, ItemsAt, item_holds, member_of, set_holds}
-use Rattle.glob_matcher.specs.Private.Reader.{first_item}
+use Rattle.glob_matcher.specs.Private.Reader.{IsUnderway, first_item}
 use Rattle.glob_matcher.proofs.lemmas.reading.SetLemmas.{ItemAt-unique, negated-unique}
 
 -- an item begins inside the text
@@ -29,13 +29,6 @@ pub no_items_here : (text : List ℕ) (first : Bool) (low : Option ℕ) (i : ℕ
     → (xs : List Item) (j : ℕ) → ¬ ItemsAt text first low i xs j
 no_items_here text first low i open_yet none [] j e = open_yet e.0 e.1
 no_items_here text first low i open_yet none (x ∷ xs) j e = none x e.1 e.2
-
--- The items from the start on are some items so far, one of which holds the byte if `held` says so, and those from this place on.
-pub record IsUnderway (text : List ℕ) (start : ℕ) (test : Item → Bool) (held first : Bool) (low : Option ℕ) (i : ℕ) : Type 0 where
-  pub forth : (xs : List Item) (close : ℕ) → ItemsAt text first low i xs close
-      → (ys : List Item) × ItemsAt text true None start ys close × (held || list_any test xs ≡ list_any test ys)
-  pub back : (ys : List Item) (close : ℕ) → ItemsAt text true None start ys close
-      → (xs : List Item) × ItemsAt text first low i xs close
 
 pub underway_first : (text : List ℕ) (start : ℕ) (test : Item → Bool) → IsUnderway text start test false true None start
 underway_first text start test = record { forth = λ xs close e. (xs, e, refl); back = λ ys close e. (ys, e) }

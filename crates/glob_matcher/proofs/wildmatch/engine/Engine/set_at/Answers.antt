@@ -1,59 +1,55 @@
-use Rattle.std.proofs.Common.{◌≡◌, ◌∙◌, ◌||◌, ap, subst, arith, rules}
+use Rattle.std.proofs.Common.{◌∙◌, ℕ, ◌+◌, Bool, ap, refl, subst, sym, arith}
 use Rattle.glob_matcher.specs.declared.wildmatch.way.Way.{Way}
-use Rattle.glob_matcher.specs.Sets.{item_holds, set_holds}
-use Rattle.glob_matcher.proofs.lemmas.reading.Walks.{set_closed, set_broken}
-use Rattle.glob_matcher.proofs.lemmas.reading.LookLemmas.{reading_first, reading_next, search_front_here, search_front_inside}
+use Rattle.glob_matcher.specs.Private.Looks.{LookedOver, read_end}
+use Rattle.glob_matcher.specs.Private.Reader.{IsSetRead, IsSetThatHolds, part_holds}
+use Rattle.glob_matcher.proofs.lemmas.reading.LookLemmas.{looked_on, paid_less, part_read, search_front_here}
 use Rattle.glob_matcher.proofs.wildmatch.engine.Engine.set_at.Goals as goal
-use Rattle.glob_matcher.proofs.wildmatch.engine.Engine.set_at.Goals.{then-is_held, else-is_held}
 
-pub items-init : goal.items-init
-items-init g c =
-    let begin = c.set_opening-is_negated.ensures in
-    reading_first {test = item_holds c.way-way.result c.args.byte} begin.begin begin.inside.0 begin.inside.1 begin.count
+pub plain_part-part-requires : goal.plain_part-part-requires
+plain_part-part-requires g c = c.set_opening-opening.ensures.read c.args.byte
 
-pub items-preserved : goal.items-preserved
-items-preserved g c =
-    let held : c.if-is_held.is_held ≡ c.items.is_held || item_holds c.way-way.result c.args.byte c.in-Item.spelled.item =
-    elim c.if-is_held.branch [ then-is_held w ↦ search rules | else-is_held w ↦ search rules ] in
-    reading_next c.in-Item.spelled held c.onward-cursor.ensures c.items.invariant c.in-Item.ensures.item
-    c.in-Item.ensures.count
+pub returns-then-closes_at-clause-read : goal.returns-then-closes_at-clause-read
+returns-then-closes_at-clause-read g c =
+    let part = c.plain_part-part.result in
+    let closed = c.if-closes_at.ensures.answer.0 refl in
+    let held = c.holds.ensures ∙ ap (λ (w : Way). part_holds w c.args.byte part) c.way.ensures in
+    subst (λ (n : ℕ). IsSetThatHolds g.M.Texts.way g.M.Texts.pattern n c.args.byte (part.cursor.place + 1) c.holds.result)
+    (c.plain_part-part.ensures.place ∙ c.set_opening-opening.ensures.place)
+    (subst (λ (h : Bool). IsSetThatHolds g.M.Texts.way g.M.Texts.pattern part.place c.args.byte (part.cursor.place + 1) h) (sym held)
+    (part_read c.plain_part-part.ensures.read (closed.0, closed.1, refl) closed.1.inside))
 
-pub items-smaller : goal.items-smaller
-items-smaller g c =
-    let on = ap (λ x. x.place) c.onward-cursor.ensures in
-    let here = c.in-Item.ensures.item in
-    omega (arith, on, here.1.past, here.1.inside)
-
-pub returns-in-Close-clause-read : goal.returns-in-Close-clause-read
-returns-in-Close-clause-read g c =
-    let begin = c.set_opening-is_negated in
-    let so_far = c.items.invariant in
-    let closed = c.in-Close.ensures.item in
-    let all =
-    set_closed c.way-way.result c.args.byte c.args.place begin.result.0 c.requires begin.ensures.sign so_far.underway closed.0 in
+pub returns-then-closes_at-clause-count : goal.returns-then-closes_at-clause-count
+returns-then-closes_at-clause-count g c =
+    let part = c.plain_part-part.result in
+    let paid =
+    paid_less {spare = 0} (c.plain_part-part.ensures.count c.args.self.now c.set_opening-opening.ensures.count) c.closes_at.ensures.count in
+    let closed = c.if-closes_at.ensures.answer.0 refl in
+    let ahead = search_front_here g.M.Texts.pattern part.cursor.place part.cursor.close c.plain_part-part.ensures.read.known closed.1 in
     record {
-      set = all.0;
-      here = all.1;
-      past = omega (arith, so_far.past);
-      inside = omega (arith, closed.1);
-      answer =
-          subst (λ (m : Way). c.decides_set-holds.result ≡ set_holds m all.0 c.args.byte) c.way-way.ensures (c.decides_set-holds.ensures ∙ all.2);
+      steps = paid.steps;
+      looks = omega (arith, paid.looks, ahead, c.plain_part-part.ensures.place, c.set_opening-opening.ensures.place);
+      low = paid.low;
     }
 
-pub returns-in-Close-clause-count : goal.returns-in-Close-clause-count
-returns-in-Close-clause-count g c =
-    let so_far = c.items.invariant in
-    let takes = c.in-Close.ensures.count in
-    let ahead = search_front_here g.M.Texts.pattern c.items.cursor.place c.items.cursor.close so_far.known c.in-Close.ensures.item.0.1 in
-    record { steps = omega (arith, so_far.steps, takes.steps); looks = omega (arith, so_far.looks, takes.looks, ahead); low = omega (arith, so_far.low, takes.looks) }
+pub returns-clause-read : goal.returns-clause-read
+returns-clause-read g c =
+    subst (λ (n : ℕ). IsSetRead g.M.Texts.way g.M.Texts.pattern n c.args.byte c.rest_of_set.result)
+    (c.plain_part-part.ensures.place ∙ c.set_opening-opening.ensures.place) c.rest_of_set.ensures.read
 
-pub returns-in-Broken-clause-count : goal.returns-in-Broken-clause-count
-returns-in-Broken-clause-count g c =
-    let so_far = c.items.invariant in
-    let paid = c.in-Broken.ensures.count in
-    let ahead = search_front_inside g.M.Texts.pattern c.items.cursor.place c.items.cursor.close so_far.known so_far.inside in
-    record { steps = omega (arith, so_far.steps, paid.steps); looks = omega (arith, so_far.looks, paid.looks, ahead, so_far.inside); low = omega (arith, so_far.low, paid.low) }
+pub returns-clause-count : goal.returns-clause-count
+returns-clause-count g c =
+    let paid =
+    paid_less {spare = 0} (c.plain_part-part.ensures.count c.args.self.now c.set_opening-opening.ensures.count) c.closes_at.ensures.count in
+    subst (λ (n : ℕ). LookedOver 4 c.args.self.now c.rest_of_set.new.self n (read_end g.M.Texts.pattern c.rest_of_set.result))
+    (c.plain_part-part.ensures.place ∙ c.set_opening-opening.ensures.place) (c.rest_of_set.ensures.count c.args.self.now paid)
 
-pub returns-in-Broken-clause-read : goal.returns-in-Broken-clause-read
-returns-in-Broken-clause-read g c =
-    set_broken c.args.place c.set_opening-is_negated.result.0 c.set_opening-is_negated.ensures.sign c.items.invariant.underway c.in-Broken.ensures.item
+pub returns-then-closes_at-clause-looked : goal.returns-then-closes_at-clause-looked
+returns-then-closes_at-clause-looked g c =
+    let paid = c.plain_part-part.ensures.count c.args.self.now c.set_opening-opening.ensures.count in
+    omega (arith, paid.low, c.if-closes_at.ensures.looked refl)
+
+pub returns-clause-looked : goal.returns-clause-looked
+returns-clause-looked g c =
+    let paid =
+    paid_less {spare = 0} (c.plain_part-part.ensures.count c.args.self.now c.set_opening-opening.ensures.count) c.closes_at.ensures.count in
+    looked_on _ _ _ c.rest_of_set.result paid.low c.rest_of_set.ensures.looked
