@@ -2,15 +2,14 @@
 //!
 //! Each `[:` wants to know where the first `]` after it is. That one stays the first for each later `[:` before it, so it is
 //! looked for only where it isn't known.
-ghost use Rattle.std.specs.Prelude.{◌↔◌, ℕ, ◌+◌, ◌-◌, ◌<◌, ◌≤◌, IsTrue, IfSome, IfNone, MatchOption, Option, Some, length, slice_range, not, ◌&&◌, ◌==◌, ◌≡◌, if◌then◌else◌};
-ghost use Rattle.glob_matcher.specs.Bytes.{HasByte, IsEscaped, is_path, open_bracket, backslash, slash};
+ghost use Rattle.std.specs.Prelude.{◌↔◌, ℕ, false, ◌+◌, ◌-◌, ◌<◌, ◌≤◌, IsTrue, IfSome, IfNone, MatchOption, Option, Some, length, slice_range, not, ◌&&◌, ◌==◌, ◌≡◌, if◌then◌else◌};
+ghost use Rattle.glob_matcher.specs.Bytes.{HasByte, IsEscaped, folds, is_path, open_bracket, backslash, slash};
 ghost use Rattle.glob_matcher.specs.Private.Spelling.{close_bracket, colon, dash, IsSign};
 ghost use Rattle.glob_matcher.specs.declared.wildmatch.items.Class.{Class};
 ghost use Rattle.glob_matcher.specs.Steps.{Counts};
-ghost use Rattle.glob_matcher.specs.declared.wildmatch.sets.NextItem.TheVariants as next_item;
 ghost use Rattle.glob_matcher.specs.Sets.{BeginsRange, BeginsClass, IsFirstFrom, IsUpperEnd, name_of};
 ghost use Rattle.glob_matcher.specs.Private.Takes.{Takes, TakesExactly, looks_at};
-ghost use Rattle.glob_matcher.specs.Private.Looks.{LookedAtEach, LookedOver, IsItemRead, IsKnown, IsPaid, IsPaidFor, IsPartPaid, IsSpelled, read_end, search_front};
+ghost use Rattle.glob_matcher.specs.Private.Looks.{LookedAtEach, LookedOver, IsItemRead, IsKnown, IsPaidFor, IsPartPaid, read_end, search_front};
 ghost use Rattle.glob_matcher.specs.Private.Reader.{IsNextItem, IsPartRead, IsPlainByte, IsSetRead, after_item, at_first, first_item, part_holds, part_opened, part_past};
 
 use super::engine::Engine;
@@ -430,58 +429,63 @@ impl<'c, 'a, L: Ledger, M: Texts> Engine<'c, 'a, L, M> {
         SetPart::opened(place, false, place + 1)
     }
 
-    /// The range whose `-` stands at this place, if its upper end is spelled by itself.
+    /// What is read once the range is whose `-` stands where the reader does, if its upper end is spelled by itself.
     #[inline(always)]
-    fn plain_range(
-        &mut self,
-        low: Option<u8>,
-        place: usize,
-        close: Option<usize>,
-    ) -> Option<Spelled>
-        requires here { HasByte M.pattern place dash }
-        requires known { IsKnown M.pattern place close }
-        ensures item { IfSome result (IsSpelled M.pattern low place) }
-        ensures paid { IfSome result (IsPaid 1 self.old self.new place close) }
+    fn past_plain_range(&mut self, part: SetPart, byte: u8) -> Option<SetPart>
+        requires case { folds M.way ≡ false }
+        requires read { IsPartRead M.way M.pattern byte part }
+        requires here { HasByte M.pattern part.cursor.place dash }
+        ensures read { IfSome result (IsPartRead M.way M.pattern byte) }
+        ensures place { IfSome result (λ next. next.place ≡ part.place) }
+        ensures onward { IfSome result (λ next. part.cursor.place < next.cursor.place) }
+        ensures paid { IfSome result (λ next. (before : Counts) → IsPartPaid 2 before self.old part → IsPartPaid 3 before self.new next) }
         ensures count { Takes self.old self.new 0 1 }
     {
-        let Some(from) = low else {
+        let Some(from) = part.cursor.low else {
             return None;
         };
         if from == 0 {
             return None;
         }
-        match self.look_at(place + 1) {
+        match self.look_at(part.cursor.place + 1) {
             None | Some(b']' | b'\\') => None,
-            Some(high) => Some(Spelled {
-                item: Item::Range(from, high),
-                next: place + 2,
-                close,
-            }),
+            Some(high) => {
+                let range = Spelled {
+                    item: Item::Range(from, high),
+                    next: part.cursor.place + 2,
+                    close: part.cursor.close,
+                };
+                Some(part.past(range, byte, Way::Plain))
+            }
         }
     }
 
-    /// The item where the cursor stands, if it is a member that is spelled by itself, or a range of two such.
+    /// What is read once the next item is, if it is a member that is spelled by itself, or a range of two such.
     #[inline(always)]
-    fn plain_item(&mut self, cursor: Cursor) -> Option<Spelled>
-        requires { IsKnown M.pattern cursor.place cursor.close }
-        ensures item { IfSome result (λ s. IsNextItem M.pattern cursor.is_first cursor.low cursor.place (next_item.Item s)) }
-        ensures paid { IfSome result (IsPaid 0 self.old self.new cursor.place cursor.close) }
+    fn past_plain_item(&mut self, part: SetPart, byte: u8) -> Option<SetPart>
+        requires case { folds M.way ≡ false }
+        requires read { IsPartRead M.way M.pattern byte part }
+        ensures read { IfSome result (IsPartRead M.way M.pattern byte) }
+        ensures place { IfSome result (λ next. next.place ≡ part.place) }
+        ensures onward { IfSome result (λ next. part.cursor.place < next.cursor.place) }
+        ensures paid { IfSome result (λ next. (before : Counts) → IsPartPaid 3 before self.old part → IsPartPaid 3 before self.new next) }
         ensures count { IfNone result (Takes self.old self.new 0 2) }
     {
-        let Some(byte) = self.look_at(cursor.place) else {
+        let Some(next) = self.look_at(part.cursor.place) else {
             return None;
         };
-        if is_plain(byte) {
-            return Some(Spelled {
-                item: Item::Member(byte),
-                next: cursor.place + 1,
-                close: cursor.close,
-            });
+        if is_plain(next) {
+            let member = Spelled {
+                item: Item::Member(next),
+                next: part.cursor.place + 1,
+                close: part.cursor.close,
+            };
+            return Some(part.past(member, byte, Way::Plain));
         }
-        if byte != b'-' {
+        if next != b'-' {
             return None;
         }
-        self.plain_range(cursor.low, cursor.place, cursor.close)
+        self.past_plain_range(part, byte)
     }
 
     /// Reads the items of a set up to the first that isn't plain, where case counts. Most sets have no other items, and a loop
@@ -497,8 +501,8 @@ impl<'c, 'a, L: Ledger, M: Texts> Engine<'c, 'a, L, M> {
             return first;
         }
         let mut part = first;
-        'items: while let Some(spelled) = self.plain_item(part.cursor) {
-            part = part.past(spelled, byte, Way::Plain);
+        'items: while let Some(next) = self.past_plain_item(part, byte) {
+            part = next;
         }
         part
     }
@@ -514,7 +518,7 @@ impl<'c, 'a, L: Ledger, M: Texts> Engine<'c, 'a, L, M> {
     }
 
     /// Reads the rest of a set for this byte; `None` where it doesn't close.
-    #[inline(never)]
+    #[inline(always)]
     fn rest_of_set(&mut self, first: SetPart, byte: u8) -> Option<SetRead>
         requires { IsPartRead M.way M.pattern byte first }
         ensures read { IsSetRead M.way M.pattern first.place byte result }

@@ -186,6 +186,11 @@ paid_less so_far takes = record {
   low = omega (arith, so_far.low, takes.low);
 }
 
+-- what follows from what an answer tells, it tells too
+pub if_some_map : {X : Type 0} {P Q : X → Type 0} (found : Option X) → ((x : X) → P x → Q x) → IfSome found P → IfSome found Q
+if_some_map None more is = tt
+if_some_map (Some x) more is = more x is
+
 -- what was looked at before counts, too
 pub looked_on : (a b c : ℕ) (found : Option SetRead) → a ≤ b → IfSome found (λ set. b < c) → IfSome found (λ set. a < c)
 looked_on a b c None low more = tt
