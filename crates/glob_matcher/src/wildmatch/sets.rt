@@ -87,7 +87,7 @@ impl Cursor {
 
 /// What is read of a set so far, for one byte.
 #[derive(Clone, Copy)]
-pub struct SetPart {
+struct SetPart {
     /// The place of the set's bracket.
     place: usize,
     /// Whether the set is negated.

@@ -9,7 +9,6 @@ use Rattle.glob_matcher.specs.declared.wildmatch.way.Way.{Way}
 use Rattle.glob_matcher.specs.declared.wildmatch.way.Way.TheVariants.{Plain, Path, FoldedPlain, FoldedPath, ExactPlain, ExactPath}
 use Rattle.glob_matcher.specs.declared.wildmatch.sets.Spelled.{Spelled}
 use Rattle.glob_matcher.specs.declared.wildmatch.sets.SetPart.{SetPart}
-use Rattle.glob_matcher.specs.declared.wildmatch.sets.SetRead.{SetRead}
 use Rattle.std.specs.Prelude.{IfSome}
 use Rattle.glob_matcher.specs.declared.wildmatch.sets.NextItem.TheVariants as next_item
 use Rattle.glob_matcher.specs.Steps.{Counts}
@@ -190,8 +189,3 @@ paid_less so_far takes = record {
 pub if_some_map : {X : Type 0} {P Q : X → Type 0} (found : Option X) → ((x : X) → P x → Q x) → IfSome found P → IfSome found Q
 if_some_map None more is = tt
 if_some_map (Some x) more is = more x is
-
--- what was looked at before counts, too
-pub looked_on : (a b c : ℕ) (found : Option SetRead) → a ≤ b → IfSome found (λ set. b < c) → IfSome found (λ set. a < c)
-looked_on a b c None low more = tt
-looked_on a b c (Some set) low more = omega arith

@@ -2,7 +2,7 @@ use Rattle.std.proofs.Common.{◌∙◌, ℕ, ◌+◌, Bool, ap, refl, subst, sy
 use Rattle.glob_matcher.specs.declared.wildmatch.way.Way.{Way}
 use Rattle.glob_matcher.specs.Private.Looks.{LookedOver, read_end}
 use Rattle.glob_matcher.specs.Private.Reader.{IsSetRead, IsSetThatHolds, part_holds}
-use Rattle.glob_matcher.proofs.lemmas.reading.LookLemmas.{looked_on, paid_less, part_read, search_front_here}
+use Rattle.glob_matcher.proofs.lemmas.reading.LookLemmas.{if_some_map, paid_less, part_read, search_front_here}
 use Rattle.glob_matcher.proofs.wildmatch.engine.Engine.set_at.Goals as goal
 
 pub plain_part-part-requires : goal.plain_part-part-requires
@@ -52,4 +52,4 @@ pub returns-clause-looked : goal.returns-clause-looked
 returns-clause-looked g c =
     let paid =
     paid_less {spare = 0} (c.plain_part-part.ensures.count c.args.self.now c.set_opening-opening.ensures.count) c.closes_at.ensures.count in
-    looked_on _ _ _ c.rest_of_set.result paid.low c.rest_of_set.ensures.looked
+    if_some_map c.rest_of_set.result (λ set more. omega (arith, paid.low, more)) c.rest_of_set.ensures.looked
