@@ -2,15 +2,15 @@
 //!
 //! Each `[:` wants to know where the first `]` after it is. That one stays the first for each later `[:` before it, so it is
 //! looked for only where it isn't known.
-ghost use Rattle.std.specs.Prelude.{◌↔◌, ℕ, false, ◌+◌, ◌-◌, ◌<◌, ◌≤◌, IsTrue, IfSome, IfNone, MatchOption, Option, Some, length, slice_range, not, ◌&&◌, ◌==◌, ◌≡◌, if◌then◌else◌};
-ghost use Rattle.glob_matcher.specs.Bytes.{HasByte, IsEscaped, folds, is_path, open_bracket, backslash, slash};
+ghost use Rattle.std.specs.Prelude.{◌↔◌, ℕ, false, ◌+◌, ◌-◌, ◌<◌, ◌≤◌, IsTrue, IfSome, IfNone, MatchOption, Option, Some, length, slice_range, not, ◌≡◌};
+ghost use Rattle.glob_matcher.specs.Bytes.{HasByte, IsEscaped, folds, open_bracket, backslash};
 ghost use Rattle.glob_matcher.specs.Private.Spelling.{close_bracket, colon, dash, IsSign};
 ghost use Rattle.glob_matcher.specs.declared.wildmatch.items.Class.{Class};
 ghost use Rattle.glob_matcher.specs.Steps.{Counts};
 ghost use Rattle.glob_matcher.specs.Sets.{BeginsRange, BeginsClass, IsFirstFrom, IsUpperEnd, name_of};
 ghost use Rattle.glob_matcher.specs.Private.Takes.{Takes, TakesExactly, looks_at};
 ghost use Rattle.glob_matcher.specs.Private.Looks.{LookedAtEach, LookedOver, IsItemRead, IsKnown, IsPaidFor, IsPartPaid, read_end, search_front};
-ghost use Rattle.glob_matcher.specs.Private.Reader.{IsNextItem, IsPartRead, IsPlainByte, IsSetRead, after_item, at_first, first_item, part_holds, part_opened, part_past};
+ghost use Rattle.glob_matcher.specs.Private.Reader.{IsNextItem, IsPartRead, IsPlainByte, IsSetRead, after_item, first_item, part_holds, part_opened, part_past};
 
 use super::engine::Engine;
 use super::items::{Class, ClassName, Item};
