@@ -1,11 +1,3 @@
-pub mod Answers
 pub mod Environments
-pub mod FileTree
-pub mod Folders
-pub mod Formats
 pub mod GitFolders
-pub mod Naming
-pub mod Nested
-pub mod Private
 pub mod Safety
-pub mod Search

@@ -1,19 +1,12 @@
 //! The ceilings of the search: folders at which it ends.
-ghost use Rattle.std.specs.Prelude.{◌≡◌, ◌==◌, ◌≤◌, ◌∷◌, [], ◌↔◌, ℕ, IsTrue, length, map, option_map, Ok};
-ghost use Rattle.std.specs.List.{position_or_len};
-ghost use Rattle.std.specs.Vec.{vec_items};
-ghost use Rattle.git_repository.specs.Answers.{Gives};
-ghost use Rattle.git_repository.specs.Search.{IsAbove, ceilings_of, ceiling_told, folder_of};
-ghost use Rattle.git_repository.specs.Private.Ceilings.{Cuts, IsFloor};
+ghost use Rattle.std.specs.Prelude.{◌<◌, ◌≤◌, IfSome, length};
 
 use crate::fault::FindFault;
 use crate::file_system::FileSystem;
 use std::alloc::Global;
 
 /// A folder without the slash at its end, so the root has no bytes.
-pub fn folder_of(path: &[u8]) -> &[u8]
-    ensures { result.now ≡ folder_of path.now }
-{
+pub fn folder_of(path: &[u8]) -> &[u8] {
     if path.ends_with(b"/") {
         &path[..path.len() - 1]
     } else {
@@ -26,9 +19,7 @@ pub fn ceilings_of<S: FileSystem>(
     alloc: Global,
     source: &S,
     told: Option<&[u8]>,
-) -> Result<Vec<Vec<u8>>, FindFault<Vec<u8>>>
-    ensures { Gives (S.is_known source.now) (λ ceilings. map vec_items ceilings.items) result (Ok (ceilings_of (S.tree source.now) (option_map (λ b. b.now) told.entry))) }
-{
+) -> Result<Vec<Vec<u8>>, FindFault<Vec<u8>>> {
     let mut ceilings = Vec::new(alloc);
     let mut follows = true;
     let mut rest = told;
@@ -45,7 +36,7 @@ pub fn ceilings_of<S: FileSystem>(
 
 /// What stands before the first colon of a text, and behind it where there is one.
 fn cut(text: &[u8]) -> (&[u8], Option<&[u8]>)
-    ensures { Cuts text.now result.0.now (option_map (λ b. b.now) result.1) }
+    ensures { IfSome result.1 (λ more. length more.now < length text.now) }
 {
     let place = colon_place(text);
     if place < text.len() {
@@ -57,7 +48,6 @@ fn cut(text: &[u8]) -> (&[u8], Option<&[u8]>)
 
 /// The place of the first colon of a text, or the text's length.
 fn colon_place(text: &[u8]) -> usize
-    ensures value { result ≡ position_or_len (λ b. b == 58) text.now }
     ensures within { result ≤ length text.now }
 {
     let mut place = 0;
@@ -76,9 +66,7 @@ fn ceiling_told<S: FileSystem>(
     source: &S,
     follows: bool,
     entry: &[u8],
-) -> Result<Option<Vec<u8>>, FindFault<Vec<u8>>>
-    ensures { Gives (S.is_known source.now) (λ ceiling. option_map vec_items ceiling) result (Ok (option_map folder_of (ceiling_told (S.tree source.now) follows entry.now))) }
-{
+) -> Result<Option<Vec<u8>>, FindFault<Vec<u8>>> {
     if !entry.starts_with(b"/") {
         return Ok(None);
     }
@@ -92,9 +80,7 @@ fn ceiling_told<S: FileSystem>(
 }
 
 /// How long a folder on the way to the current one has to be at least, to lie below each ceiling.
-pub fn floor_of(ceilings: &[Vec<u8>], current: &[u8]) -> usize
-    ensures { IsFloor (map vec_items ceilings.now) current.now result }
-{
+pub fn floor_of(ceilings: &[Vec<u8>], current: &[u8]) -> usize {
     let mut floor = 0;
     let mut rest = ceilings;
     'ceilings: while let [first, others @ ..] = rest {
@@ -105,18 +91,12 @@ pub fn floor_of(ceilings: &[Vec<u8>], current: &[u8]) -> usize
 }
 
 /// The larger one of two numbers.
-fn larger(first: usize, second: usize) -> usize
-    ensures first { first ≤ result }
-    ensures second { second ≤ result }
-    ensures least { (n : ℕ) → first ≤ n → second ≤ n → result ≤ n }
-{
+fn larger(first: usize, second: usize) -> usize {
     if first < second { second } else { first }
 }
 
 /// The same as [`floor_of`] for one ceiling.
-fn reach(ceiling: &[u8], current: &[u8]) -> usize
-    ensures { IsFloor (ceiling.now ∷ []) current.now result }
-{
+fn reach(ceiling: &[u8], current: &[u8]) -> usize {
     if is_above(ceiling, current) {
         ceiling.len() + 1
     } else {
@@ -125,9 +105,7 @@ fn reach(ceiling: &[u8], current: &[u8]) -> usize
 }
 
 /// Whether a folder is above another.
-fn is_above(upper: &[u8], folder: &[u8]) -> bool
-    ensures { IsTrue result ↔ IsAbove upper.now folder.now }
-{
+fn is_above(upper: &[u8], folder: &[u8]) -> bool {
     let Some(rest) = folder.strip_prefix(upper) else {
         return false;
     };

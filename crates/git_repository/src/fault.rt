@@ -1,6 +1,4 @@
 //! Why no repository was found.
-ghost use Rattle.std.specs.Prelude.{◌≡◌};
-ghost use Rattle.git_repository.specs.declared.fault.FindFault.TheVariants.{Memory};
 
 use bstr::BStr;
 use std::alloc::{AllocError, AllocFailed};
@@ -50,16 +48,12 @@ pub enum FindFault<B> {
 }
 
 impl<B> From<AllocError> for FindFault<B> {
-    ghost from_gives = { λ _ fault. fault ≡ Memory };
-
     fn from(_refused: AllocError) -> FindFault<B> {
         FindFault::Memory
     }
 }
 
 impl<B, T: Drop> From<AllocFailed<T>> for FindFault<B> {
-    ghost from_gives = { λ _ fault. fault ≡ Memory };
-
     fn from(_refused: AllocFailed<T>) -> FindFault<B> {
         FindFault::Memory
     }

@@ -1,9 +1,4 @@
 //! The folders of a repository.
-ghost use Rattle.std.specs.Prelude.{◌≡◌, IfOk, Ok, option_map};
-ghost use Rattle.std.specs.Vec.{vec_items};
-ghost use Rattle.git_repository.specs.Answers.{Gives, found_with};
-ghost use Rattle.git_repository.specs.Environments.{environment_with};
-ghost use Rattle.git_repository.specs.Folders.{configured_work_tree, counts, enters, file_path, folders_of, folders_with, found_work_tree, is_own, settings_with, work_tree_of};
 
 use crate::environment::Environment;
 use crate::fault::{FindFault, Wrong};
@@ -27,15 +22,12 @@ pub struct Folders<B> {
 ///
 /// # Errors
 /// [`FindFault::At`] where the file `commondir` can't be read or leads nowhere, and [`FindFault::Memory`].
-#[tactic(auto, unfolding(crate::specs::Folders::folders_of))]
 pub fn folders_of<S: FileSystem>(
     alloc: Global,
     source: &S,
     words: &Environment<&[u8]>,
     found: &Found<Vec<u8>>,
-) -> Result<Folders<Vec<u8>>, FindFault<Vec<u8>>>
-    ensures { Gives (S.is_known source.now) (folders_with vec_items) result (folders_of (S.tree source.now) (environment_with (λ b. b.now) words.now) (found_with vec_items found.now)) }
-{
+) -> Result<Folders<Vec<u8>>, FindFault<Vec<u8>>> {
     let common_folder = common_folder(alloc, source, words.common_dir, &found.git_folder)?;
     Ok(Folders {
         git_folder: Vec::from_slice(alloc, &found.git_folder)?,
@@ -49,9 +41,7 @@ fn is_own<S: FileSystem>(
     source: &S,
     words: &Environment<&[u8]>,
     folder: &[u8],
-) -> Result<bool, FindFault<Vec<u8>>>
-    ensures { Gives (S.is_known source.now) (λ answer. answer) result (Ok (is_own (S.tree source.now) (environment_with (λ b. b.now) words.now) folder.now)) }
-{
+) -> Result<bool, FindFault<Vec<u8>>> {
     if words.common_dir.is_some() {
         return Ok(false);
     }
@@ -67,9 +57,7 @@ pub fn counts<S: FileSystem>(
     words: &Environment<&[u8]>,
     settings: &Settings<&[u8]>,
     folder: &[u8],
-) -> Result<bool, FindFault<Vec<u8>>>
-    ensures { Gives (S.is_known source.now) (λ answer. answer) result (Ok (counts (S.tree source.now) (environment_with (λ b. b.now) words.now) (settings_with (λ b. b.now) settings.now) folder.now)) }
-{
+) -> Result<bool, FindFault<Vec<u8>>> {
     if !settings.has_version {
         return Ok(false);
     }
@@ -83,9 +71,7 @@ pub fn counts<S: FileSystem>(
 fn found_work_tree(
     alloc: Global,
     found: &Found<Vec<u8>>,
-) -> Result<Option<Vec<u8>>, FindFault<Vec<u8>>>
-    ensures { Gives (Unit {0}) (λ path. option_map vec_items path) result (Ok (found_work_tree (found_with vec_items found.now))) }
-{
+) -> Result<Option<Vec<u8>>, FindFault<Vec<u8>>> {
     match found.by {
         FoundBy::Bare => Ok(None),
         FoundBy::Folder | FoundBy::Gitfile | FoundBy::Named => {
@@ -98,16 +84,13 @@ fn found_work_tree(
 ///
 /// # Errors
 /// [`FindFault::At`] where the path that is told leads nowhere, and [`FindFault::Memory`].
-#[tactic(auto, unfolding(crate::specs::Folders::work_tree_of))]
 pub fn work_tree_of<S: FileSystem>(
     alloc: Global,
     source: &S,
     words: &Environment<&[u8]>,
     settings: &Settings<&[u8]>,
     found: &Found<Vec<u8>>,
-) -> Result<Option<Vec<u8>>, FindFault<Vec<u8>>>
-    ensures { Gives (S.is_known source.now) (λ path. option_map vec_items path) result (work_tree_of (S.tree source.now) (environment_with (λ b. b.now) words.now) (settings_with (λ b. b.now) settings.now) (found_with vec_items found.now)) }
-{
+) -> Result<Option<Vec<u8>>, FindFault<Vec<u8>>> {
     if let Some(told) = words.work_tree {
         let path = Vec::from_slice(alloc, told)?;
         return Ok(Some(real_path_of(source, path)?));
@@ -130,9 +113,7 @@ fn configured_work_tree<S: FileSystem>(
     source: &S,
     folder: &[u8],
     told: &[u8],
-) -> Result<Option<Vec<u8>>, FindFault<Vec<u8>>>
-    ensures { Gives (S.is_known source.now) (λ path. option_map vec_items path) result (configured_work_tree (S.tree source.now) folder.now told.now) }
-{
+) -> Result<Option<Vec<u8>>, FindFault<Vec<u8>>> {
     if told.starts_with(b"/") {
         let path = Vec::from_slice(alloc, told)?;
         return Ok(Some(real_path_of(source, path)?));
@@ -150,9 +131,7 @@ fn enters<S: FileSystem>(
     source: &S,
     folder: &[u8],
     told: &[u8],
-) -> Result<bool, AllocError>
-    ensures { IfOk result (λ answer. S.is_known source.now → answer ≡ enters (S.tree source.now) folder.now told.now) }
-{
+) -> Result<bool, AllocError> {
     if told.is_empty() {
         return Ok(false);
     }
@@ -184,9 +163,7 @@ pub fn file_path(
     words: &Environment<&[u8]>,
     folders: &Folders<Vec<u8>>,
     file: RepositoryFile,
-) -> Result<Vec<u8>, AllocError>
-    ensures { IfOk result (λ path. path.items ≡ file_path (environment_with (λ b. b.now) words.now) (folders_with vec_items folders.now) file) }
-{
+) -> Result<Vec<u8>, AllocError> {
     match (file, words.index_file) {
         (RepositoryFile::Config, _) => joined(alloc, &folders.common_folder, b"/config"),
         (RepositoryFile::WorktreeConfig, _) => {

