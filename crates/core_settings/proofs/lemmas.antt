@@ -1,3 +1,1 @@
-pub mod HandedLemmas
 pub mod LastLemmas
-pub mod PairLemmas

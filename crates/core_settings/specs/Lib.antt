@@ -1,9 +1,5 @@
 pub mod Blanks
-pub mod NormalPaths
-pub mod Parameters
-pub mod Private
-pub mod Sources
-pub mod Untracked
+pub mod Counts
 pub mod UserFiles
 pub mod Values
 pub mod Views

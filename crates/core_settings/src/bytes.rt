@@ -15,9 +15,7 @@ pub(crate) fn joined(alloc: Global, front: &[u8], back: &[u8]) -> Result<Vec<u8>
 }
 
 /// A copy of bytes, where there are any.
-pub(crate) fn owned(alloc: Global, bytes: Option<&[u8]>) -> Result<Option<Vec<u8>>, AllocError>
-    ensures { IfOk result (λ copy. option_map vec_items copy ≡ option_copied bytes.entry) }
-{
+pub(crate) fn owned(alloc: Global, bytes: Option<&[u8]>) -> Result<Option<Vec<u8>>, AllocError> {
     match bytes {
         Some(bytes) => Ok(Some(Vec::from_slice(alloc, bytes)?)),
         None => Ok(None),

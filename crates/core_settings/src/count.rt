@@ -1,17 +1,16 @@
 //! The number of pairs that the environment tells, as C's `strtoul` reads it.
-ghost use Rattle.std.specs.Prelude.{◌≡◌, ◌<◌, ◌≤◌, ◌^◌, length, nat_eq, position, IfOk, IsTrue, codes};
+ghost use Rattle.std.specs.Prelude.{◌≡◌, ◌<◌, ◌^◌, nat_eq, position, IfOk, codes};
 ghost use Rattle.std.specs.Char.{digit_value, is_digit};
 ghost use Rattle.std.specs.List.{list_all, starts_with};
-ghost use Rattle.std.specs.Option.{SomeIff, option_copied};
+ghost use Rattle.std.specs.Option.{SomeIff};
 ghost use Rattle.std.specs.Str.Parse.{digits_value};
 ghost use Rattle.git_config.specs.Numbers.{is_negative, is_solid, signed_of, unsigned_of};
-ghost use Rattle.core_settings.specs.Sources.{counted, number_of, pair_count};
+ghost use Rattle.core_settings.specs.Counts.{counted, number_of};
 
 use crate::fault::WrongPairs;
 
 /// The number of pairs that `GIT_CONFIG_COUNT` tells: none where it isn't set.
 pub fn pair_count(count: Option<&[u8]>) -> Result<u64, WrongPairs>
-    ensures count { result ≡ pair_count (option_copied count.entry) }
     ensures few { IfOk result (λ n. n < 2 ^ 31) }
 {
     let Some(text) = count else {

@@ -1,6 +1,4 @@
 //! What is wrong with the configuration, in Git's words.
-ghost use Rattle.std.specs.Prelude.{◌≡◌};
-ghost use Rattle.core_settings.specs.declared.fault.CoreFault.TheVariants.{Memory};
 
 use bstr::BStr;
 use std::alloc::{AllocError, AllocFailed};
@@ -81,16 +79,12 @@ pub enum CoreFault<B> {
 }
 
 impl<B> From<AllocError> for CoreFault<B> {
-    ghost from_gives = { λ _ fault. fault ≡ Memory };
-
     fn from(_refused: AllocError) -> CoreFault<B> {
         CoreFault::Memory
     }
 }
 
 impl<B, T: Drop> From<AllocFailed<T>> for CoreFault<B> {
-    ghost from_gives = { λ _ fault. fault ≡ Memory };
-
     fn from(_refused: AllocFailed<T>) -> CoreFault<B> {
         CoreFault::Memory
     }

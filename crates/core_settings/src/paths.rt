@@ -3,7 +3,6 @@ ghost use Rattle.std.specs.Prelude.{◌≡◌, ◌++◌, IfOk, codes, if◌then�
 ghost use Rattle.std.specs.Option.{option_copied};
 ghost use Rattle.std.specs.Vec.{vec_items};
 ghost use Rattle.git_config.specs.Includes.{is_absolute, user_folder};
-ghost use Rattle.core_settings.specs.UserFiles.{below_home};
 ghost use Rattle.core_settings.specs.Values.{told_path};
 
 use crate::bytes::{joined, slice_of};

@@ -1,12 +1,5 @@
 //! Which files and words Git's configuration is read from, in order.
-ghost use Rattle.std.specs.Prelude.{◌≡◌, ◌++◌, ◌∷◌, ◌≤◌, ◌==◌, [], if◌then◌else◌, is_some, length, map, nat_lt, not, option_map, position, IfOk, OnOk};
-ghost use Rattle.std.specs.Option.{option_copied, option_to_list};
-ghost use Rattle.std.specs.Vec.{vec_items};
-ghost use Rattle.core_settings.specs.Sources.{files_of, lacks_system, pair_count, pair_word, pair_words, pairs_fault, read_pairs, sources_fault, sources_of, system_file, user_files, words_behind, words_told};
-ghost use Rattle.core_settings.specs.Views.{pair_with, places_with, seen_source, seen_sources, source_with, sources_fault_with};
-ghost use Rattle.core_settings.specs.declared.fault.SourcesFault.TheVariants.{NoSystem};
-ghost use Rattle.core_settings.specs.declared.fault.WrongPairs.TheVariants.{NoKey, NoValue};
-ghost use Rattle.core_settings.specs.declared.sources.ConfigSource.TheVariants.{File, Word};
+ghost use Rattle.std.specs.Prelude.{◌≡◌, ◌≤◌, is_some, length, not, position};
 
 use crate::bytes::{owned, slice_of};
 use crate::count::pair_count;
@@ -68,9 +61,7 @@ pub enum ConfigSource<B> {
 
 impl ConfigSource<Vec<u8>> {
     /// The source as [`Config::read`](git_config::Config::read) takes it.
-    pub fn as_source(&self) -> Source<'_>
-        ensures { seen_source result ≡ source_with vec_items self.now }
-    {
+    pub fn as_source(&self) -> Source<'_> {
         match self {
             ConfigSource::File(path) => Source::File(path),
             ConfigSource::Word { key, value } => Source::Word {
@@ -95,9 +86,7 @@ impl ConfigSources {
     ///
     /// # Errors
     /// Only where memory was refused.
-    pub fn as_sources(&self, alloc: Global) -> Result<Vec<Source<'_>>, AllocError>
-        ensures { IfOk result (λ sources. map seen_source sources.items ≡ seen_sources self.now.list) }
-    {
+    pub fn as_sources(&self, alloc: Global) -> Result<Vec<Source<'_>>, AllocError> {
         let mut sources = Vec::new(alloc);
         for source in &self.list {
             sources.push(source.as_source())?;
@@ -118,10 +107,7 @@ pub fn config_sources(
     places: &ConfigPlaces<&[u8]>,
     pairs: &[Pair<&[u8]>],
     words: &[&[u8]],
-) -> Result<ConfigSources, AllocError>
-    ensures sources { IfOk result (λ sources. seen_sources sources.list ≡ sources_of (places_with (λ b. b.now) places.now) (map (pair_with (λ b. b.now)) pairs.now) (map (λ b. b.now) words.now)) }
-    ensures fault { IfOk result (λ sources. option_map (sources_fault_with vec_items) sources.fault ≡ sources_fault (places_with (λ b. b.now) places.now) (map (pair_with (λ b. b.now)) pairs.now)) }
-{
+) -> Result<ConfigSources, AllocError> {
     let mut list = Vec::new(alloc);
     let Some(lacks) = lacks_system(places.no_system) else {
         let fault = no_system_fault(alloc, places.no_system)?;
@@ -137,9 +123,7 @@ pub fn config_sources(
 }
 
 /// Whether the system's file is left out; `None` where this is said by no boolean.
-fn lacks_system(value: Option<&[u8]>) -> Option<bool>
-    ensures { result ≡ lacks_system (option_copied value.entry) }
-{
+fn lacks_system(value: Option<&[u8]>) -> Option<bool> {
     match value {
         Some(text) => boolean(Some(text)),
         None => Some(false),
@@ -150,9 +134,7 @@ fn lacks_system(value: Option<&[u8]>) -> Option<bool>
 fn no_system_fault(
     alloc: Global,
     value: Option<&[u8]>,
-) -> Result<Option<SourcesFault<Vec<u8>>>, AllocError>
-    ensures { IfOk result (λ fault. option_map (sources_fault_with vec_items) fault ≡ option_map (λ text. NoSystem text) (option_copied value.entry)) }
-{
+) -> Result<Option<SourcesFault<Vec<u8>>>, AllocError> {
     match value {
         Some(text) => Ok(Some(SourcesFault::NoSystem(Vec::from_slice(alloc, text)?))),
         None => Ok(None),
@@ -165,9 +147,7 @@ fn add_files(
     lacks: bool,
     places: &ConfigPlaces<&[u8]>,
     out: &mut Vec<ConfigSource<Vec<u8>>>,
-) -> Result<(), AllocError>
-    ensures { OnOk result (seen_sources out.new ≡ seen_sources out.old ++ map (λ path. File path) (files_of lacks (places_with (λ b. b.now) places.now))) }
-{
+) -> Result<(), AllocError> {
     add_path(system_file(alloc, lacks, places)?, out)?;
     add_user_files(alloc, places, out)?;
     add_file(alloc, places.repository, out)?;
@@ -179,9 +159,7 @@ fn system_file(
     alloc: Global,
     lacks: bool,
     places: &ConfigPlaces<&[u8]>,
-) -> Result<Option<Vec<u8>>, AllocError>
-    ensures { IfOk result (λ file. option_map vec_items file ≡ system_file lacks (places_with (λ b. b.now) places.now)) }
-{
+) -> Result<Option<Vec<u8>>, AllocError> {
     if lacks {
         return Ok(None);
     }
@@ -196,9 +174,7 @@ fn add_user_files(
     alloc: Global,
     places: &ConfigPlaces<&[u8]>,
     out: &mut Vec<ConfigSource<Vec<u8>>>,
-) -> Result<(), AllocError>
-    ensures { OnOk result (seen_sources out.new ≡ seen_sources out.old ++ map (λ path. File path) (user_files (places_with (λ b. b.now) places.now) (option_copied places.now.global))) }
-{
+) -> Result<(), AllocError> {
     if let Some(path) = places.global {
         return add_file(alloc, Some(path), out);
     }
@@ -213,9 +189,7 @@ fn add_file(
     alloc: Global,
     path: Option<&[u8]>,
     out: &mut Vec<ConfigSource<Vec<u8>>>,
-) -> Result<(), AllocError>
-    ensures { OnOk result (seen_sources out.new ≡ seen_sources out.old ++ map (λ path. File path) (option_to_list (option_copied path.entry))) }
-{
+) -> Result<(), AllocError> {
     match path {
         Some(path) => add_path(Some(Vec::from_slice(alloc, path)?), out),
         None => Ok(()),
@@ -223,9 +197,7 @@ fn add_file(
 }
 
 /// Adds the file at a path, if there is one.
-fn add_path(path: Option<Vec<u8>>, out: &mut Vec<ConfigSource<Vec<u8>>>) -> Result<(), AllocError>
-    ensures { OnOk result (seen_sources out.new ≡ seen_sources out.old ++ map (λ path. File path) (option_to_list (option_map vec_items path))) }
-{
+fn add_path(path: Option<Vec<u8>>, out: &mut Vec<ConfigSource<Vec<u8>>>) -> Result<(), AllocError> {
     if let Some(path) = path {
         out.push(ConfigSource::File(path))?;
     }
@@ -238,10 +210,7 @@ fn add_told(
     places: &ConfigPlaces<&[u8]>,
     pairs: &[Pair<&[u8]>],
     out: &mut Vec<ConfigSource<Vec<u8>>>,
-) -> Result<Option<WrongPairs>, AllocError>
-    ensures added { OnOk result (seen_sources out.new ≡ seen_sources out.old ++ (words_told (places_with (λ b. b.now) places.now) (map (pair_with (λ b. b.now)) pairs.now)).0) }
-    ensures fault { IfOk result (λ fault. fault ≡ (words_told (places_with (λ b. b.now) places.now) (map (pair_with (λ b. b.now)) pairs.now)).1) }
-{
+) -> Result<Option<WrongPairs>, AllocError> {
     match add_pairs(alloc, places.count, pairs, out)? {
         Some(wrong) => Ok(Some(wrong)),
         None => add_handed(alloc, places.parameters, out),
@@ -254,10 +223,7 @@ fn add_pairs(
     count: Option<&[u8]>,
     pairs: &[Pair<&[u8]>],
     out: &mut Vec<ConfigSource<Vec<u8>>>,
-) -> Result<Option<WrongPairs>, AllocError>
-    ensures added { OnOk result (seen_sources out.new ≡ seen_sources out.old ++ pair_words (pair_count (option_copied count.entry)) (map (pair_with (λ b. b.now)) pairs.now)) }
-    ensures fault { IfOk result (λ fault. fault ≡ pairs_fault (pair_count (option_copied count.entry)) (map (pair_with (λ b. b.now)) pairs.now)) }
-{
+) -> Result<Option<WrongPairs>, AllocError> {
     match pair_count(count) {
         Ok(number) => {
             let number = number as usize;
@@ -271,7 +237,6 @@ fn add_pairs(
 
 /// How many of so many pairs are read.
 fn read_count(number: usize, pairs: &[Pair<&[u8]>]) -> usize
-    ensures value { result ≡ length (read_pairs number (map (pair_with (λ b. b.now)) pairs.now)) }
     ensures within { result ≤ length pairs.now }
 {
     let told = &pairs[..number.min(pairs.len())];
@@ -289,9 +254,7 @@ fn first_without_value(pairs: &[Pair<&[u8]>]) -> Option<usize>
 }
 
 /// What is missing where of so many pairs these are read.
-fn missing(number: usize, read: usize, all: usize) -> Option<WrongPairs>
-    ensures { result ≡ (if read == number then None else Some (if nat_lt read all then NoValue read else NoKey read)) }
-{
+fn missing(number: usize, read: usize, all: usize) -> Option<WrongPairs> {
     if read == number {
         None
     } else if read < all {
@@ -306,9 +269,7 @@ fn add_read_pairs(
     alloc: Global,
     pairs: &[Pair<&[u8]>],
     out: &mut Vec<ConfigSource<Vec<u8>>>,
-) -> Result<(), AllocError>
-    ensures { OnOk result (seen_sources out.new ≡ seen_sources out.old ++ map (λ pair. pair_word (pair_with (λ b. b.now) pair)) pairs.now) }
-{
+) -> Result<(), AllocError> {
     for pair in pairs {
         add_word(alloc, pair.key, pair.value, out)?;
     }
@@ -321,9 +282,7 @@ fn add_words(
     fault: Option<WrongPairs>,
     words: &[&[u8]],
     out: &mut Vec<ConfigSource<Vec<u8>>>,
-) -> Result<(), AllocError>
-    ensures { OnOk result (seen_sources out.new ≡ seen_sources out.old ++ words_behind fault (map (λ b. b.now) words.now)) }
-{
+) -> Result<(), AllocError> {
     if fault.is_some() {
         return Ok(());
     }
@@ -340,9 +299,7 @@ fn add_word(
     key: &[u8],
     value: Option<&[u8]>,
     out: &mut Vec<ConfigSource<Vec<u8>>>,
-) -> Result<(), AllocError>
-    ensures { OnOk result (seen_sources out.new ≡ seen_sources out.old ++ Word key.now (option_copied value.entry) ∷ []) }
-{
+) -> Result<(), AllocError> {
     let key = Vec::from_slice(alloc, key)?;
     let value = owned(alloc, value)?;
     out.push(ConfigSource::Word { key, value })?;

@@ -1,5 +1,5 @@
 //! Where the files of a user's settings lie.
-ghost use Rattle.std.specs.Prelude.{◌≡◌, ◌++◌, drop, not, option_map, position, IfOk};
+ghost use Rattle.std.specs.Prelude.{◌≡◌, drop, not, option_map, position, IfOk};
 ghost use Rattle.std.specs.List.{position_or_len};
 ghost use Rattle.std.specs.Option.{option_copied};
 ghost use Rattle.std.specs.Vec.{vec_items};

@@ -1,16 +1,12 @@
 //! What a configuration sets of matching, printing and listing.
-ghost use Rattle.std.specs.Prelude.{◌≡◌, ◌⊎◌, ◌==◌, map, option_and_then, option_map, position, IfErr, IfOk};
-ghost use Rattle.std.specs.List.{list_any};
+ghost use Rattle.std.specs.Prelude.{◌≡◌, ◌==◌, codes, false, option_and_then, option_map, position, true, IfOk};
 ghost use Rattle.std.specs.Option.{option_copied};
-ghost use Rattle.std.specs.Str.{bytes_eq};
 ghost use Rattle.std.specs.Vec.{vec_items};
 ghost use Rattle.git_config.specs.Configuration.{key_of, seen_setting};
 ghost use Rattle.git_config.specs.Grammar.{before_zero};
-ghost use Rattle.core_settings.specs.Private.{Tells};
-ghost use Rattle.core_settings.specs.Values.{boolean_at, boolean_fault, core_of, entry_fault, fault_of, file_at, first_fault, if_path, is_boolean, is_mode, is_path, is_way_to_push, is_wrong_word, last_value, path_fault, told_path};
+ghost use Rattle.core_settings.specs.Values.{boolean_at, file_at, if_path, last_value, told_path};
 ghost use Rattle.core_settings.specs.UserFiles.{settings_file};
-ghost use Rattle.core_settings.specs.Views.{fault_with, seen_settings, settings_with};
-ghost use Rattle.core_settings.specs.declared.fault.CoreFault.TheVariants.{Memory};
+ghost use Rattle.core_settings.specs.Views.{seen_settings};
 
 use crate::bytes::{joined, slice_of};
 use crate::fault::CoreFault;
@@ -49,8 +45,10 @@ pub fn core_settings(
     config_home: Option<&[u8]>,
     for_status: bool,
 ) -> Result<CoreSettings<Vec<u8>>, CoreFault<Vec<u8>>>
-    ensures settings { IfOk result (λ core. core_of for_status around.now (option_copied config_home.entry) (seen_settings config.now) ≡ Ok (settings_with vec_items core)) }
-    ensures fault { IfErr result (λ fault. (fault ≡ Memory) ⊎ (core_of for_status around.now (option_copied config_home.entry) (seen_settings config.now) ≡ Err (fault_with vec_items fault))) }
+    ensures ignore_case { IfOk result (λ core. core.ignore_case ≡ boolean_at false (last_value (codes "core.ignorecase") (seen_settings config.now))) }
+    ensures quote_path { IfOk result (λ core. core.quote_path ≡ boolean_at true (last_value (codes "core.quotepath") (seen_settings config.now))) }
+    ensures excludes { IfOk result (λ core. option_map vec_items core.excludes ≡ file_at around.now (settings_file (option_copied config_home.entry) (option_map vec_items around.now.home) (codes "ignore")) (last_value (codes "core.excludesfile") (seen_settings config.now))) }
+    ensures attributes { IfOk result (λ core. option_map vec_items core.attributes ≡ file_at around.now (settings_file (option_copied config_home.entry) (option_map vec_items around.now.home) (codes "attributes")) (last_value (codes "core.attributesfile") (seen_settings config.now))) }
 {
     check_settings(alloc, config, around, for_status)?;
     Ok(CoreSettings {
@@ -82,9 +80,7 @@ fn check_settings(
     config: &Config,
     around: &Surroundings,
     for_status: bool,
-) -> Result<(), CoreFault<Vec<u8>>>
-    ensures { Tells (first_fault for_status around.now (seen_settings config.now)) result }
-{
+) -> Result<(), CoreFault<Vec<u8>>> {
     let mut rest = config.settings.as_slice();
     'settings: while let Some((setting, more)) = rest.split_first() {
         rest = more;
@@ -99,9 +95,7 @@ fn check_setting(
     around: &Surroundings,
     for_status: bool,
     setting: &ReadSetting,
-) -> Result<(), CoreFault<Vec<u8>>>
-    ensures { Tells (fault_of for_status around.now (seen_setting setting.now)) result }
-{
+) -> Result<(), CoreFault<Vec<u8>>> {
     let key = key_of(alloc, setting)?;
     if is_boolean(&key) {
         return check_boolean(alloc, key, &setting.entry.value);
@@ -120,9 +114,7 @@ fn check_boolean(
     alloc: Global,
     key: Vec<u8>,
     value: &Option<Vec<u8>>,
-) -> Result<(), CoreFault<Vec<u8>>>
-    ensures { Tells (boolean_fault key.items (option_map vec_items value.now)) result }
-{
+) -> Result<(), CoreFault<Vec<u8>>> {
     match value {
         Some(value) if boolean(Some(value)).is_none() => Err(CoreFault::Boolean {
             key,
@@ -138,9 +130,7 @@ fn check_path(
     around: &Surroundings,
     key: Vec<u8>,
     setting: &ReadSetting,
-) -> Result<(), CoreFault<Vec<u8>>>
-    ensures { key.items ≡ key_of (seen_setting setting.now) → Tells (path_fault around.now (seen_setting setting.now) (option_map vec_items setting.now.entry.value)) result }
-{
+) -> Result<(), CoreFault<Vec<u8>>> {
     let Some(value) = &setting.entry.value else {
         return Err(entry_fault(alloc, key, setting)?);
     };
@@ -155,9 +145,7 @@ fn entry_fault(
     alloc: Global,
     key: Vec<u8>,
     setting: &ReadSetting,
-) -> Result<CoreFault<Vec<u8>>, AllocError>
-    ensures { key.items ≡ key_of (seen_setting setting.now) → IfOk result (λ fault. fault_with vec_items fault ≡ entry_fault (seen_setting setting.now)) }
-{
+) -> Result<CoreFault<Vec<u8>>, AllocError> {
     Ok(CoreFault::Entry {
         key,
         file: file_of(alloc, setting)?,
@@ -166,9 +154,7 @@ fn entry_fault(
 }
 
 /// The file that a setting tells.
-fn file_of(alloc: Global, setting: &ReadSetting) -> Result<Option<Vec<u8>>, AllocError>
-    ensures { IfOk result (λ file. option_map vec_items file ≡ (seen_setting setting.now).file) }
-{
+fn file_of(alloc: Global, setting: &ReadSetting) -> Result<Option<Vec<u8>>, AllocError> {
     match &setting.file {
         Some(path) => Ok(Some(Vec::from_slice(alloc, path)?)),
         None => Ok(None),
@@ -223,9 +209,7 @@ const BOOLEANS: [&[u8]; 15] = [
 ];
 
 /// Whether Git looks for a boolean at a key.
-fn is_boolean(key: &[u8]) -> bool
-    ensures { result ≡ is_boolean key.now }
-{
+fn is_boolean(key: &[u8]) -> bool {
     is_among(key, &BOOLEANS)
 }
 
@@ -237,16 +221,12 @@ const PATHS: [&[u8]; 3] = [
 ];
 
 /// Whether Git looks for a path at a key.
-fn is_path(key: &[u8]) -> bool
-    ensures { result ≡ is_path key.now }
-{
+fn is_path(key: &[u8]) -> bool {
     is_among(key, &PATHS)
 }
 
 /// Whether Git knows some words alone at a key, and a value is none of them.
-fn is_wrong_word(for_status: bool, key: &[u8], value: &Option<Vec<u8>>) -> bool
-    ensures { result ≡ is_wrong_word for_status key.now (option_map vec_items value.now) }
-{
+fn is_wrong_word(for_status: bool, key: &[u8], value: &Option<Vec<u8>>) -> bool {
     if is_mode(for_status, key) {
         return mode_of(value).is_none();
     }
@@ -264,9 +244,7 @@ const WAYS_TO_PUSH: [&[u8]; 6] = [
 ];
 
 /// Whether a value says what `git push` does by default. Case counts.
-fn is_way_to_push(value: &Option<Vec<u8>>) -> bool
-    ensures { result ≡ is_way_to_push (option_map vec_items value.now) }
-{
+fn is_way_to_push(value: &Option<Vec<u8>>) -> bool {
     match value {
         Some(word) => is_among(word, &WAYS_TO_PUSH),
         None => false,
@@ -274,16 +252,12 @@ fn is_way_to_push(value: &Option<Vec<u8>>) -> bool
 }
 
 /// Whether Git, for `status`, looks for a mode at a key.
-fn is_mode(for_status: bool, key: &[u8]) -> bool
-    ensures { result ≡ is_mode for_status key.now }
-{
+fn is_mode(for_status: bool, key: &[u8]) -> bool {
     for_status && key == b"status.showuntrackedfiles".as_slice()
 }
 
 /// Whether a key is among some.
-fn is_among(key: &[u8], keys: &[&[u8]]) -> bool
-    ensures { result ≡ list_any (bytes_eq key.now) (map (λ b. b.now) keys.now) }
-{
+fn is_among(key: &[u8], keys: &[&[u8]]) -> bool {
     for other in keys {
         if key == *other {
             return true;
