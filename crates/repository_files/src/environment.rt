@@ -1,9 +1,7 @@
 //! The variables of the environment that say where a repository is.
-ghost use Rattle.std.specs.Prelude.{◌≡◌, ◌↔◌, IsErr, IfOk, None, Some, option_map};
-ghost use Rattle.std.specs.Option.{option_copied};
-ghost use Rattle.std.specs.Vec.{vec_items};
+ghost use Rattle.std.specs.Prelude.{◌≡◌};
 ghost use Rattle.git_repository.specs.Environments.{environment_with};
-ghost use Rattle.repository_files.specs.Variables.{across_of, environment_of, no_environment};
+ghost use Rattle.repository_files.specs.Variables.{environment_of};
 
 use crate::fault::VariableFault;
 use crate::variables::{said_by, variable};
@@ -63,9 +61,7 @@ impl RepositoryVariables {
     }
 
     /// None of them is set.
-    pub fn none() -> RepositoryVariables
-        ensures { environment_of result ≡ no_environment }
-    {
+    pub fn none() -> RepositoryVariables {
         RepositoryVariables {
             git_dir: None,
             work_tree: None,
@@ -96,9 +92,7 @@ impl RepositoryVariables {
 }
 
 /// What a value says of going across file systems; `None` where it is no boolean.
-fn across_of(has_git_dir: bool, value: Option<&[u8]>) -> Option<bool>
-    ensures { result ≡ across_of has_git_dir (option_copied value.entry) }
-{
+fn across_of(has_git_dir: bool, value: Option<&[u8]>) -> Option<bool> {
     if has_git_dir {
         return Some(false);
     }

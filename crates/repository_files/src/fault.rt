@@ -1,5 +1,4 @@
 //! Why a file of a configuration isn't read, or a variable of the environment.
-ghost use Rattle.std.specs.Prelude.{◌≡◌};
 
 use bstr::BStr;
 use std::alloc::AllocError;
@@ -35,10 +34,6 @@ pub enum ConfigFileFault {
 }
 
 impl From<AllocError> for ConfigFileFault {
-    ghost use Rattle.repository_files.specs.declared.fault.ConfigFileFault.TheVariants.{Memory};
-
-    ghost from_gives = { λ _ fault. fault ≡ Memory };
-
     fn from(_refused: AllocError) -> ConfigFileFault {
         ConfigFileFault::Memory
     }
@@ -83,10 +78,6 @@ pub enum VariableFault {
 }
 
 impl From<AllocError> for VariableFault {
-    ghost use Rattle.repository_files.specs.declared.fault.VariableFault.TheVariants.{Memory};
-
-    ghost from_gives = { λ _ fault. fault ≡ Memory };
-
     fn from(_refused: AllocError) -> VariableFault {
         VariableFault::Memory
     }

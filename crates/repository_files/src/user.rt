@@ -1,6 +1,6 @@
 //! Which files belong to the user.
-ghost use Rattle.std.specs.Prelude.{◌≡◌};
-ghost use Rattle.repository_files.specs.User.{owns};
+ghost use Rattle.std.specs.Prelude.{◌↔◌, IsTrue};
+ghost use Rattle.repository_files.specs.User.{Owns};
 
 use crate::reading::answered;
 use crate::variables::variable;
@@ -39,7 +39,7 @@ impl User {
 
     /// Whether a file with this owner belongs to the user. To the superuser belongs also what belongs to the user for whom he asks.
     pub fn owns(&self, owner: u32) -> bool
-        ensures { result ≡ owns self.now owner }
+        ensures { IsTrue result ↔ Owns self.now owner }
     {
         match self.number {
             None => false,

@@ -1,7 +1,4 @@
 //! A variable of the environment, by its bytes or as a boolean.
-ghost use Rattle.std.specs.Prelude.{◌≡◌};
-ghost use Rattle.std.specs.Option.{option_copied};
-ghost use Rattle.repository_files.specs.Variables.{said_by};
 
 use crate::fault::VariableFault;
 use git_config::boolean;
@@ -46,9 +43,7 @@ pub fn is_true<R: Env>(rt: &R, alloc: Global, name: &'static str) -> Result<bool
 }
 
 /// What a value says, where a variable has one; `None` where it is no boolean.
-pub(crate) fn said_by(value: Option<&[u8]>) -> Option<bool>
-    ensures { result ≡ said_by (option_copied value.entry) }
-{
+pub(crate) fn said_by(value: Option<&[u8]>) -> Option<bool> {
     if value.is_none() {
         return Some(false);
     }
