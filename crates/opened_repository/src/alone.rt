@@ -1,12 +1,4 @@
 //! The reading of a file by itself, without what it includes.
-ghost use Rattle.std.specs.Prelude.{◌≡◌, [], Some, map, IfOk};
-ghost use Rattle.std.specs.Vec.{vec_items};
-ghost use Rattle.git_config.specs.Configuration.{seen_setting};
-ghost use Rattle.git_config.specs.Grammar.{items_of};
-ghost use Rattle.git_config.specs.Items.{seen_entry, seen_items};
-ghost use Rattle.core_settings.specs.Views.{seen_settings};
-ghost use Rattle.opened_repository.specs.Alone.{FileAlone, entries_alone, if_read};
-ghost use Rattle.opened_repository.specs.Answers.{Tells, is};
 
 use crate::fault::{OpenFault, RepositoryFault};
 use git_config::{
@@ -21,9 +13,7 @@ pub(crate) fn read_alone<F: ConfigFiles>(
     alloc: Global,
     files: &F,
     path: &[u8],
-) -> Result<Config, OpenFault<F::Fault>>
-    ensures { Tells (Unit {0}) seen_settings result (FileAlone (F.shows files.now) path.now) }
-{
+) -> Result<Config, OpenFault<F::Fault>> {
     match files.find(path) {
         Ok(Some(found)) => read_bytes(alloc, path, &found.bytes),
         Ok(None) => Ok(Config {
@@ -34,9 +24,7 @@ pub(crate) fn read_alone<F: ConfigFiles>(
 }
 
 /// The entries of a file with these bytes.
-fn read_bytes<F>(alloc: Global, path: &[u8], bytes: &[u8]) -> Result<Config, OpenFault<F>>
-    ensures { Tells (Unit {0}) seen_settings result (is (if_read path.now (entries_alone path.now [] (items_of bytes.now).0) (items_of bytes.now).1)) }
-{
+fn read_bytes<F>(alloc: Global, path: &[u8], bytes: &[u8]) -> Result<Config, OpenFault<F>> {
     match ConfigFile::from_bytes(alloc, bytes) {
         Ok(file) => Ok(Config {
             settings: entries_alone(alloc, path, &file.items)?,
@@ -52,9 +40,7 @@ fn wrong_line<F>(
     path: &[u8],
     line: usize,
     what: Wrong,
-) -> Result<Config, OpenFault<F>>
-    ensures { Tells (Unit {0}) seen_settings result (is (if_read path.now [] (Some (line, what)))) }
-{
+) -> Result<Config, OpenFault<F>> {
     let file = Rc::new(alloc, Vec::from_slice(alloc, path)?)?;
     Err(OpenFault::Told(RepositoryFault::Setting(SettingFault {
         file: Some(file),
@@ -69,9 +55,7 @@ fn entries_alone(
     alloc: Global,
     path: &[u8],
     items: &[Item<Vec<u8>>],
-) -> Result<Vec<ReadSetting>, AllocError>
-    ensures { IfOk result (λ settings. map seen_setting settings.items ≡ entries_alone path.now [] (seen_items items.now)) }
-{
+) -> Result<Vec<ReadSetting>, AllocError> {
     let mut settings = Vec::new(alloc);
     let mut section: &[u8] = b"";
     let mut rest = items;
@@ -91,9 +75,7 @@ fn setting_of(
     path: &[u8],
     section: &[u8],
     entry: &Entry<Vec<u8>>,
-) -> Result<ReadSetting, AllocError>
-    ensures { IfOk result (λ setting. seen_setting setting ≡ record { file = Some path.now; section = section.now; entry = seen_entry entry.now }) }
-{
+) -> Result<ReadSetting, AllocError> {
     let value = match &entry.value {
         Some(value) => Some(Vec::from_slice(alloc, value)?),
         None => None,

@@ -1,7 +1,4 @@
 //! What the conditions of a configuration are told from.
-ghost use Rattle.std.specs.Prelude.{◌≡◌, map, option_map, IfOk};
-ghost use Rattle.std.specs.Vec.{vec_items};
-ghost use Rattle.opened_repository.specs.Readings.{IsAround, all_items, known_of, nothing_known, user_of};
 
 use git_config::{Surroundings, UserFolder};
 use std::alloc::{AllocError, Global};
@@ -18,9 +15,7 @@ pub struct KnownRepository {
 }
 
 /// What is known outside of a repository.
-pub(crate) fn nothing_known(alloc: Global) -> KnownRepository
-    ensures { known_of result ≡ nothing_known }
-{
+pub(crate) fn nothing_known(alloc: Global) -> KnownRepository {
     KnownRepository {
         folders: Vec::new(alloc),
         branch: None,
@@ -34,9 +29,7 @@ pub(crate) fn around_of(
     start: &Surroundings,
     known: &KnownRepository,
     urls: Option<Vec<Vec<u8>>>,
-) -> Result<Surroundings, AllocError>
-    ensures { IfOk result (λ around. IsAround start.now (known_of known.now) (option_map all_items urls) around) }
-{
+) -> Result<Surroundings, AllocError> {
     Ok(Surroundings {
         home: copy_of(alloc, &start.home)?,
         real_home: copy_of(alloc, &start.real_home)?,
@@ -49,9 +42,7 @@ pub(crate) fn around_of(
 }
 
 /// A copy of bytes, where there are any.
-fn copy_of(alloc: Global, bytes: &Option<Vec<u8>>) -> Result<Option<Vec<u8>>, AllocError>
-    ensures { IfOk result (λ copy. option_map vec_items copy ≡ option_map vec_items bytes.now) }
-{
+fn copy_of(alloc: Global, bytes: &Option<Vec<u8>>) -> Result<Option<Vec<u8>>, AllocError> {
     match bytes {
         Some(bytes) => Ok(Some(Vec::from_slice(alloc, bytes)?)),
         None => Ok(None),
@@ -59,9 +50,7 @@ fn copy_of(alloc: Global, bytes: &Option<Vec<u8>>) -> Result<Option<Vec<u8>>, Al
 }
 
 /// Copies of texts.
-fn copies_of(alloc: Global, texts: &[Vec<u8>]) -> Result<Vec<Vec<u8>>, AllocError>
-    ensures { IfOk result (λ copies. map vec_items copies.items ≡ map vec_items texts.now) }
-{
+fn copies_of(alloc: Global, texts: &[Vec<u8>]) -> Result<Vec<Vec<u8>>, AllocError> {
     let mut copies = Vec::new(alloc);
     for text in texts {
         copies.push(Vec::from_slice(alloc, text)?)?;
@@ -70,9 +59,7 @@ fn copies_of(alloc: Global, texts: &[Vec<u8>]) -> Result<Vec<Vec<u8>>, AllocErro
 }
 
 /// Copies of users.
-fn users_of(alloc: Global, users: &[UserFolder]) -> Result<Vec<UserFolder>, AllocError>
-    ensures { IfOk result (λ copies. map user_of copies.items ≡ map user_of users.now) }
-{
+fn users_of(alloc: Global, users: &[UserFolder]) -> Result<Vec<UserFolder>, AllocError> {
     let mut copies = Vec::new(alloc);
     for user in users {
         copies.push(UserFolder {

@@ -1,9 +1,4 @@
 //! What the conditions of a configuration ask.
-ghost use Rattle.std.specs.Prelude.{◌≡◌, IfOk, option_map};
-ghost use Rattle.std.specs.Vec.{vec_items};
-ghost use Rattle.core_settings.specs.Views.{seen_settings};
-ghost use Rattle.opened_repository.specs.Answers.{Tells, is};
-ghost use Rattle.opened_repository.specs.Readings.{asks, branch_checked};
 
 use crate::around::KnownRepository;
 use crate::fault::{OpenFault, RepositoryFault};
@@ -12,9 +7,7 @@ use git_config::Config;
 use std::alloc::{AllocError, Global};
 
 /// Whether a key begins with these words.
-pub(crate) fn asks(alloc: Global, config: &Config, words: &[u8]) -> Result<bool, AllocError>
-    ensures { IfOk result (λ so. so ≡ asks words.now (seen_settings config.now)) }
-{
+pub(crate) fn asks(alloc: Global, config: &Config, words: &[u8]) -> Result<bool, AllocError> {
     let mut rest = config.settings.as_slice();
     'settings: while let Some((setting, more)) = rest.split_first() {
         rest = more;
@@ -31,9 +24,7 @@ pub(crate) fn check_branch<F>(
     alloc: Global,
     known: &KnownRepository,
     config: &Config,
-) -> Result<(), OpenFault<F>>
-    ensures { Tells (Unit {0}) (λ done. done) result (is (branch_checked (option_map vec_items known.now.uncertain) (seen_settings config.now))) }
-{
+) -> Result<(), OpenFault<F>> {
     let Some(reference) = &known.uncertain else {
         return Ok(());
     };

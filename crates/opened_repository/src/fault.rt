@@ -1,6 +1,4 @@
 //! Why a repository can't be opened.
-ghost use Rattle.std.specs.Prelude.{◌≡◌};
-ghost use Rattle.opened_repository.specs.Faults.{of_core, of_find, of_read};
 
 use core_settings::{CoreFault, SourcesFault};
 use git_config::{ReadFault, SettingFault, WrongSetting};
@@ -67,28 +65,18 @@ pub enum OpenFault<F> {
 }
 
 impl<F> From<AllocError> for OpenFault<F> {
-    ghost use Rattle.opened_repository.specs.declared.fault.OpenFault.TheVariants.{Memory};
-
-    ghost from_gives = { λ _ fault. fault ≡ Memory };
-
     fn from(_refused: AllocError) -> OpenFault<F> {
         OpenFault::Memory
     }
 }
 
 impl<T: Drop, F> From<AllocFailed<T>> for OpenFault<F> {
-    ghost use Rattle.opened_repository.specs.declared.fault.OpenFault.TheVariants.{Memory};
-
-    ghost from_gives = { λ _ fault. fault ≡ Memory };
-
     fn from(_refused: AllocFailed<T>) -> OpenFault<F> {
         OpenFault::Memory
     }
 }
 
 impl<F> From<FindFault<Vec<u8>>> for OpenFault<F> {
-    ghost from_gives = { λ found fault. fault ≡ of_find found };
-
     fn from(fault: FindFault<Vec<u8>>) -> OpenFault<F> {
         match fault {
             FindFault::Memory => OpenFault::Memory,
@@ -98,8 +86,6 @@ impl<F> From<FindFault<Vec<u8>>> for OpenFault<F> {
 }
 
 impl<F> From<CoreFault<Vec<u8>>> for OpenFault<F> {
-    ghost from_gives = { λ wrong fault. fault ≡ of_core wrong };
-
     fn from(fault: CoreFault<Vec<u8>>) -> OpenFault<F> {
         match fault {
             CoreFault::Memory => OpenFault::Memory,
@@ -109,8 +95,6 @@ impl<F> From<CoreFault<Vec<u8>>> for OpenFault<F> {
 }
 
 impl<F> From<ReadFault<F>> for OpenFault<F> {
-    ghost from_gives = { λ read fault. fault ≡ of_read read };
-
     fn from(fault: ReadFault<F>) -> OpenFault<F> {
         match fault {
             ReadFault::Memory => OpenFault::Memory,

@@ -1,9 +1,4 @@
 //! The branch that `HEAD` names, and whether this is certain.
-ghost use Rattle.std.specs.Prelude.{◌≡◌, ◌^◌, ◌++◌, Some, option_and_then, option_map, take, codes, IfOk};
-ghost use Rattle.std.specs.Vec.{vec_items};
-ghost use Rattle.git_repository.specs.Folders.{folders_with};
-ghost use Rattle.opened_repository.specs.Heads.{branch_named, head_of, is_uncertain, leads_on, naming, reference_at, reference_of};
-ghost use Rattle.opened_repository.specs.Private.{head_with};
 
 use crate::reference::{is_commit, may_be_refused};
 use core_settings::without_blanks;
@@ -30,9 +25,7 @@ pub(crate) fn head_of<S: FileSystem>(
     alloc: Global,
     source: &S,
     folders: &Folders<Vec<u8>>,
-) -> Result<Head<Vec<u8>>, AllocError>
-    ensures { IfOk result (λ head. S.is_known source.now → head_with vec_items head ≡ head_of (S.tree source.now) (folders_with vec_items folders.now)) }
-{
+) -> Result<Head<Vec<u8>>, AllocError> {
     let mut path = Vec::from_slice(alloc, &folders.git_folder)?;
     path.extend_from_slice(b"/HEAD")?;
     match reference_at(alloc, source, &path)? {
@@ -50,9 +43,7 @@ fn naming<S: FileSystem>(
     source: &S,
     folders: &Folders<Vec<u8>>,
     reference: Vec<u8>,
-) -> Result<Head<Vec<u8>>, AllocError>
-    ensures { IfOk result (λ head. S.is_known source.now → head_with vec_items head ≡ naming (S.tree source.now) (folders_with vec_items folders.now) (Some reference.items)) }
-{
+) -> Result<Head<Vec<u8>>, AllocError> {
     let branch = branch_named(alloc, &reference)?;
     let uncertain = if is_uncertain(alloc, source, folders, &reference)? {
         Some(reference)
@@ -68,9 +59,7 @@ fn is_uncertain<S: FileSystem>(
     source: &S,
     folders: &Folders<Vec<u8>>,
     reference: &[u8],
-) -> Result<bool, AllocError>
-    ensures { IfOk result (λ so. S.is_known source.now → so ≡ is_uncertain (S.tree source.now) (folders_with vec_items folders.now) reference.now) }
-{
+) -> Result<bool, AllocError> {
     if may_be_refused(reference) {
         return Ok(true);
     }
@@ -86,9 +75,7 @@ fn leads_on<S: FileSystem>(
     source: &S,
     folder: &[u8],
     reference: &[u8],
-) -> Result<bool, AllocError>
-    ensures { IfOk result (λ so. S.is_known source.now → so ≡ leads_on (S.tree source.now) folder.now reference.now) }
-{
+) -> Result<bool, AllocError> {
     let path = told_below(alloc, folder, reference)?;
     if source.link(&path)?.is_some() {
         return Ok(true);
@@ -100,9 +87,7 @@ fn leads_on<S: FileSystem>(
 }
 
 /// The path of a file below a folder.
-fn told_below(alloc: Global, folder: &[u8], name: &[u8]) -> Result<Vec<u8>, AllocError>
-    ensures { IfOk result (λ path. path.items ≡ folder.now ++ (codes "/" ++ name.now)) }
-{
+fn told_below(alloc: Global, folder: &[u8], name: &[u8]) -> Result<Vec<u8>, AllocError> {
     let mut path = Vec::from_slice(alloc, folder)?;
     path.push(b'/')?;
     path.extend_from_slice(name)?;
@@ -114,9 +99,7 @@ fn reference_at<S: FileSystem>(
     alloc: Global,
     source: &S,
     path: &[u8],
-) -> Result<Option<Vec<u8>>, AllocError>
-    ensures { IfOk result (λ reference. S.is_known source.now → option_map vec_items reference ≡ reference_at ((S.tree source.now).link path.now) ((S.tree source.now).bytes path.now)) }
-{
+) -> Result<Option<Vec<u8>>, AllocError> {
     match source.link(path)? {
         Some(target) => Ok(Some(target)),
         None => reference_in(alloc, source, path),
@@ -128,9 +111,7 @@ fn reference_in<S: FileSystem>(
     alloc: Global,
     source: &S,
     path: &[u8],
-) -> Result<Option<Vec<u8>>, AllocError>
-    ensures { IfOk result (λ reference. S.is_known source.now → option_map vec_items reference ≡ option_and_then (λ text. reference_of (take (2 ^ 20) text)) ((S.tree source.now).bytes path.now)) }
-{
+) -> Result<Option<Vec<u8>>, AllocError> {
     match source.bytes(path, HEAD_LIMIT)? {
         Some(text) => reference_of(alloc, &text),
         None => Ok(None),
@@ -138,9 +119,7 @@ fn reference_in<S: FileSystem>(
 }
 
 /// The reference that a text names.
-fn reference_of(alloc: Global, text: &[u8]) -> Result<Option<Vec<u8>>, AllocError>
-    ensures { IfOk result (λ reference. option_map vec_items reference ≡ reference_of text.now) }
-{
+fn reference_of(alloc: Global, text: &[u8]) -> Result<Option<Vec<u8>>, AllocError> {
     match text.strip_prefix(b"ref:") {
         Some(rest) => Ok(Some(Vec::from_slice(alloc, without_blanks(rest))?)),
         None => Ok(None),
@@ -148,9 +127,7 @@ fn reference_of(alloc: Global, text: &[u8]) -> Result<Option<Vec<u8>>, AllocErro
 }
 
 /// The branch that a reference is.
-fn branch_named(alloc: Global, reference: &[u8]) -> Result<Option<Vec<u8>>, AllocError>
-    ensures { IfOk result (λ branch. option_map vec_items branch ≡ branch_named reference.now) }
-{
+fn branch_named(alloc: Global, reference: &[u8]) -> Result<Option<Vec<u8>>, AllocError> {
     match reference.strip_prefix(b"refs/heads/") {
         Some(name) => Ok(Some(Vec::from_slice(alloc, name)?)),
         None => Ok(None),

@@ -1,16 +1,6 @@
 //! The reading of all files and words in a repository.
-ghost use Rattle.std.specs.Prelude.{◌≡◌, ◌++◌, option_map, IfOk};
-ghost use Rattle.std.specs.Option.{option_copied};
-ghost use Rattle.std.specs.Vec.{vec_items};
-ghost use Rattle.core_settings.specs.Views.{seen_settings};
-ghost use Rattle.git_repository.specs.Answers.{Gives, found_with};
-ghost use Rattle.git_repository.specs.Folders.{folders_with, settings_with};
-ghost use Rattle.git_repository.specs.GitFolders.{real_path_of, told_from};
-ghost use Rattle.opened_repository.specs.Answers.{Tells};
-ghost use Rattle.opened_repository.specs.Private.{head_with};
-ghost use Rattle.opened_repository.specs.Opening.{AllRead, GitThere, KnownIn, ReadThere, known_by, path_if};
-ghost use Rattle.opened_repository.specs.Readings.{known_of};
-ghost use Rattle.opened_repository.specs.Results.{said_of};
+ghost use Rattle.std.specs.Prelude.{◌≡◌, IfOk};
+ghost use Rattle.git_repository.specs.GitFolders.{told_from};
 
 use crate::around::KnownRepository;
 use crate::fault::OpenFault;
@@ -35,9 +25,7 @@ pub(crate) fn read_there<S: FileSystem + ConfigFiles>(
     own: &Settings<Vec<u8>>,
     top: &Option<Vec<u8>>,
     folders: &Folders<Vec<u8>>,
-) -> Result<Config, OpenFault<S::Fault>>
-    ensures { Tells (S.is_known source.now) seen_settings result (ReadThere (S.tree source.now) (S.shows source.now) (said_of told.now) (found_with vec_items found.now) (settings_with vec_items own.now) (option_map vec_items top.now) (folders_with vec_items folders.now)) }
-{
+) -> Result<Config, OpenFault<S::Fault>> {
     check_relatives(alloc, told, top)?;
     read_all(alloc, source, told, found, own, top, folders)
 }
@@ -51,9 +39,7 @@ fn read_all<S: FileSystem + ConfigFiles>(
     own: &Settings<Vec<u8>>,
     top: &Option<Vec<u8>>,
     folders: &Folders<Vec<u8>>,
-) -> Result<Config, OpenFault<S::Fault>>
-    ensures { Tells (S.is_known source.now) seen_settings result (AllRead (S.tree source.now) (S.shows source.now) (said_of told.now) (found_with vec_items found.now) (settings_with vec_items own.now) (option_map vec_items top.now) (folders_with vec_items folders.now)) }
-{
+) -> Result<Config, OpenFault<S::Fault>> {
     let known = known_in(alloc, source, told, found, own, top, folders)?;
     let environment = &told.environment;
     let config = file_path(alloc, environment, folders, RepositoryFile::Config)?;
@@ -75,9 +61,7 @@ fn read_all<S: FileSystem + ConfigFiles>(
 }
 
 /// A path, where it counts.
-fn path_if(counts: bool, path: &[u8]) -> Option<&[u8]>
-    ensures { option_map (λ b. b.now) result ≡ path_if counts path.now }
-{
+fn path_if(counts: bool, path: &[u8]) -> Option<&[u8]> {
     if counts { Some(path) } else { None }
 }
 
@@ -90,9 +74,7 @@ pub(crate) fn known_in<S: FileSystem + ConfigFiles>(
     own: &Settings<Vec<u8>>,
     top: &Option<Vec<u8>>,
     folders: &Folders<Vec<u8>>,
-) -> Result<KnownRepository, OpenFault<S::Fault>>
-    ensures { Tells (S.is_known source.now) known_of result (KnownIn (S.tree source.now) (S.shows source.now) (said_of told.now) (found_with vec_items found.now) (settings_with vec_items own.now) (option_map vec_items top.now) (folders_with vec_items folders.now)) }
-{
+) -> Result<KnownRepository, OpenFault<S::Fault>> {
     let real = real_path_of(alloc, source, &folders.git_folder)?;
     let above = top_above(alloc, told.current, top)?;
     let name = git_there(alloc, source, told, found, own, &above)?;
@@ -108,9 +90,7 @@ fn known_by(
     real: Vec<u8>,
     path: Vec<u8>,
     head: Head<Vec<u8>>,
-) -> Result<KnownRepository, AllocError>
-    ensures { IfOk result (λ known. known_of known ≡ known_by real.items path.items (head_with vec_items head)) }
-{
+) -> Result<KnownRepository, AllocError> {
     let mut folders = Vec::new(alloc);
     folders.push(real)?;
     folders.push(path)?;
@@ -129,9 +109,7 @@ fn git_there<S: FileSystem + ConfigFiles>(
     found: &Found<Vec<u8>>,
     own: &Settings<Vec<u8>>,
     top: &Option<Vec<u8>>,
-) -> Result<Vec<u8>, OpenFault<S::Fault>>
-    ensures { Tells (S.is_known source.now) vec_items result (GitThere (S.tree source.now) (S.shows source.now) (said_of told.now) (found_with vec_items found.now) (settings_with vec_items own.now) (option_map vec_items top.now)) }
-{
+) -> Result<Vec<u8>, OpenFault<S::Fault>> {
     Ok(git_name(alloc, source, &here_in(told, found, own, top))?)
 }
 
@@ -140,9 +118,7 @@ fn real_path_of<S: FileSystem>(
     alloc: Global,
     source: &S,
     path: &[u8],
-) -> Result<Vec<u8>, FindFault<Vec<u8>>>
-    ensures { Gives (S.is_known source.now) vec_items result (real_path_of (S.tree source.now) path.now) }
-{
+) -> Result<Vec<u8>, FindFault<Vec<u8>>> {
     match source.real_path(path)? {
         Some(real) => Ok(real),
         None => Err(FindFault::At(Wrong::LeadsNowhere, Vec::from_slice(alloc, path)?)),

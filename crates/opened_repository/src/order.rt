@@ -1,15 +1,4 @@
 //! Opening the repository of a current folder.
-ghost use Rattle.std.specs.Prelude.{◌≡◌, option_map, IfOk};
-ghost use Rattle.std.specs.Vec.{vec_items};
-ghost use Rattle.core_settings.specs.Values.{core_of};
-ghost use Rattle.core_settings.specs.Views.{seen_settings};
-ghost use Rattle.core_settings.specs.Views as core_views;
-ghost use Rattle.git_repository.specs.Answers.{found_with};
-ghost use Rattle.git_repository.specs.Folders.{file_path, folders_with, settings_with};
-ghost use Rattle.git_repository.specs.declared.folders.RepositoryFile.TheVariants as file;
-ghost use Rattle.opened_repository.specs.Answers.{Tells, is};
-ghost use Rattle.opened_repository.specs.Opening.{FoldersOf, NameFrom, NameOf, Opens, OpensFound, TopOf, core_told, has_top, index_at, told_in, top_checked};
-ghost use Rattle.opened_repository.specs.Results.{opened_of, said_of};
 
 use crate::fault::{OpenFault, RepositoryFault};
 use crate::inside::{read_there, told_from};
@@ -35,9 +24,7 @@ pub fn open<S: FileSystem + ConfigFiles>(
     alloc: Global,
     source: &S,
     told: &Told<'_>,
-) -> Result<Opened<Vec<u8>, Config>, OpenFault<S::Fault>>
-    ensures { Tells (S.is_known source.now) opened_of result (Opens (S.tree source.now) (S.shows source.now) (said_of told.now)) }
-{
+) -> Result<Opened<Vec<u8>, Config>, OpenFault<S::Fault>> {
     read_outer(alloc, source, told)?;
     let found = find_trusted(alloc, source, told)?;
     let folders = folders(alloc, source, told, &found)?;
@@ -53,9 +40,7 @@ fn open_found<S: FileSystem + ConfigFiles>(
     found: Found<Vec<u8>>,
     folders: Folders<Vec<u8>>,
     own: &Settings<Vec<u8>>,
-) -> Result<Opened<Vec<u8>, Config>, OpenFault<S::Fault>>
-    ensures { Tells (S.is_known source.now) opened_of result (OpensFound (S.tree source.now) (S.shows source.now) (said_of told.now) (found_with vec_items found) (folders_with vec_items folders) (settings_with vec_items own.now)) }
-{
+) -> Result<Opened<Vec<u8>, Config>, OpenFault<S::Fault>> {
     let top = work_tree(alloc, source, told, own, &found)?;
     let config = read_there(alloc, source, told, &found, own, &top, &folders)?;
     check_top(source, told.needs_work_tree, &top)?;
@@ -84,9 +69,7 @@ pub(crate) fn folders<S: FileSystem + ConfigFiles>(
     source: &S,
     told: &Told<'_>,
     found: &Found<Vec<u8>>,
-) -> Result<Folders<Vec<u8>>, OpenFault<S::Fault>>
-    ensures { Tells (S.is_known source.now) (folders_with vec_items) result (FoldersOf (S.tree source.now) (S.shows source.now) (said_of told.now) (found_with vec_items found.now)) }
-{
+) -> Result<Folders<Vec<u8>>, OpenFault<S::Fault>> {
     Ok(folders_of(alloc, source, &told.environment, found)?)
 }
 
@@ -95,9 +78,7 @@ fn core<F>(
     alloc: Global,
     told: &Told<'_>,
     config: &Config,
-) -> Result<CoreSettings<Vec<u8>>, OpenFault<F>>
-    ensures { Tells (Unit {0}) (core_views.settings_with vec_items) result (is (core_told (core_of (said_of told.now).for_status (said_of told.now).around (said_of told.now).places.config_home (seen_settings config.now)))) }
-{
+) -> Result<CoreSettings<Vec<u8>>, OpenFault<F>> {
     Ok(core_settings(
         alloc,
         config,
@@ -114,9 +95,7 @@ pub(crate) fn work_tree<S: FileSystem + ConfigFiles>(
     told: &Told<'_>,
     own: &Settings<Vec<u8>>,
     found: &Found<Vec<u8>>,
-) -> Result<Option<Vec<u8>>, OpenFault<S::Fault>>
-    ensures { Tells (S.is_known source.now) (λ top. option_map vec_items top) result (TopOf (S.tree source.now) (S.shows source.now) (said_of told.now) (found_with vec_items found.now) (settings_with vec_items own.now)) }
-{
+) -> Result<Option<Vec<u8>>, OpenFault<S::Fault>> {
     Ok(work_tree_of(alloc, source, &told.environment, &lent(own), found)?)
 }
 
@@ -125,9 +104,7 @@ fn check_top<S: FileSystem + ConfigFiles>(
     source: &S,
     needs: bool,
     top: &Option<Vec<u8>>,
-) -> Result<(), OpenFault<S::Fault>>
-    ensures { Tells (S.is_known source.now) (λ done. done) result (is (top_checked (S.tree source.now) needs (option_map vec_items top.now))) }
-{
+) -> Result<(), OpenFault<S::Fault>> {
     if needs && !has_top(source, top)? {
         return Err(OpenFault::Told(RepositoryFault::NoWorkTree));
     }
@@ -135,9 +112,7 @@ fn check_top<S: FileSystem + ConfigFiles>(
 }
 
 /// Whether the top of a work tree is there.
-fn has_top<S: FileSystem>(source: &S, top: &Option<Vec<u8>>) -> Result<bool, AllocError>
-    ensures { IfOk result (λ has. S.is_known source.now → has ≡ has_top (S.tree source.now) (option_map vec_items top.now)) }
-{
+fn has_top<S: FileSystem>(source: &S, top: &Option<Vec<u8>>) -> Result<bool, AllocError> {
     match top {
         Some(top) => source.can_enter(top),
         None => Ok(false),
@@ -152,9 +127,7 @@ fn name_of<S: FileSystem + ConfigFiles>(
     found: &Found<Vec<u8>>,
     own: &Settings<Vec<u8>>,
     top: &Option<Vec<u8>>,
-) -> Result<Option<Vec<u8>>, OpenFault<S::Fault>>
-    ensures { Tells (S.is_known source.now) (λ name. option_map vec_items name) result (NameOf (S.tree source.now) (S.shows source.now) (said_of told.now) (found_with vec_items found.now) (settings_with vec_items own.now) (option_map vec_items top.now)) }
-{
+) -> Result<Option<Vec<u8>>, OpenFault<S::Fault>> {
     match top {
         Some(top) => Ok(Some(name_from(alloc, source, told, found, own, top)?)),
         None => Ok(None),
@@ -169,9 +142,7 @@ fn name_from<S: FileSystem + ConfigFiles>(
     found: &Found<Vec<u8>>,
     own: &Settings<Vec<u8>>,
     top: &[u8],
-) -> Result<Vec<u8>, OpenFault<S::Fault>>
-    ensures { Tells (S.is_known source.now) vec_items result (NameFrom (S.tree source.now) (S.shows source.now) (said_of told.now) (found_with vec_items found.now) (settings_with vec_items own.now) top.now) }
-{
+) -> Result<Vec<u8>, OpenFault<S::Fault>> {
     let whereabouts = Whereabouts {
         words: told.environment,
         settings: lent(own),
@@ -187,9 +158,7 @@ fn from_top(
     alloc: Global,
     top: &Option<Vec<u8>>,
     path: &Option<Vec<u8>>,
-) -> Result<Option<Vec<u8>>, AllocError>
-    ensures { IfOk result (λ file. option_map vec_items file ≡ option_map (told_in (option_map vec_items top.now)) (option_map vec_items path.now)) }
-{
+) -> Result<Option<Vec<u8>>, AllocError> {
     match path {
         Some(path) => Ok(Some(told_in(alloc, top, path)?)),
         None => Ok(None),
@@ -197,9 +166,7 @@ fn from_top(
 }
 
 /// A path from the top of the work tree, unless it is absolute.
-fn told_in(alloc: Global, top: &Option<Vec<u8>>, path: &[u8]) -> Result<Vec<u8>, AllocError>
-    ensures { IfOk result (λ file. file.items ≡ told_in (option_map vec_items top.now) path.now) }
-{
+fn told_in(alloc: Global, top: &Option<Vec<u8>>, path: &[u8]) -> Result<Vec<u8>, AllocError> {
     match top {
         Some(top) => told_from(alloc, top, path),
         None => Vec::from_slice(alloc, path),
@@ -212,9 +179,7 @@ fn index_file(
     told: &Told<'_>,
     folders: &Folders<Vec<u8>>,
     top: &Option<Vec<u8>>,
-) -> Result<Vec<u8>, AllocError>
-    ensures { IfOk result (λ index. index.items ≡ index_at (said_of told.now).environment.index_file (option_map vec_items top.now) (file_path (said_of told.now).environment (folders_with vec_items folders.now) file.Index)) }
-{
+) -> Result<Vec<u8>, AllocError> {
     let path = file_path(alloc, &told.environment, folders, RepositoryFile::Index)?;
     match told.environment.index_file {
         Some(_) => told_in(alloc, top, &path),

@@ -1,11 +1,4 @@
 //! What the repository's own files say of how it is read.
-ghost use Rattle.std.specs.Prelude.{◌≡◌, IfOk};
-ghost use Rattle.std.specs.Vec.{vec_items};
-ghost use Rattle.core_settings.specs.Views.{seen_settings};
-ghost use Rattle.git_repository.specs.Environments.{environment_with};
-ghost use Rattle.git_repository.specs.Folders.{file_path, folders_with, settings_with};
-ghost use Rattle.opened_repository.specs.Alone.{FileAlone, OwnSettings, WorktreeAlone, WorktreeChecked};
-ghost use Rattle.opened_repository.specs.Answers.{Tells};
 
 use crate::alone::read_alone;
 use crate::fault::OpenFault;
@@ -21,9 +14,7 @@ pub(crate) fn read_own<F: ConfigFiles>(
     files: &F,
     environment: &Environment<&[u8]>,
     folders: &Folders<Vec<u8>>,
-) -> Result<Settings<Vec<u8>>, OpenFault<F::Fault>>
-    ensures { Tells (Unit {0}) (settings_with vec_items) result (OwnSettings (F.shows files.now) (environment_with (λ b. b.now) environment.now) (folders_with vec_items folders.now)) }
-{
+) -> Result<Settings<Vec<u8>>, OpenFault<F::Fault>> {
     let shared = read_file(alloc, files, environment, folders, RepositoryFile::Config)?;
     check_values(alloc, true, &shared)?;
     check_read_format(alloc, &shared)?;
@@ -39,9 +30,7 @@ fn read_file<F: ConfigFiles>(
     environment: &Environment<&[u8]>,
     folders: &Folders<Vec<u8>>,
     file: RepositoryFile,
-) -> Result<Config, OpenFault<F::Fault>>
-    ensures { Tells (Unit {0}) seen_settings result (FileAlone (F.shows files.now) (file_path (environment_with (λ b. b.now) environment.now) (folders_with vec_items folders.now) file)) }
-{
+) -> Result<Config, OpenFault<F::Fault>> {
     let path = file_path(alloc, environment, folders, file)?;
     read_alone(alloc, files, &path)
 }
@@ -53,9 +42,7 @@ fn read_worktree<F: ConfigFiles>(
     environment: &Environment<&[u8]>,
     folders: &Folders<Vec<u8>>,
     counts: bool,
-) -> Result<Config, OpenFault<F::Fault>>
-    ensures { Tells (Unit {0}) seen_settings result (WorktreeAlone (F.shows files.now) (environment_with (λ b. b.now) environment.now) counts (folders_with vec_items folders.now)) }
-{
+) -> Result<Config, OpenFault<F::Fault>> {
     if counts {
         return read_checked(alloc, files, environment, folders);
     }
@@ -70,9 +57,7 @@ fn read_checked<F: ConfigFiles>(
     files: &F,
     environment: &Environment<&[u8]>,
     folders: &Folders<Vec<u8>>,
-) -> Result<Config, OpenFault<F::Fault>>
-    ensures { Tells (Unit {0}) seen_settings result (WorktreeChecked (F.shows files.now) (environment_with (λ b. b.now) environment.now) (folders_with vec_items folders.now)) }
-{
+) -> Result<Config, OpenFault<F::Fault>> {
     let file = RepositoryFile::WorktreeConfig;
     let own = read_file(alloc, files, environment, folders, file)?;
     check_values(alloc, false, &own)?;
@@ -80,9 +65,7 @@ fn read_checked<F: ConfigFiles>(
 }
 
 /// Settings that hold their path.
-fn owned(alloc: Global, settings: &Settings<&[u8]>) -> Result<Settings<Vec<u8>>, AllocError>
-    ensures { IfOk result (λ owned. settings_with vec_items owned ≡ settings_with (λ b. b.now) settings.now) }
-{
+fn owned(alloc: Global, settings: &Settings<&[u8]>) -> Result<Settings<Vec<u8>>, AllocError> {
     let work_tree = match settings.work_tree {
         Some(path) => Some(Vec::from_slice(alloc, path)?),
         None => None,
@@ -96,9 +79,7 @@ fn owned(alloc: Global, settings: &Settings<&[u8]>) -> Result<Settings<Vec<u8>>,
 }
 
 /// Settings that lend their path.
-pub(crate) fn lent(settings: &Settings<Vec<u8>>) -> Settings<&[u8]>
-    ensures { settings_with (λ b. b.now) result ≡ settings_with vec_items settings.now }
-{
+pub(crate) fn lent(settings: &Settings<Vec<u8>>) -> Settings<&[u8]> {
     let work_tree = match &settings.work_tree {
         Some(path) => Some(path.as_slice()),
         None => None,

@@ -1,14 +1,4 @@
 //! Where the configuration lies that counts in a current folder, in a repository or outside of one, and how Git names its files.
-ghost use Rattle.std.specs.Prelude.{◌≡◌, None, option_map};
-ghost use Rattle.std.specs.Vec.{vec_items};
-ghost use Rattle.git_repository.specs.Answers.{found_with};
-ghost use Rattle.git_repository.specs.Folders.{settings_with};
-ghost use Rattle.core_settings.specs.Views.{seen_settings};
-ghost use Rattle.opened_repository.specs.Answers.{Tells, fault_of};
-ghost use Rattle.opened_repository.specs.Opening.{path_if};
-ghost use Rattle.opened_repository.specs.Places.{ConfigThere, Locates, PlaceFound, PlaceIn, ReadsPlace, WorktreeConfigThere, is_format, is_outside, is_passed, outside, place_of, tells};
-ghost use Rattle.opened_repository.specs.Private.{Without};
-ghost use Rattle.opened_repository.specs.Results.{said_of};
 
 use crate::around::{KnownRepository, nothing_known};
 use crate::fault::{OpenFault, RepositoryFault};
@@ -50,9 +40,7 @@ pub fn config_place<S: FileSystem + ConfigFiles>(
     alloc: Global,
     source: &S,
     told: &Told<'_>,
-) -> Result<ConfigPlace, OpenFault<S::Fault>>
-    ensures { Tells (S.is_known source.now) place_of result (Locates (S.tree source.now) (S.shows source.now) (said_of told.now)) }
-{
+) -> Result<ConfigPlace, OpenFault<S::Fault>> {
     read_outer(alloc, source, told)?;
     match place_found(alloc, source, told) {
         Ok(place) => Ok(place),
@@ -65,9 +53,7 @@ fn place_found<S: FileSystem + ConfigFiles>(
     alloc: Global,
     source: &S,
     told: &Told<'_>,
-) -> Result<ConfigPlace, OpenFault<S::Fault>>
-    ensures { Tells (S.is_known source.now) place_of result (PlaceFound (S.tree source.now) (S.shows source.now) (said_of told.now)) }
-{
+) -> Result<ConfigPlace, OpenFault<S::Fault>> {
     let found = find_trusted(alloc, source, told)?;
     let top = folder_above(alloc, told.current, &found.top)?;
     match place_in(alloc, source, told, &found) {
@@ -86,9 +72,7 @@ pub fn read_config<F: ConfigFiles>(
     files: &F,
     told: &Told<'_>,
     place: &ConfigPlace,
-) -> Result<Config, OpenFault<F::Fault>>
-    ensures { Tells (Unit {0}) seen_settings result (ReadsPlace (F.shows files.now) (said_of told.now) (place_of place.now)) }
-{
+) -> Result<Config, OpenFault<F::Fault>> {
     let places = ConfigPlaces {
         repository: place.config.as_deref(),
         work_tree: place.work_tree.as_deref(),
@@ -106,9 +90,7 @@ pub fn read_config<F: ConfigFiles>(
 }
 
 /// The place without a repository, where this fault is one by which Git takes it for none.
-fn place_without<F: Drop>(alloc: Global, fault: OpenFault<F>) -> Result<ConfigPlace, OpenFault<F>>
-    ensures { Without is_outside None fault result }
-{
+fn place_without<F: Drop>(alloc: Global, fault: OpenFault<F>) -> Result<ConfigPlace, OpenFault<F>> {
     if tells_outside(&fault) {
         return Ok(outside(alloc, None));
     }
@@ -120,9 +102,7 @@ fn place_without_format<F: Drop>(
     alloc: Global,
     top: Option<Vec<u8>>,
     fault: OpenFault<F>,
-) -> Result<ConfigPlace, OpenFault<F>>
-    ensures { Without is_format (option_map vec_items top) fault result }
-{
+) -> Result<ConfigPlace, OpenFault<F>> {
     if tells_format(&fault) {
         return Ok(outside(alloc, top));
     }
@@ -130,9 +110,7 @@ fn place_without_format<F: Drop>(
 }
 
 /// The place without a repository, from which Git has gone to this top.
-fn outside(alloc: Global, top: Option<Vec<u8>>) -> ConfigPlace
-    ensures { place_of result ≡ outside (option_map vec_items top) }
-{
+fn outside(alloc: Global, top: Option<Vec<u8>>) -> ConfigPlace {
     ConfigPlace {
         known: nothing_known(alloc),
         top,
@@ -142,9 +120,7 @@ fn outside(alloc: Global, top: Option<Vec<u8>>) -> ConfigPlace
 }
 
 /// Whether a fault tells that the format isn't known.
-fn tells_format<F>(fault: &OpenFault<F>) -> bool
-    ensures { result ≡ tells is_format fault.now }
-{
+fn tells_format<F>(fault: &OpenFault<F>) -> bool {
     match fault {
         OpenFault::Told(RepositoryFault::Format(_)) => true,
         _ => false,
@@ -152,9 +128,7 @@ fn tells_format<F>(fault: &OpenFault<F>) -> bool
 }
 
 /// Whether Git, where a command needs no repository, takes this fault for a sign that there is none.
-fn tells_outside<F>(fault: &OpenFault<F>) -> bool
-    ensures { result ≡ tells is_outside fault.now }
-{
+fn tells_outside<F>(fault: &OpenFault<F>) -> bool {
     match fault {
         OpenFault::Memory | OpenFault::File(_) => false,
         OpenFault::Told(fault) => is_outside(fault),
@@ -162,9 +136,7 @@ fn tells_outside<F>(fault: &OpenFault<F>) -> bool
 }
 
 /// The same for what is wrong.
-fn is_outside(fault: &RepositoryFault<Rc<Vec<u8>>, Vec<u8>>) -> bool
-    ensures { result ≡ is_outside (fault_of fault.now) }
-{
+fn is_outside(fault: &RepositoryFault<Rc<Vec<u8>>, Vec<u8>>) -> bool {
     match fault {
         RepositoryFault::Find(FindFault::NotFound) => true,
         RepositoryFault::Find(FindFault::At(wrong, _)) => is_passed(*wrong),
@@ -185,9 +157,7 @@ fn is_outside(fault: &RepositoryFault<Rc<Vec<u8>>, Vec<u8>>) -> bool
 }
 
 /// The same for what is wrong with a path.
-fn is_passed(wrong: Wrong) -> bool
-    ensures { result ≡ is_passed wrong }
-{
+fn is_passed(wrong: Wrong) -> bool {
     match wrong {
         Wrong::NotNamed | Wrong::Border | Wrong::Owner | Wrong::Bare => true,
         Wrong::Unreadable
@@ -208,9 +178,7 @@ fn place_in<S: FileSystem + ConfigFiles>(
     source: &S,
     told: &Told<'_>,
     found: &Found<Vec<u8>>,
-) -> Result<ConfigPlace, OpenFault<S::Fault>>
-    ensures { Tells (S.is_known source.now) place_of result (PlaceIn (S.tree source.now) (S.shows source.now) (said_of told.now) (found_with vec_items found.now)) }
-{
+) -> Result<ConfigPlace, OpenFault<S::Fault>> {
     let folders = folders(alloc, source, told, found)?;
     let own = read_own(alloc, source, &told.environment, &folders)?;
     let top = work_tree(alloc, source, told, &own, found)?;
@@ -234,9 +202,7 @@ fn config_there<S: FileSystem + ConfigFiles>(
     found: &Found<Vec<u8>>,
     own: &Settings<Vec<u8>>,
     top: &Option<Vec<u8>>,
-) -> Result<Vec<u8>, OpenFault<S::Fault>>
-    ensures { Tells (S.is_known source.now) vec_items result (ConfigThere (S.tree source.now) (S.shows source.now) (said_of told.now) (found_with vec_items found.now) (settings_with vec_items own.now) (option_map vec_items top.now)) }
-{
+) -> Result<Vec<u8>, OpenFault<S::Fault>> {
     Ok(config_name(alloc, source, &here_in(told, found, own, top))?)
 }
 
@@ -248,15 +214,11 @@ fn worktree_config_there<S: FileSystem + ConfigFiles>(
     found: &Found<Vec<u8>>,
     own: &Settings<Vec<u8>>,
     top: &Option<Vec<u8>>,
-) -> Result<Vec<u8>, OpenFault<S::Fault>>
-    ensures { Tells (S.is_known source.now) vec_items result (WorktreeConfigThere (S.tree source.now) (S.shows source.now) (said_of told.now) (found_with vec_items found.now) (settings_with vec_items own.now) (option_map vec_items top.now)) }
-{
+) -> Result<Vec<u8>, OpenFault<S::Fault>> {
     Ok(worktree_config_name(alloc, source, &here_in(told, found, own, top))?)
 }
 
 /// A name, where it counts.
-fn name_if(counts: bool, name: Vec<u8>) -> Option<Vec<u8>>
-    ensures { option_map vec_items result ≡ path_if counts name.items }
-{
+fn name_if(counts: bool, name: Vec<u8>) -> Option<Vec<u8>> {
     if counts { Some(name) } else { None }
 }

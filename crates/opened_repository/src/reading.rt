@@ -1,8 +1,4 @@
 //! The reading of a configuration's files and words.
-ghost use Rattle.std.specs.Prelude.{[], Some, codes, map, option_map};
-ghost use Rattle.core_settings.specs.Views.{pair_with, places_with, seen_settings, seen_sources};
-ghost use Rattle.opened_repository.specs.Answers.{Tells};
-ghost use Rattle.opened_repository.specs.Readings.{Reads, ReadsAsked, ReadsUrls, ReadsWith, all_items, asks, known_of, listed_by, listed_of, nothing_known};
 
 use crate::around::{KnownRepository, around_of, nothing_known};
 use crate::asked::{asks, check_branch};
@@ -21,9 +17,7 @@ pub(crate) fn read<F: ConfigFiles>(
     places: &ConfigPlaces<&[u8]>,
     pairs: &[Pair<&[u8]>],
     words: &[&[u8]],
-) -> Result<Config, OpenFault<F::Fault>>
-    ensures { Tells (Unit {0}) seen_settings result (Reads (F.shows files.now) start.now (known_of known.now) (listed_by (places_with (λ b. b.now) places.now) (map (pair_with (λ b. b.now)) pairs.now) (map (λ b. b.now) words.now))) }
-{
+) -> Result<Config, OpenFault<F::Fault>> {
     let listed = config_sources(alloc, places, pairs, words)?;
     read_listed(alloc, files, start, known, listed)
 }
@@ -35,9 +29,7 @@ fn read_listed<F: ConfigFiles>(
     start: &Surroundings,
     known: &KnownRepository,
     listed: ConfigSources,
-) -> Result<Config, OpenFault<F::Fault>>
-    ensures { Tells (Unit {0}) seen_settings result (Reads (F.shows files.now) start.now (known_of known.now) (listed_of listed)) }
-{
+) -> Result<Config, OpenFault<F::Fault>> {
     let first = read_without(alloc, files, start, known, &listed)?;
     let ConfigSources { list, fault } = listed;
     if let Some(fault) = fault {
@@ -56,9 +48,7 @@ fn read_urls<F: ConfigFiles>(
     known: &KnownRepository,
     listed: &ConfigSources,
     first: Config,
-) -> Result<Config, OpenFault<F::Fault>>
-    ensures { Tells (Unit {0}) seen_settings result (ReadsUrls (F.shows files.now) start.now (known_of known.now) (seen_sources listed.now.list) (asks (codes "includeif.hasconfig:remote.*.url:") (seen_settings first)) (seen_settings first)) }
-{
+) -> Result<Config, OpenFault<F::Fault>> {
     if !asks(alloc, &first, b"includeif.hasconfig:remote.*.url:")? {
         return Ok(first);
     }
@@ -72,9 +62,7 @@ fn read_asked<F: ConfigFiles>(
     start: &Surroundings,
     known: &KnownRepository,
     listed: &ConfigSources,
-) -> Result<Config, OpenFault<F::Fault>>
-    ensures { Tells (Unit {0}) seen_settings result (ReadsAsked (F.shows files.now) start.now (known_of known.now) (seen_sources listed.now.list)) }
-{
+) -> Result<Config, OpenFault<F::Fault>> {
     let looked = read_with(alloc, files, start, known, listed, None)?;
     let free = read_free(alloc, files, start, listed)?;
     check_urls(alloc, &looked, &free)?;
@@ -88,9 +76,7 @@ fn read_free<F: ConfigFiles>(
     files: &F,
     start: &Surroundings,
     listed: &ConfigSources,
-) -> Result<Config, OpenFault<F::Fault>>
-    ensures { Tells (Unit {0}) seen_settings result (ReadsWith (F.shows files.now) start.now nothing_known (seen_sources listed.now.list) (Some [])) }
-{
+) -> Result<Config, OpenFault<F::Fault>> {
     read_without(alloc, files, start, &nothing_known(alloc), listed)
 }
 
@@ -101,9 +87,7 @@ fn read_without<F: ConfigFiles>(
     start: &Surroundings,
     known: &KnownRepository,
     listed: &ConfigSources,
-) -> Result<Config, OpenFault<F::Fault>>
-    ensures { Tells (Unit {0}) seen_settings result (ReadsWith (F.shows files.now) start.now (known_of known.now) (seen_sources listed.now.list) (Some [])) }
-{
+) -> Result<Config, OpenFault<F::Fault>> {
     read_with(alloc, files, start, known, listed, Some(Vec::new(alloc)))
 }
 
@@ -115,9 +99,7 @@ fn read_with<F: ConfigFiles>(
     known: &KnownRepository,
     listed: &ConfigSources,
     urls: Option<Vec<Vec<u8>>>,
-) -> Result<Config, OpenFault<F::Fault>>
-    ensures { Tells (Unit {0}) seen_settings result (ReadsWith (F.shows files.now) start.now (known_of known.now) (seen_sources listed.now.list) (option_map all_items urls)) }
-{
+) -> Result<Config, OpenFault<F::Fault>> {
     let around = around_of(alloc, start, known, urls)?;
     let sources = listed.as_sources(alloc)?;
     Ok(Config::read(alloc, files, &around, &sources)?)

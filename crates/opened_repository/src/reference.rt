@@ -1,37 +1,25 @@
 //! The name of a reference, and what its file holds.
-ghost use Rattle.std.specs.Prelude.{◌≡◌, ◌==◌, ◌||◌, take};
-ghost use Rattle.std.specs.List.{list_all, list_any};
-ghost use Rattle.git_config.specs.Grammar.{is_blank};
-ghost use Rattle.opened_repository.specs.Heads.{has, has_refused_part, is_commit, is_refused_byte, may_be_refused};
 
 use git_config::is_blank;
 use git_repository::digit_count;
 
 /// Whether Git may refuse the name of a reference. Each that it refuses is among these.
-pub(crate) fn may_be_refused(name: &[u8]) -> bool
-    ensures { result ≡ may_be_refused name.now }
-{
+pub(crate) fn may_be_refused(name: &[u8]) -> bool {
     has_refused_byte(name) || has_refused_part(name) || name.ends_with(b"/") || name.ends_with(b".")
 }
 
 /// Whether a byte is among these that no name has.
-fn has_refused_byte(name: &[u8]) -> bool
-    ensures { result ≡ list_any is_refused_byte name.now }
-{
+fn has_refused_byte(name: &[u8]) -> bool {
     name.iter().any(|b| is_refused_byte(*b))
 }
 
 /// Whether no name has this byte.
-fn is_refused_byte(b: u8) -> bool
-    ensures { result ≡ is_refused_byte b }
-{
+fn is_refused_byte(b: u8) -> bool {
     b <= b' ' || b == 127 || b"~^:?*[\\".contains(&b)
 }
 
 /// Whether a part is among the bytes that may be refused.
-fn has_refused_part(name: &[u8]) -> bool
-    ensures { result ≡ has_refused_part name.now }
-{
+fn has_refused_part(name: &[u8]) -> bool {
     has(b"..", name)
         || has(b"@{", name)
         || has(b"//", name)
@@ -40,9 +28,7 @@ fn has_refused_part(name: &[u8]) -> bool
 }
 
 /// Whether a part stands in a text.
-fn has(part: &[u8], text: &[u8]) -> bool
-    ensures { result ≡ has part.now text.now }
-{
+fn has(part: &[u8], text: &[u8]) -> bool {
     let mut rest = text;
     'bytes: while let Some((_, more)) = rest.split_first() {
         if rest.starts_with(part) {
@@ -54,24 +40,18 @@ fn has(part: &[u8], text: &[u8]) -> bool
 }
 
 /// Whether a text names a commit by 40 or 64 hexadecimal digits, with nothing or a blank behind.
-pub(crate) fn is_commit(text: &[u8]) -> bool
-    ensures { result ≡ is_commit text.now }
-{
+pub(crate) fn is_commit(text: &[u8]) -> bool {
     let digits = digit_count(text);
     is_count(digits) && ends_there(&text[digits..])
 }
 
 /// Whether a commit has so many digits.
-fn is_count(digits: usize) -> bool
-    ensures { result ≡ (digits == 40 || digits == 64) }
-{
+fn is_count(digits: usize) -> bool {
     digits == 40 || digits == 64
 }
 
 /// Whether nothing or a blank stands in front.
-fn ends_there(text: &[u8]) -> bool
-    ensures { result ≡ list_all is_blank (take 1 text.now) }
-{
+fn ends_there(text: &[u8]) -> bool {
     match text.first() {
         Some(b) => is_blank(*b),
         None => true,

@@ -1,13 +1,4 @@
 //! The search for a repository that may be taken.
-ghost use Rattle.std.specs.Prelude.{◌≡◌, IfOk, [], false, true, map};
-ghost use Rattle.std.specs.Vec.{vec_items};
-ghost use Rattle.core_settings.specs.Views.{places_with, seen_settings, source_with};
-ghost use Rattle.git_repository.specs.Answers.{found_with};
-ghost use Rattle.opened_repository.specs.Answers.{Tells, fault_of};
-ghost use Rattle.opened_repository.specs.Opening.{BareAsked, FindsBy, FindsOurs, FindsTrusted, Outer, OwnerAsked, Trusted, outer, outer_listed};
-ghost use Rattle.opened_repository.specs.Private.{setting_asked};
-ghost use Rattle.opened_repository.specs.Results.{said_of};
-ghost use Rattle.opened_repository.specs.Safe.{setting_by, setting_of};
 
 use crate::around::nothing_known;
 use crate::fault::{OpenFault, RepositoryFault};
@@ -25,9 +16,7 @@ pub(crate) fn read_outer<F: ConfigFiles>(
     alloc: Global,
     files: &F,
     told: &Told<'_>,
-) -> Result<Config, OpenFault<F::Fault>>
-    ensures { Tells (Unit {0}) seen_settings result (Outer (F.shows files.now) (said_of told.now)) }
-{
+) -> Result<Config, OpenFault<F::Fault>> {
     let places = outer(told);
     read(
         alloc,
@@ -41,9 +30,7 @@ pub(crate) fn read_outer<F: ConfigFiles>(
 }
 
 /// The places of the files outside of a repository.
-fn outer<'a>(told: &Told<'a>) -> ConfigPlaces<&'a [u8]>
-    ensures { places_with (λ b. b.now) result ≡ outer (said_of told.now) }
-{
+fn outer<'a>(told: &Told<'a>) -> ConfigPlaces<&'a [u8]> {
     ConfigPlaces {
         repository: None,
         work_tree: None,
@@ -57,9 +44,7 @@ fn outer<'a>(told: &Told<'a>) -> ConfigPlaces<&'a [u8]>
 pub(crate) fn outer_sources(
     alloc: Global,
     told: &Told<'_>,
-) -> Result<Vec<ConfigSource<Vec<u8>>>, AllocError>
-    ensures { IfOk result (λ sources. map (source_with vec_items) sources.items ≡ (outer_listed (said_of told.now)).sources) }
-{
+) -> Result<Vec<ConfigSource<Vec<u8>>>, AllocError> {
     let listed = config_sources(alloc, &outer(told), &[], &[])?;
     Ok(listed.list)
 }
@@ -69,9 +54,7 @@ fn read_trusted<F: ConfigFiles>(
     alloc: Global,
     files: &F,
     told: &Told<'_>,
-) -> Result<Config, OpenFault<F::Fault>>
-    ensures { Tells (Unit {0}) seen_settings result (Trusted (F.shows files.now) (said_of told.now)) }
-{
+) -> Result<Config, OpenFault<F::Fault>> {
     let places = ConfigPlaces {
         repository: None,
         work_tree: None,
@@ -96,9 +79,7 @@ fn find_by<S: FileSystem + ConfigFiles>(
     told: &Told<'_>,
     directories: &[Vec<u8>],
     bare_is_refused: bool,
-) -> Result<Found<Vec<u8>>, OpenFault<S::Fault>>
-    ensures { Tells (S.is_known source.now) (found_with vec_items) result (FindsBy (S.tree source.now) (S.shows source.now) (said_of told.now) (map vec_items directories.now) bare_is_refused) }
-{
+) -> Result<Found<Vec<u8>>, OpenFault<S::Fault>> {
     let safety = Safety {
         directories,
         bare_is_refused,
@@ -111,9 +92,7 @@ fn find_ours<S: FileSystem + ConfigFiles>(
     alloc: Global,
     source: &S,
     told: &Told<'_>,
-) -> Result<Found<Vec<u8>>, OpenFault<S::Fault>>
-    ensures { Tells (S.is_known source.now) (found_with vec_items) result (FindsOurs (S.tree source.now) (S.shows source.now) (said_of told.now)) }
-{
+) -> Result<Found<Vec<u8>>, OpenFault<S::Fault>> {
     let found = find_by(alloc, source, told, &[], true);
     match setting_for(&found) {
         None => found,
@@ -127,9 +106,7 @@ fn ask_bare<S: FileSystem + ConfigFiles>(
     alloc: Global,
     source: &S,
     told: &Told<'_>,
-) -> Result<Found<Vec<u8>>, OpenFault<S::Fault>>
-    ensures { Tells (S.is_known source.now) (found_with vec_items) result (BareAsked (S.tree source.now) (S.shows source.now) (said_of told.now)) }
-{
+) -> Result<Found<Vec<u8>>, OpenFault<S::Fault>> {
     let config = read_trusted(alloc, source, told)?;
     let refused = is_bare_refused(alloc, &config)?;
     find_by(alloc, source, told, &[], refused)
@@ -140,9 +117,7 @@ fn ask_owner<S: FileSystem + ConfigFiles>(
     alloc: Global,
     source: &S,
     told: &Told<'_>,
-) -> Result<Found<Vec<u8>>, OpenFault<S::Fault>>
-    ensures { Tells (S.is_known source.now) (found_with vec_items) result (OwnerAsked (S.tree source.now) (S.shows source.now) (said_of told.now)) }
-{
+) -> Result<Found<Vec<u8>>, OpenFault<S::Fault>> {
     let config = read_trusted(alloc, source, told)?;
     let directories = safe_directories(alloc, &config, told.around)?;
     find_by(alloc, source, told, &directories, false)
@@ -153,9 +128,7 @@ pub(crate) fn find_trusted<S: FileSystem + ConfigFiles>(
     alloc: Global,
     source: &S,
     told: &Told<'_>,
-) -> Result<Found<Vec<u8>>, OpenFault<S::Fault>>
-    ensures { Tells (S.is_known source.now) (found_with vec_items) result (FindsTrusted (S.tree source.now) (S.shows source.now) (said_of told.now)) }
-{
+) -> Result<Found<Vec<u8>>, OpenFault<S::Fault>> {
     let found = find_ours(alloc, source, told);
     match setting_for(&found) {
         Some(SafeSetting::Directory) => ask_owner(alloc, source, told),
@@ -173,9 +146,7 @@ pub(crate) enum SafeSetting {
 }
 
 /// The setting that is asked where a repository was refused.
-fn setting_for<F>(found: &Result<Found<Vec<u8>>, OpenFault<F>>) -> Option<SafeSetting>
-    ensures { result ≡ setting_asked found.now }
-{
+fn setting_for<F>(found: &Result<Found<Vec<u8>>, OpenFault<F>>) -> Option<SafeSetting> {
     match found {
         Ok(_) | Err(OpenFault::Memory | OpenFault::File(_)) => None,
         Err(OpenFault::Told(fault)) => setting_by(fault),
@@ -183,9 +154,7 @@ fn setting_for<F>(found: &Result<Found<Vec<u8>>, OpenFault<F>>) -> Option<SafeSe
 }
 
 /// The same for what is wrong.
-fn setting_by(fault: &RepositoryFault<Rc<Vec<u8>>, Vec<u8>>) -> Option<SafeSetting>
-    ensures { result ≡ setting_by (fault_of fault.now) }
-{
+fn setting_by(fault: &RepositoryFault<Rc<Vec<u8>>, Vec<u8>>) -> Option<SafeSetting> {
     match fault {
         RepositoryFault::Find(FindFault::At(wrong, _)) => setting_of(*wrong),
         RepositoryFault::Find(FindFault::Memory | FindFault::NotFound)
@@ -205,9 +174,7 @@ fn setting_by(fault: &RepositoryFault<Rc<Vec<u8>>, Vec<u8>>) -> Option<SafeSetti
 }
 
 /// The same for what is wrong with a path.
-fn setting_of(wrong: Wrong) -> Option<SafeSetting>
-    ensures { result ≡ setting_of wrong }
-{
+fn setting_of(wrong: Wrong) -> Option<SafeSetting> {
     match wrong {
         Wrong::Bare => Some(SafeSetting::BareRepository),
         Wrong::Owner => Some(SafeSetting::Directory),

@@ -1,11 +1,4 @@
 //! The URLs of remotes that a configuration tells.
-ghost use Rattle.std.specs.Prelude.{◌≡◌, map, option_map, IfOk};
-ghost use Rattle.std.specs.Option.{option_copied};
-ghost use Rattle.std.specs.Vec.{vec_items};
-ghost use Rattle.git_config.specs.Configuration.{seen_setting};
-ghost use Rattle.core_settings.specs.Views.{seen_settings};
-ghost use Rattle.opened_repository.specs.Answers.{Tells, is};
-ghost use Rattle.opened_repository.specs.Readings.{is_url, url_of, urls_checked, urls_of};
 
 use crate::fault::{OpenFault, RepositoryFault};
 use core_settings::key_of;
@@ -13,9 +6,7 @@ use git_config::{Config, ReadSetting};
 use std::alloc::{AllocError, Global};
 
 /// The URLs of the remotes.
-pub(crate) fn urls_of(alloc: Global, config: &Config) -> Result<Vec<Vec<u8>>, AllocError>
-    ensures { IfOk result (λ urls. map vec_items urls.items ≡ urls_of (seen_settings config.now)) }
-{
+pub(crate) fn urls_of(alloc: Global, config: &Config) -> Result<Vec<Vec<u8>>, AllocError> {
     let mut urls = Vec::new(alloc);
     let mut rest = config.settings.as_slice();
     'settings: while let Some((setting, more)) = rest.split_first() {
@@ -33,9 +24,7 @@ pub(crate) fn check_urls<F>(
     alloc: Global,
     looked: &Config,
     free: &Config,
-) -> Result<(), OpenFault<F>>
-    ensures { Tells (Unit {0}) (λ done. done) result (is (urls_checked (seen_settings looked.now) (seen_settings free.now))) }
-{
+) -> Result<(), OpenFault<F>> {
     if urls_of(alloc, looked)?.len() != urls_of(alloc, free)?.len() {
         return Err(OpenFault::Told(RepositoryFault::RemoteUrl));
     }
@@ -43,9 +32,7 @@ pub(crate) fn check_urls<F>(
 }
 
 /// The URL that an entry tells; an empty one where it has no value.
-fn url_of(alloc: Global, setting: &ReadSetting) -> Result<Option<Vec<u8>>, AllocError>
-    ensures { IfOk result (λ url. option_map vec_items url ≡ url_of (seen_setting setting.now)) }
-{
+fn url_of(alloc: Global, setting: &ReadSetting) -> Result<Option<Vec<u8>>, AllocError> {
     let key = key_of(alloc, setting)?;
     if !is_url(&key) {
         return Ok(None);
@@ -57,8 +44,6 @@ fn url_of(alloc: Global, setting: &ReadSetting) -> Result<Option<Vec<u8>>, Alloc
 }
 
 /// Whether a key is that of a remote's URL.
-fn is_url(key: &[u8]) -> bool
-    ensures { result ≡ is_url key.now }
-{
+fn is_url(key: &[u8]) -> bool {
     key.starts_with(b"remote.") && key.ends_with(b".url") && key.len() >= b"remote..url".len()
 }

@@ -1,11 +1,4 @@
 //! What is wrong with the values of the repository's own files.
-ghost use Rattle.std.specs.Prelude.{◌≡◌, Some, map, option_map, IfOk};
-ghost use Rattle.std.specs.Option.{option_copied};
-ghost use Rattle.std.specs.Vec.{vec_items};
-ghost use Rattle.git_config.specs.Configuration.{key_of, seen_setting};
-ghost use Rattle.core_settings.specs.Views.{seen_settings};
-ghost use Rattle.opened_repository.specs.Alone.{boolean_wrong, checked, format_wrong, if_none, is_flag, is_hash, line_unless, number_wrong, tree_wrong, wrong_in};
-ghost use Rattle.opened_repository.specs.Answers.{Tells, bytes_of, is};
 
 use crate::fault::{OpenFault, RepositoryFault};
 use core_settings::{CoreFault, key_of};
@@ -17,9 +10,7 @@ pub(crate) fn check_values<F>(
     alloc: Global,
     shared: bool,
     config: &Config,
-) -> Result<(), OpenFault<F>>
-    ensures { Tells (Unit {0}) (λ done. done) result (is (checked shared (seen_settings config.now))) }
-{
+) -> Result<(), OpenFault<F>> {
     let mut rest = config.settings.as_slice();
     'settings: while let Some((setting, more)) = rest.split_first() {
         rest = more;
@@ -29,9 +20,7 @@ pub(crate) fn check_values<F>(
 }
 
 /// Looks at an entry.
-fn check_value<F>(alloc: Global, shared: bool, setting: &ReadSetting) -> Result<(), OpenFault<F>>
-    ensures { Tells (Unit {0}) (λ done. done) result (is (if_none (wrong_in shared (seen_setting setting.now)))) }
-{
+fn check_value<F>(alloc: Global, shared: bool, setting: &ReadSetting) -> Result<(), OpenFault<F>> {
     let key = key_of(alloc, setting)?;
     if shared {
         check_format(alloc, key, setting)
@@ -41,9 +30,7 @@ fn check_value<F>(alloc: Global, shared: bool, setting: &ReadSetting) -> Result<
 }
 
 /// Looks at an entry of `config`: the version and the extensions.
-fn check_format<F>(alloc: Global, key: Vec<u8>, setting: &ReadSetting) -> Result<(), OpenFault<F>>
-    ensures { key.items ≡ key_of (seen_setting setting.now) → Tells (Unit {0}) (λ done. done) result (is (if_none (format_wrong (seen_setting setting.now)))) }
-{
+fn check_format<F>(alloc: Global, key: Vec<u8>, setting: &ReadSetting) -> Result<(), OpenFault<F>> {
     if key.as_slice() == b"core.repositoryformatversion".as_slice() {
         return check_number(alloc, setting);
     }
@@ -57,9 +44,7 @@ fn check_format<F>(alloc: Global, key: Vec<u8>, setting: &ReadSetting) -> Result
 }
 
 /// Looks at an entry of either file: what it says of the work tree.
-fn check_tree<F>(alloc: Global, key: Vec<u8>, setting: &ReadSetting) -> Result<(), OpenFault<F>>
-    ensures { key.items ≡ key_of (seen_setting setting.now) → Tells (Unit {0}) (λ done. done) result (is (if_none (tree_wrong (seen_setting setting.now)))) }
-{
+fn check_tree<F>(alloc: Global, key: Vec<u8>, setting: &ReadSetting) -> Result<(), OpenFault<F>> {
     if key.as_slice() == b"core.bare".as_slice() {
         return check_boolean(alloc, key, &setting.entry.value);
     }
@@ -70,17 +55,13 @@ fn check_tree<F>(alloc: Global, key: Vec<u8>, setting: &ReadSetting) -> Result<(
 }
 
 /// Whether a key is that of an extension that says yes or no.
-fn is_flag(key: &[u8]) -> bool
-    ensures { result ≡ is_flag key.now }
-{
+fn is_flag(key: &[u8]) -> bool {
     key == b"extensions.worktreeconfig".as_slice()
         || key == b"extensions.preciousobjects".as_slice()
 }
 
 /// Whether a value names a hash.
-fn is_hash(value: &Option<Vec<u8>>) -> bool
-    ensures { result ≡ is_hash (option_map vec_items value.now) }
-{
+fn is_hash(value: &Option<Vec<u8>>) -> bool {
     match value {
         Some(name) => is_hash_name(name),
         None => false,
@@ -88,9 +69,7 @@ fn is_hash(value: &Option<Vec<u8>>) -> bool
 }
 
 /// Whether this is the name of a hash.
-fn is_hash_name(name: &[u8]) -> bool
-    ensures { result ≡ is_hash (Some name.now) }
-{
+fn is_hash_name(name: &[u8]) -> bool {
     name == b"sha1".as_slice() || name == b"sha256".as_slice()
 }
 
@@ -99,9 +78,7 @@ fn check_boolean<F>(
     alloc: Global,
     key: Vec<u8>,
     value: &Option<Vec<u8>>,
-) -> Result<(), OpenFault<F>>
-    ensures { Tells (Unit {0}) (λ done. done) result (is (if_none (boolean_wrong key.items (option_map vec_items value.now)))) }
-{
+) -> Result<(), OpenFault<F>> {
     match value {
         Some(value) if boolean(Some(value)).is_none() => {
             let value = Vec::from_slice(alloc, value)?;
@@ -113,9 +90,7 @@ fn check_boolean<F>(
 }
 
 /// Looks at the value of a number.
-fn check_number<F>(alloc: Global, setting: &ReadSetting) -> Result<(), OpenFault<F>>
-    ensures { Tells (Unit {0}) (λ done. done) result (is (if_none (number_wrong (seen_setting setting.now).file (seen_setting setting.now).entry.value))) }
-{
+fn check_number<F>(alloc: Global, setting: &ReadSetting) -> Result<(), OpenFault<F>> {
     let value = bytes_of(&setting.entry.value);
     if integer(value).is_some() {
         return Ok(());
@@ -126,9 +101,7 @@ fn check_number<F>(alloc: Global, setting: &ReadSetting) -> Result<(), OpenFault
 }
 
 /// Refuses a line that isn't right.
-fn check_line<F>(alloc: Global, right: bool, setting: &ReadSetting) -> Result<(), OpenFault<F>>
-    ensures { Tells (Unit {0}) (λ done. done) result (is (if_none (line_unless right (seen_setting setting.now)))) }
-{
+fn check_line<F>(alloc: Global, right: bool, setting: &ReadSetting) -> Result<(), OpenFault<F>> {
     if right {
         return Ok(());
     }
@@ -138,9 +111,7 @@ fn check_line<F>(alloc: Global, right: bool, setting: &ReadSetting) -> Result<()
 }
 
 /// The bytes of a value; none where it isn't there.
-pub(crate) fn bytes_of(value: &Option<Vec<u8>>) -> &[u8]
-    ensures { result.now ≡ bytes_of (option_map vec_items value.now) }
-{
+pub(crate) fn bytes_of(value: &Option<Vec<u8>>) -> &[u8] {
     match value {
         Some(bytes) => bytes.as_slice(),
         None => b"",
@@ -148,9 +119,7 @@ pub(crate) fn bytes_of(value: &Option<Vec<u8>>) -> &[u8]
 }
 
 /// The file of an entry.
-pub(crate) fn file_of(alloc: Global, setting: &ReadSetting) -> Result<Option<Vec<u8>>, AllocError>
-    ensures { IfOk result (λ file. option_map vec_items file ≡ (seen_setting setting.now).file) }
-{
+pub(crate) fn file_of(alloc: Global, setting: &ReadSetting) -> Result<Option<Vec<u8>>, AllocError> {
     match &setting.file {
         Some(path) => Ok(Some(Vec::from_slice(alloc, path)?)),
         None => Ok(None),
