@@ -5,7 +5,9 @@ use Rattle.std.proofs.lemmas.Bool.{ne_eqb}
 use Rattle.std.proofs.lemmas.Bool.Decides.{eqb_tells}
 use Rattle.std.proofs.lemmas.List.{flat_map_more}
 use Rattle.std.proofs.lemmas.List.Elements.{AllZip-push}
+use Rattle.memchr.specs.Find.{IsFirstByte, is_byte}
 use Rattle.glob_lines.specs.Lines.{CutsLine, EndsInFeed, Lines, WritesLines, line_feed, text_of_lines}
+use Rattle.byte_streams.proofs.lemmas.CutLemmas.{HasNo-not_found, IsCutAt-found}
 use Rattle.byte_streams.specs.Records.{HasNo}
 use Rattle.glob_lines.specs.Equations.Lines.{lines_of}
 
