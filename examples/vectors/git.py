@@ -480,7 +480,7 @@ def ask_repository(current, words, fields, *asked, has_marks=False):
         ran = subprocess.run(command, cwd=folder, env={**ALONE, **variables}, capture_output=True, check=False)
     told, wrong = (text.decode().replace(top, "") for text in (ran.stdout, ran.stderr))
     fault = re.search(r"^fatal: (.*(\n\t.*)*)", wrong, re.M)
-    return told.rstrip("\n"), fault and re.sub(r": (Success|No such file or directory|Not a directory)$", "", fault[1].replace("\n\t", " "))
+    return told.rstrip("\n"), fault and re.sub(r": (Success|Numerical result out of range|No such file or directory|Not a directory)$", "", fault[1].replace("\n\t", " "))
 
 
 def repositories(current, words, *fields):
