@@ -30,7 +30,7 @@ SPELT = [b":x", b"::x", b":()x", b":", b":/", b":/x", b"://:x", b":(top)x", b":(
 UNSPELT = [b":!x", b":^x", b":-x", b":/~", b":(top", b":(x)x", b":(exclude)x", b":(glob)x", b":(icase,top)x", b":(literal)x", b":(attr:a)x", b":(Top)x"]
 # kinds of differences that the documents name: the first in "From Git" of docs/GLOBTREE.md
 MESSAGES, BARE, UNKNOWN, CRASH = "messages", "no work tree", "another's folder", "Git crashes"
-LOCK, CHECKSUM, NOWHERE = "Git's lock file", "a wrong checksum", "a GIT_DIR that leads nowhere"
+LOCK, NOWHERE = "Git's lock file", "a GIT_DIR that leads nowhere"
 NAMED = kinds_in("GLOBTREE.md")
 OF_CONFIG, OF_STATUS = "`config`", "`status`"
 NO_OBJECT = re.compile(rb"fatal: (bad object HEAD|unable to read [0-9a-f]+)\n")
@@ -199,8 +199,6 @@ class Comparison:
             return None
         if expected.status < 0:
             return CRASH
-        if fault(found).endswith(b": bad index file checksum"):
-            return CHECKSUM
         is_warned = RELATIVE_CONDITION in expected.errors or WARNINGS.fullmatch(expected.errors)
         quiet = expected._replace(errors=found.errors) if is_warned else expected
         if found.is_as(quiet):

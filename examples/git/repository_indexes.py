@@ -45,7 +45,7 @@ def index_text(version, entries, extension, is_summed):
         text += entry_text(version, last, name, mode, stage, bits)
         last = name
     text = b"DIRC" + struct.pack(">II", version, len(entries)) + text + extension
-    return text + (hashlib.sha1(text).digest() if is_summed else bytes(20))
+    return text + (hashlib.sha1(text).digest() if is_summed else b"\1" * 20)
 
 
 def bitmap(places):
@@ -69,7 +69,7 @@ class Indexes(Chances):
             return
         version = self.one_of(2, 3, 4)
         self.mark("an index of version %d" % version)
-        entries, extension, is_summed = self.entries_of_index(), self.random.choice(EXTENSIONS), not self.marked(0.2, "an index without a checksum")
+        entries, extension, is_summed = self.entries_of_index(), self.random.choice(EXTENSIONS), not self.marked(0.2, "an index with a wrong checksum")
         self.index_file = self.git + b"/index"
         if self.marked(0.08, "GIT_INDEX_FILE"):
             self.variables[b"GIT_INDEX_FILE"], self.index_file = b"@/home/other-index", b"home/other-index"

@@ -3,14 +3,12 @@
 #![tactic(auto)]
 
 mod answering;
-mod buffers;
 mod fault;
 mod records;
 mod transfer;
 mod watched;
 
-pub use answering::Answerer;
+pub use answering::{Answerer, RecordStream};
 pub use fault::RecordFault;
-pub use records::RecordStream;
-pub use transfer::write_whole;
+pub use transfer::{write_text, write_whole};
 pub use watched::Watched;

@@ -1,3 +1,5 @@
+pub mod AloneLemmas
+pub mod AnswerLemmas
 pub mod AskLemmas
 pub mod ConditionLemmas
 pub mod EntryLemmas

@@ -1,10 +1,14 @@
+pub mod Alone
+pub mod Answers
 pub mod Configuration
 pub mod Grammar
 pub mod Includes
 pub mod Items
+pub mod KeyFaults
 pub mod Keys
 pub mod Numbers
 pub mod Paths
 pub mod Private
 pub mod Quoting
+pub mod Shown
 pub mod Words

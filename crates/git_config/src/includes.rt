@@ -13,7 +13,7 @@ use crate::file::{next_item, skip_mark};
 use crate::files::{ConfigFiles, FoundFile};
 use crate::item::{Entry, Item};
 use crate::scope::Scope;
-use crate::setting::{ReadSetting, Setting, SettingFault, WrongSetting};
+use crate::setting::{ReadSetting, Setting, SettingFault, WrongSetting, file_of};
 use crate::surroundings::{Surroundings, expanded, folder_of, is_absolute, joined, slice_of};
 use crate::text::Text;
 use std::alloc::{AllocError, AllocFailed, Global};
@@ -96,7 +96,7 @@ impl<'a, F: ConfigFiles> Reader<'a, F> {
                     scope = Scope::new(self.alloc, self.around, Some(real), section)?;
                 }
                 Ok(Some(Item::Sets(entry))) => {
-                    let setting = setting_in(&path, &scope, entry)?;
+                    let setting = setting_in(&path, &scope.section, entry)?;
                     self.add_entry(&scope, Some(real), setting, left, out)?;
                 }
                 Ok(None) => return Ok(()),
@@ -159,18 +159,18 @@ impl<'a, F: ConfigFiles> Reader<'a, F> {
 }
 
 /// An entry of a section of a file.
-fn setting_in(
+pub(crate) fn setting_in(
     path: &Rc<Vec<u8>>,
-    scope: &Scope,
+    section: &Rc<Vec<u8>>,
     entry: Entry<Vec<u8>>,
 ) -> Result<ReadSetting, AllocError>
     ensures file { IfOk result (λ s. option_map (λ rc. rc.value.items) s.file ≡ Some path.now.value.items) }
-    ensures section { IfOk result (λ s. s.section.value.items ≡ scope.now.section.value.items) }
+    ensures section { IfOk result (λ s. s.section.value.items ≡ section.now.value.items) }
     ensures entry { IfOk result (λ s. s.entry ≡ entry) }
 {
     Ok(Setting {
         file: Some(path.clone()?),
-        section: scope.section.clone()?,
+        section: section.clone()?,
         entry,
     })
 }
@@ -193,16 +193,6 @@ fn asked_for(
     match &setting.entry.value {
         Some(value) => included_path(alloc, around, file_of(setting), value),
         None => Ok(Asked::Wrong(WrongSetting::NoPath)),
-    }
-}
-
-/// The path of an entry's file.
-fn file_of(setting: &ReadSetting) -> Option<&[u8]>
-    ensures { option_copied result ≡ (seen_setting setting.now).file }
-{
-    match &setting.file {
-        Some(path) => Some(path.as_slice()),
-        None => None,
     }
 }
 

@@ -67,8 +67,21 @@ pub(crate) fn boolean_said(entry: &Entry<Vec<u8>>) -> Option<bool>
     }
 }
 
-/// Whether an entry of this name has a key, in the section whose keys begin so.
+/// Whether an entry of this name has a key, in the section whose keys begin so. A section that is longer than the key is looked at up to
+/// the first byte behind the key's length: a byte 0 there, or before, ends the entry's key.
+#[tactic(auto, using(crate::proofs::lemmas::KeyLemmas::front_decides))]
 pub(crate) fn is_key(section: &[u8], name: &[u8], key: &[u8]) -> bool
+    ensures { result ≡ bytes_eq (before_zero (section.now ++ name.now)) key.now }
+{
+    if key.len() < section.len() {
+        is_whole_key(&section[..key.len() + 1], name, key)
+    } else {
+        is_whole_key(section, name, key)
+    }
+}
+
+/// The same where the section is looked at as a whole.
+fn is_whole_key(section: &[u8], name: &[u8], key: &[u8]) -> bool
     ensures { result ≡ bytes_eq (before_zero (section.now ++ name.now)) key.now }
 {
     if has_zero(section) {
@@ -98,7 +111,7 @@ pub(crate) fn until_zero(bytes: &[u8]) -> &[u8]
 }
 
 /// The place of the first byte 0.
-fn first_zero(bytes: &[u8]) -> Option<usize>
+pub(crate) fn first_zero(bytes: &[u8]) -> Option<usize>
     ensures { result ≡ position (λ b. b == 0) bytes.now }
 {
     bytes.iter().position(|b| *b == 0)

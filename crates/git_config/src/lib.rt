@@ -1,6 +1,8 @@
 //! Git's configuration files: from their bytes to what they say.
 #![tactic(auto)]
 
+mod alone;
+mod answer;
 mod booleans;
 mod bytes;
 mod conditions;
@@ -14,11 +16,14 @@ mod includes;
 mod item;
 mod keys;
 pub mod laws;
+mod no_key;
 mod number;
+mod origin;
 mod path;
 mod quoting;
 mod scope;
 mod setting;
+mod shown;
 mod surroundings;
 #[cfg(test)]
 mod tests;
@@ -26,6 +31,7 @@ mod text;
 mod value;
 mod words;
 
+pub use answer::{Question, append_answer};
 pub use booleans::boolean;
 pub use bytes::is_blank;
 pub use config::{Config, ReadFault, Source};
@@ -34,7 +40,9 @@ pub use file::ConfigFile;
 pub use files::{ConfigFiles, FoundFile};
 pub use item::{Entry, Item};
 pub use keys::last_boolean;
+pub use no_key::{KeyFault, key_fault};
 pub use number::integer;
+pub use origin::Manner;
 pub use path::{ConfigPath, config_path};
 pub use quoting::quoted;
 pub use setting::{ReadSetting, Setting, SettingFault, WrongSetting};

@@ -1,5 +1,7 @@
 //! An entry of a configuration of several files, and what is wrong in one.
 ghost use Rattle.std.specs.Prelude.{◌≡◌};
+ghost use Rattle.std.specs.Option.{option_copied};
+ghost use Rattle.git_config.specs.Configuration.{seen_setting};
 
 use crate::fault::Wrong;
 use crate::item::Entry;
@@ -55,4 +57,14 @@ pub struct SettingFault<S, B> {
     pub what: WrongSetting,
     /// The path of the file that is included too deep; else `None`.
     pub path: Option<B>,
+}
+
+/// The path of an entry's file.
+pub(crate) fn file_of(setting: &ReadSetting) -> Option<&[u8]>
+    ensures { option_copied result ≡ (seen_setting setting.now).file }
+{
+    match &setting.file {
+        Some(path) => Some(path.as_slice()),
+        None => None,
+    }
 }

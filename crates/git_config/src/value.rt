@@ -1,5 +1,5 @@
 //! The value of an entry.
-ghost use Rattle.std.specs.Prelude.{◌≡◌, ◌==◌, ◌&&◌, ◌<◌, ◌≤◌, ◌+◌, ◌^◌, ◌++◌, ◌∷◌, [], OnOk, ℕ, List, length, not, position};
+ghost use Rattle.std.specs.Prelude.{◌≡◌, ◌&&◌, ◌<◌, ◌≤◌, ◌+◌, ◌^◌, ◌++◌, ◌∷◌, [], OnOk, ℕ, List, length, not};
 ghost use Rattle.git_config.specs.Grammar.{before, before_zero, between, entry_of, filled, in_escape, in_value, is_blank, is_mark, no_part, nothing, place_behind, read, text_of, value_ended, with_blank};
 ghost use Rattle.git_config.specs.Items.{seen_entry};
 ghost use Rattle.git_config.specs.Private.Parts.{part_of};
@@ -9,6 +9,7 @@ ghost use Rattle.git_config.specs.declared.item.Item.TheVariants.{Sets};
 use crate::bytes::{escaped, is_blank, is_mark};
 use crate::fault::{ConfigFault, Wrong};
 use crate::item::Entry;
+use crate::keys::first_zero;
 use crate::text::Text;
 use std::alloc::{AllocError, Global};
 
@@ -170,11 +171,4 @@ fn before_zero(mut bytes: Vec<u8>) -> Vec<u8>
         bytes.truncate(place);
     }
     bytes
-}
-
-/// The place of the first byte 0.
-fn first_zero(bytes: &[u8]) -> Option<usize>
-    ensures { result ≡ position (λ b. b == 0) bytes.now }
-{
-    bytes.iter().position(|b| *b == 0)
 }

@@ -1,3 +1,5 @@
+pub mod Alike
+pub mod AskedPaths
 pub mod Copies
 pub mod Entries
 pub mod EntryLaws
@@ -5,6 +7,8 @@ pub mod Extensions
 pub mod Fields
 pub mod FileLaws
 pub mod Flags
+pub mod Folding
+pub mod Holding
 pub mod Joined
 pub mod Kept
 pub mod Links
@@ -12,8 +16,11 @@ pub mod Marks
 pub mod Merge
 pub mod Numbers
 pub mod Order
+pub mod PassedOver
 pub mod Paths
 pub mod Search
+pub mod Sorted
+pub mod Sorting
 pub mod Starting
 pub mod Submodules
 pub mod Zeros

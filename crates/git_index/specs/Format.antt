@@ -2,10 +2,8 @@
 use Rattle.std.specs.Prelude.{◌≡◌, ◌≢◌, ◌⊎◌, ℕ, ◌+◌, ◌-◌, ◌*◌, ◌%◌, ◌^◌, ◌<◌, ◌≤◌, Bool, false, ◌==◌, MatchBool, if◌then◌else◌, List, [], ◌∷◌, ◌++◌, length, take, replicate, codes, slice_index, sum_by, min}
 use Rattle.std.specs.List.{AllByRecursion, flat_map}
 use Rattle.std.specs.Int.{w16, w32, to_be_bytes}
-use Rattle.sha1.specs.Sha1.{sha1}
-use Rattle.sha2.specs.Sha256.{sha256}
-use Rattle.git_index.specs.declared.checksum.ObjectFormat.{ObjectFormat}
-use Rattle.git_index.specs.declared.checksum.ObjectFormat.TheVariants.{Sha1, Sha256}
+use Rattle.git_index.specs.declared.object_format.ObjectFormat.{ObjectFormat}
+use Rattle.git_index.specs.declared.object_format.ObjectFormat.TheVariants.{Sha1, Sha256}
 use Rattle.git_index.specs.declared.entry.Kind.{Kind}
 use Rattle.git_index.specs.declared.entry.Kind.TheVariants.{File, Executable, Link, Submodule}
 use Rattle.git_index.specs.Entries.{Tracked, InOrder}
@@ -89,14 +87,6 @@ abbrev pub hash_len : ObjectFormat → ℕ
 hash_len Sha1 = 20
 hash_len Sha256 = 32
 
-abbrev pub digest_of : ObjectFormat → List ℕ → List ℕ
-digest_of Sha1 content = sha1 content
-digest_of Sha256 content = sha256 content
-
--- the digest of what stands before, or zero bytes, which say that none was made
-abbrev pub IsChecksum : ObjectFormat → List ℕ → List ℕ → Type 0
-IsChecksum format content checksum = (checksum ≡ digest_of format content) ⊎ (checksum ≡ replicate (hash_len format) 0)
-
 -- a link among extensions: `link`, a length, the hash of a shared file, and so many bytes more; at the end fewer bytes may stand than
 -- an extension has, which git passes over too
 pub record HasLink (format : ObjectFormat) (hash bitmaps extensions : List ℕ) : Type 0 where
@@ -113,7 +103,7 @@ zero_hash format = replicate (hash_len format) 0
 abbrev pub HasNoLink : ObjectFormat → List ℕ → Type 0
 HasNoLink format extensions = ((few : List ℕ) × ArePassedOver extensions few × (length few < 8)) ⊎ ((bitmaps : List ℕ) × HasLink format (zero_hash format) bitmaps extensions)
 
--- A file: `DIRC`, the version, the number of entries, the entries, extensions, and a checksum.
+-- A file: `DIRC`, the version, the number of entries, the entries, extensions, and as many bytes as a checksum has, whichever these are.
 pub record IsFile (format : ObjectFormat) (bytes : List ℕ) (entries : List Tracked) (extensions : List ℕ) : Type 0 where
   pub version : ℕ
   pub known : (2 ≤ version) × (version ≤ 4) × (length entries < 2 ^ 32)
@@ -122,7 +112,7 @@ pub record IsFile (format : ObjectFormat) (bytes : List ℕ) (entries : List Tra
   pub content : List ℕ
   pub content_is : content ≡ codes "DIRC" ++ (to_be_bytes w32 version ++ (to_be_bytes w32 (length entries) ++ (texts ++ extensions)))
   pub checksum : List ℕ
-  pub checked : (length checksum ≡ hash_len format) × IsChecksum format content checksum
+  pub checksum_len : length checksum ≡ hash_len format
   pub joined : bytes ≡ content ++ checksum
 
 -- an index file that needs no other

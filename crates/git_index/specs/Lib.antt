@@ -1,4 +1,6 @@
 pub mod Entries
+pub mod Folding
 pub mod Format
+pub mod Holding
 pub mod Private
 pub mod Split

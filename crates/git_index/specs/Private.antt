@@ -1,2 +1,4 @@
+pub mod Folds
+pub mod Parts
 pub mod Reading
 pub mod Search

@@ -6,7 +6,7 @@ use Rattle.std.specs.Ordering.{nat_cmp, ordering_then, is_lt, is_le}
 use Rattle.std.specs.declared.cmp.Ordering.{Ordering}
 use Rattle.std.specs.declared.cmp.Ordering.TheVariants.{Equal}
 use Rattle.std.specs.Cmp.Lexicographic.{slice_cmp}
-use Rattle.git_index.specs.declared.checksum.ObjectFormat.{ObjectFormat}
+use Rattle.git_index.specs.declared.object_format.ObjectFormat.{ObjectFormat}
 use Rattle.git_index.specs.Entries.{Tracked, InOrder}
 use Rattle.git_index.specs.Format.{HasLink, IsFile, IsIndexFile, zero_hash}
 

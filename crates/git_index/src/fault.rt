@@ -20,9 +20,6 @@ pub enum IndexFault {
     /// The format has another version than 2, 3 or 4.
     #[error("bad index version {0}")]
     Version(u32),
-    /// The bytes at the end are neither the digest of what stands before them nor all zero.
-    #[error("bad index file checksum")]
-    Checksum,
     /// An entry or an extension goes on behind the end.
     #[error("index file cut off")]
     Cut,

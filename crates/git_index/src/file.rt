@@ -1,16 +1,16 @@
-//! The bytes of a whole file: its entries and extensions, checked as one.
+//! The bytes of a whole file: its entries and extensions.
 ghost use Rattle.std.specs.Prelude.{◌≡◌, ◌+◌, ◌++◌, ◌<◌, Err, IfOk, List, MatchResult, ℕ, length, map};
 ghost use Rattle.git_index.specs.declared.fault.IndexFault.TheVariants.{Memory};
 ghost use Rattle.git_index.specs.Entries.{Tracked, tracked};
 ghost use Rattle.git_index.specs.Format.{HasRoom, IsIndexFile, hash_len};
 ghost use Rattle.git_index.specs.Private.Reading.{Finds};
 
-use crate::checksum::ObjectFormat;
 use crate::entries::entries_of;
 use crate::entry::Entry;
 use crate::fault::IndexFault;
 use crate::header::header_of;
 use crate::link::link_among;
+use crate::object_format::ObjectFormat;
 use crate::order::is_ordered;
 use std::alloc::Global;
 
@@ -18,7 +18,7 @@ use std::alloc::Global;
 /// 1,024 bytes on average stays below it.
 const PATH_BYTES_PER_BYTE: usize = 16;
 
-/// The entries of a file, and its extensions.
+/// The entries of a file, and its extensions. The checksum at its end isn't looked at.
 pub fn read(
     alloc: Global,
     bytes: &[u8],
@@ -33,11 +33,8 @@ pub fn read(
     if bytes.len() < 12 + hash_len {
         return Err(IndexFault::TooShort);
     }
-    let (content, checksum) = bytes.split_at(bytes.len() - hash_len);
+    let (content, _checksum) = bytes.split_at(bytes.len() - hash_len);
     let (version, count, rest) = header_of(content)?;
-    if !format.is_checksum(content, checksum) {
-        return Err(IndexFault::Checksum);
-    }
     let room = bytes.len().saturating_mul(PATH_BYTES_PER_BYTE);
     let (entries, extensions) = entries_of(alloc, version, hash_len, count, room, rest)?;
     Ok((entries, extensions))

@@ -5,11 +5,11 @@ ghost use Rattle.git_index.specs.Entries.{HasBelow, IsSubmodule, IsTracked, Trac
 ghost use Rattle.git_index.specs.Format.{HasRoom, IsIndexFile, hash_len};
 ghost use Rattle.git_index.specs.Split.{IsSplitIndex};
 
-use crate::checksum::ObjectFormat;
 use crate::entry::Entry;
 use crate::fault::IndexFault;
 use crate::file::{read, shared_entries, whole};
 use crate::link::link_among;
+use crate::object_format::ObjectFormat;
 use crate::order::is_ordered;
 use crate::search;
 use crate::split::joined;

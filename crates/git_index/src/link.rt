@@ -5,10 +5,10 @@ ghost use Rattle.std.specs.Option.{option_map};
 ghost use Rattle.git_index.specs.Format.{HasLink, HasNoLink, zero_hash};
 ghost use Rattle.git_index.specs.Private.Reading.{Ends, Gives, StopsWith, link_at};
 
-use crate::checksum::ObjectFormat;
 use crate::extensions::{HEAD_LEN, skip_extensions};
 use crate::fault::IndexFault;
 use crate::fields::{front, is_zero, skip, u32_at};
+use crate::object_format::ObjectFormat;
 
 /// What a split index says of the file that it shares entries with.
 #[derive(Clone, Copy)]

@@ -1,3 +1,6 @@
-pub mod Environments
+pub mod Blanks
 pub mod GitFolders
 pub mod Safety
+pub mod UserFiles
+pub mod Values
+pub mod Views

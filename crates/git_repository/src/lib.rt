@@ -1,35 +1,41 @@
-//! Where a Git repository is: the search upward from a folder, and the folders and files of what it finds.
+//! The Git repository of a folder: how it is found, which files its configuration is read from, and what they say of it.
 #![tactic(auto)]
 
+mod blanks;
+mod branch;
+mod bytes;
 mod ceilings;
-mod environment;
-mod fault;
+mod config_place;
+mod config_reading;
+mod core_values;
+mod faults;
 mod file_system;
-mod folders;
-mod format;
+mod finder;
 mod found;
-mod git_folder;
-mod gitfile;
-mod head;
-mod look;
 mod naming;
-mod nested;
+mod normal_path;
+mod own_files;
+mod parameters;
 mod paths;
+mod repository;
 mod safety;
 mod search;
-mod settings;
-mod whereabouts;
+mod setup;
+mod sources;
+mod user_files;
+mod value_faults;
+mod value_paths;
+mod variables;
 
-pub use environment::Environment;
-pub use fault::{FindFault, Wrong};
+pub use config_place::ConfigPlace;
+pub use core_values::{CoreSettings, ShowUntracked};
+pub use faults::{FindFault, OpenFault, VariableFault, Wrong};
 pub use file_system::FileSystem;
-pub use folders::{Folders, RepositoryFile, file_path, folders_of, work_tree_of};
-pub use format::{FormatFault, check_format};
-pub use found::{Found, FoundBy};
-pub use head::digit_count;
-pub use naming::{config_name, exclude_name, git_name, worktree_config_name};
-pub use nested::is_repository;
-pub use safety::{Safety, trusts};
-pub use search::find;
-pub use settings::Settings;
-pub use whereabouts::Whereabouts;
+pub use finder::Finder;
+pub use paths::told_from;
+pub use repository::Repository;
+pub use safety::trusts;
+pub use setup::{Purpose, Setup};
+pub use sources::{ConfigSource, ConfigSources, config_sources, pair_count};
+pub use user_files::settings_file;
+pub use variables::{Pair, Variables};

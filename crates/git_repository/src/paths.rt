@@ -1,24 +1,43 @@
 //! Texts of paths.
-ghost use Rattle.std.specs.Prelude.{◌≡◌, ◌-◌, ◌≤◌, ◌++◌, IfOk, length};
-ghost use Rattle.std.specs.List.{suffix_len};
-ghost use Rattle.git_repository.specs.GitFolders.{is_line_end, told_from, without_line_ends};
+ghost use Rattle.std.specs.Prelude.{◌≡◌, ◌-◌, ◌≤◌, ◌++◌, IfOk, drop, length, not, position};
+ghost use Rattle.std.specs.List.{position_or_len, suffix_len};
+ghost use Rattle.git_config.specs.Paths.{is_slash};
+ghost use Rattle.git_repository.specs.GitFolders.{is_absolute, is_line_end, is_relative, told_from, without_line_ends};
+ghost use Rattle.git_repository.specs.UserFiles.{without_dot};
 
 use std::alloc::{AllocError, Global};
 
-/// A folder's path with a name behind it.
-pub fn joined(alloc: Global, folder: &[u8], name: &[u8]) -> Result<Vec<u8>, AllocError>
-    ensures { IfOk result (λ path. path.items ≡ folder.now ++ name.now) }
+/// A path with a text behind it.
+pub(crate) fn joined(alloc: Global, path: &[u8], behind: &[u8]) -> Result<Vec<u8>, AllocError>
+    ensures { IfOk result (λ whole. whole.items ≡ path.now ++ behind.now) }
 {
-    let mut path = Vec::from_slice(alloc, folder)?;
-    path.extend_from_slice(name)?;
-    Ok(path)
+    let mut whole = Vec::from_slice(alloc, path)?;
+    whole.extend_from_slice(behind)?;
+    Ok(whole)
 }
 
-/// The path that a folder tells.
+/// Whether a path is told from the root.
+pub(crate) fn is_absolute(path: &[u8]) -> bool
+    ensures { result ≡ is_absolute path.now }
+{
+    path.starts_with(b"/")
+}
+
+/// Whether a path isn't empty and isn't absolute.
+pub(crate) fn is_relative(path: &[u8]) -> bool
+    ensures { result ≡ is_relative path.now }
+{
+    !path.is_empty() && !is_absolute(path)
+}
+
+/// A path that is told from a folder: one that isn't absolute goes on behind it.
+///
+/// # Errors
+/// Only where memory was refused.
 pub fn told_from(alloc: Global, folder: &[u8], path: &[u8]) -> Result<Vec<u8>, AllocError>
     ensures { IfOk result (λ found. found.items ≡ told_from folder.now path.now) }
 {
-    if path.starts_with(b"/") {
+    if is_absolute(path) {
         return Vec::from_slice(alloc, path);
     }
     let mut whole = joined(alloc, folder, b"/")?;
@@ -26,8 +45,26 @@ pub fn told_from(alloc: Global, folder: &[u8], path: &[u8]) -> Result<Vec<u8>, A
     Ok(whole)
 }
 
+/// The path that a file tells: from its folder, unless it is absolute.
+pub(crate) fn told_by(alloc: Global, file: &[u8], path: &[u8]) -> Result<Vec<u8>, AllocError> {
+    if is_absolute(path) {
+        return Vec::from_slice(alloc, path);
+    }
+    joined(alloc, &file[..name_start(file)], path)
+}
+
+/// A folder without the slash at its end, so the root has no bytes.
+pub(crate) fn folder_of(path: &[u8]) -> &[u8] {
+    path.strip_suffix(b"/").unwrap_or(path)
+}
+
+/// What of a path lies below a folder, where it does.
+pub(crate) fn below<'p>(folder: &[u8], path: &'p [u8]) -> Option<&'p [u8]> {
+    path.strip_prefix(folder_of(folder))?.strip_prefix(b"/")
+}
+
 /// Where the last part of a path begins: behind its last slash.
-pub fn name_start(path: &[u8]) -> usize
+pub(crate) fn name_start(path: &[u8]) -> usize
     ensures within { result ≤ length path.now }
 {
     let mut start = path.len();
@@ -40,16 +77,35 @@ pub fn name_start(path: &[u8]) -> usize
     start
 }
 
-/// The path that a file tells.
-pub fn told_by(alloc: Global, file: &[u8], path: &[u8]) -> Result<Vec<u8>, AllocError> {
-    if path.starts_with(b"/") {
-        return Vec::from_slice(alloc, path);
+/// A path without the current folder in front: `./`, and the slashes behind it.
+pub(crate) fn without_dot(path: &[u8]) -> &[u8]
+    ensures { result.now ≡ without_dot path.now }
+{
+    match path.strip_prefix(b"./") {
+        Some(rest) => without_slashes(rest),
+        None => path,
     }
-    joined(alloc, &file[..name_start(file)], path)
+}
+
+/// A path without the slashes in front.
+fn without_slashes(path: &[u8]) -> &[u8]
+    ensures { result.now ≡ drop (position_or_len (λ b. not (is_slash b)) path.now) path.now }
+{
+    match first_other(path) {
+        Some(place) => &path[place..],
+        None => &[],
+    }
+}
+
+/// The place of the first byte that is no slash.
+fn first_other(path: &[u8]) -> Option<usize>
+    ensures { result ≡ position (λ b. not (is_slash b)) path.now }
+{
+    path.iter().position(|b| *b != b'/')
 }
 
 /// A text without the line feeds and carriage returns at its end.
-pub fn without_line_ends(text: &[u8]) -> &[u8]
+pub(crate) fn without_line_ends(text: &[u8]) -> &[u8]
     ensures { result.now ≡ without_line_ends text.now }
 {
     &text[..text_end(text)]

@@ -1,16 +1,22 @@
-//! Which repositories of other users may be taken.
+//! Which repositories of other users, and which bare ones, may be taken.
 ghost use Rattle.std.specs.Prelude.{◌≡◌, map};
 ghost use Rattle.std.specs.Vec.{vec_items};
 ghost use Rattle.git_repository.specs.Safety.{names, says_something, trusts};
 
+use crate::faults::OpenFault;
+use crate::value_faults::{bytes_of, entry_fault};
+use crate::value_paths::told_path;
+use git_config::{Config, Surroundings};
+use std::alloc::Global;
+
 /// What the settings say of whose repositories may be taken: those of the system's and the user's configuration and of the command
 /// line, not the repository's own.
-#[derive(Debug, Clone, Copy)]
-pub struct Safety<'a> {
+#[derive(Drop)]
+pub(crate) struct Safety<'a> {
     /// The values of `safe.directory`, in order, as paths; one without a value is empty.
-    pub directories: &'a [Vec<u8>],
+    pub(crate) directories: &'a [Vec<u8>],
     /// Whether `safe.bareRepository` is `explicit`: a bare repository is taken only where `GIT_DIR` names it.
-    pub bare_is_refused: bool,
+    pub(crate) bare_is_refused: bool,
 }
 
 /// Whether these values of `safe.directory` name a path: one of them is this path or `*`, and no empty value follows it.
@@ -38,4 +44,37 @@ fn names(value: &[u8], path: &[u8]) -> bool
     ensures { result ≡ names path.now value.now }
 {
     !value.is_empty() && (value == b"*".as_slice() || value == path)
+}
+
+/// The paths that `safe.directory` says.
+pub(crate) fn safe_directories<F>(
+    alloc: Global,
+    config: &Config,
+    around: &Surroundings,
+) -> Result<Vec<Vec<u8>>, OpenFault<F>> {
+    let mut paths = Vec::new(alloc);
+    for setting in &config.entries_of(alloc, b"safe.directory")? {
+        let value = bytes_of(&setting.entry.value);
+        match told_path(alloc, around, value)? {
+            Some(path) => paths.push(path)?,
+            None => return Err(OpenFault::NoFolder(Vec::from_slice(alloc, value)?)),
+        }
+    }
+    Ok(paths)
+}
+
+/// Whether `safe.bareRepository` is `explicit`: a bare repository is then taken only where `GIT_DIR` names it.
+pub(crate) fn is_bare_refused<F>(alloc: Global, config: &Config) -> Result<bool, OpenFault<F>> {
+    let mut refused = false;
+    for setting in &config.entries_of(alloc, b"safe.barerepository")? {
+        refused = match bytes_of(&setting.entry.value) {
+            b"explicit" => true,
+            b"all" => false,
+            _ => {
+                let key = Vec::from_slice(alloc, b"safe.barerepository")?;
+                return Err(entry_fault(alloc, key, setting)?);
+            }
+        };
+    }
+    Ok(refused)
 }

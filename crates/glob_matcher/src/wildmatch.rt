@@ -25,6 +25,7 @@ mod search;
 mod set_apart;
 mod sets;
 pub(crate) mod slices;
+mod spans;
 mod state;
 mod steps;
 #[cfg(test)]

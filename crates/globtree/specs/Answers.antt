@@ -3,8 +3,8 @@
 use Rattle.std.specs.Prelude.{◌≡◌, ◌||◌, ℕ, Bool, true, false, if◌then◌else◌, List, [], ◌∷◌, AllPairs, MatchBool, MatchOption, Option, Ok, Some, drop, length, map, string_bytes, take}
 use Rattle.std.specs.Io.KnownBytes.{Appends}
 use Rattle.std.specs.List.{flat_map}
-use Rattle.config_answers.specs.Answers.{Asked, All, Last, Values, answer_of, has_answer}
-use Rattle.core_settings.specs.declared.untracked.ShowUntracked.{ShowUntracked}
+use Rattle.git_config.specs.Answers.{Asked, All, Last, Values, answer_of, has_answer}
+use Rattle.git_repository.specs.declared.core_values.ShowUntracked.{ShowUntracked}
 use Rattle.git_config.specs.Configuration.{Seen}
 use Rattle.git_config.specs.Words.{canonical_of}
 use Rattle.git_index.specs.Entries.{Tracked}

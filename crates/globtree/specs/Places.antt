@@ -1,21 +1,18 @@
 -- Where a command stands: by the paths of the top and of the current folder, without the slash at their front, and by the words.
 use Rattle.std.specs.Prelude.{◌≡◌, ℕ, Bool, true, false, not, ◌&&◌, if◌then◌else◌, List, [], ◌∷◌, MatchOption, Option, None, Some, is_some, option_map, string_bytes, codes}
-use Rattle.std.specs.Option.{option_copied, option_or, unwrap_or}
-use Rattle.git_repository.specs.declared.environment.Environment.{Environment}
+use Rattle.std.specs.Option.{unwrap_or}
 use Rattle.std.specs.Vec.{vec_items}
 use Rattle.gix_glob.specs.Bytes.{slash}
-use Rattle.core_settings.specs.UserFiles.{settings_file}
-use Rattle.core_settings.specs.Values.{last_value}
-use Rattle.core_settings.specs.declared.untracked.ShowUntracked.TheVariants.{Normal}
-use Rattle.git_config.specs.Configuration.{Seen}
+use Rattle.git_repository.specs.UserFiles.{settings_file}
+use Rattle.git_repository.specs.Values.{last_value}
+use Rattle.git_repository.specs.declared.core_values.ShowUntracked.TheVariants.{Normal}
 use Rattle.git_config.specs.Numbers.{boolean_of}
-use Rattle.git_repository.specs.GitFolders.{told_from}
-use Rattle.opened_repository.specs.Opening.{is_relative}
-use Rattle.opened_repository.specs.declared.opened.Opened.{Opened}
+use Rattle.git_repository.specs.GitFolders.{is_relative, told_from}
+use Rattle.git_repository.specs.Views.{seen_settings}
+use Rattle.git_repository.specs.declared.repository.Repository.{Repository}
 use Rattle.git_paths.specs.declared.quoting.Quoting.TheVariants.{Full}
 use Rattle.git_paths.specs.declared.standpoint.Standpoint.{Standpoint}
 use Rattle.git_paths.specs.Paths.{left_below}
-use Rattle.tree_words.specs.declared.options.Options.{Options}
 use Rattle.globtree.specs.declared.tracked.IndexFile.{IndexFile}
 use Rattle.globtree.specs.declared.work_tree.WorkTree.{WorkTree}
 use Rattle.globtree.specs.Running.{quoting_by}
@@ -26,13 +23,10 @@ abbrev pub listing_excludes : Bool → List ℕ → Option (List ℕ) → Option
 listing_excludes outside current None = None
 listing_excludes outside current (Some path) = if outside && is_relative path then Some (told_from current path) else None
 
--- a git folder is told and no work tree, and the value of `GIT_IMPLICIT_WORK_TREE` isn't true
+-- a value is set, and isn't true
 abbrev pub denies : Option (List ℕ) → Bool
 denies None = false
 denies (Some text) = not (unwrap_or (boolean_of (Some text)) false)
-
-abbrev pub denies_work_tree : Environment (List ℕ) → Option (List ℕ) → Bool
-denies_work_tree words implicit = (is_some words.git_dir && not (is_some words.work_tree)) && denies implicit
 
 -- from the current folder where it lies in the work tree, and else from the top
 pub record StandsIn (top here : List ℕ) (standpoint : Standpoint) : Type 0 where
@@ -51,36 +45,29 @@ abbrev pub from_root : List ℕ → List ℕ
 from_root [] = []
 from_root (b ∷ path) = slash ∷ b ∷ path
 
--- what is told of a repository: an option stands for its variable
-abbrev pub with_options : Options → Environment (List ℕ) → Environment (List ℕ)
-with_options options variables = record variables {
-  git_dir = option_or (option_copied options.git_dir) variables.git_dir;
-  work_tree = option_or (option_copied options.work_tree) variables.work_tree;
-}
-
 -- the index of an opened repository, which is told from the folder that was the current one
-pub record IsIndexOf (current : List ℕ) (opened : Opened (List ℕ) (List Seen)) (index : IndexFile) : Type 0 where
-  pub name : string_bytes index.name ≡ told_from current opened.index_file
-  pub format : index.format ≡ format_by (last_value (codes "extensions.objectformat") opened.config)
+pub record IsIndexOf (current : List ℕ) (opened : Repository) (index : IndexFile) : Type 0 where
+  pub name : string_bytes index.name ≡ told_from current opened.index_file.items
+  pub format : index.format ≡ format_by (last_value (codes "extensions.objectformat") (seen_settings opened.config))
 
 -- What counts for all paths of the work tree of an opened repository: its configuration tells files from the top, and all else is told
 -- from the folder that was the current one, which may lie outside.
-pub record IsTreeOf (standpoint : Standpoint) (outside : Bool) (current : List ℕ) (opened : Opened (List ℕ) (List Seen)) (tree : WorkTree) : Type 0 where
+pub record IsTreeOf (standpoint : Standpoint) (outside : Bool) (current : List ℕ) (opened : Repository) (tree : WorkTree) : Type 0 where
   pub from : tree.standpoint ≡ standpoint
   pub folds : tree.folds ≡ opened.core.ignore_case
   pub quoting : tree.quoting ≡ quoting_by opened.core.quote_path
-  pub excludes : option_map vec_items tree.excludes ≡ opened.core.excludes
-  pub listing : option_map vec_items tree.listing_excludes ≡ listing_excludes outside current opened.core.excludes
-  pub attributes : option_map vec_items tree.attributes ≡ opened.core.attributes
+  pub excludes : tree.excludes ≡ opened.core.excludes
+  pub listing : option_map vec_items tree.listing_excludes ≡ listing_excludes outside current (option_map vec_items opened.core.excludes)
+  pub attributes : tree.attributes ≡ opened.core.attributes
   pub untracked : tree.untracked ≡ opened.core.untracked
-  pub own_excludes : opened.exclude_name ≡ Some (string_bytes tree.own_excludes)
-  pub own_attributes : string_bytes tree.own_attributes ≡ told_from current opened.attributes_file
-  pub git_folder : option_map vec_items tree.git_folder ≡ Some (told_from current opened.git_folder)
+  pub own_excludes : option_map vec_items opened.exclude_name ≡ Some (string_bytes tree.own_excludes)
+  pub own_attributes : string_bytes tree.own_attributes ≡ told_from current opened.attributes_file.items
+  pub git_folder : option_map vec_items tree.git_folder ≡ Some (told_from current opened.git_folder.items)
   pub index : MatchOption tree.index ⊥ (IsIndexOf current opened)
 
 -- the work tree of some opened repository
 abbrev pub IsFoundTree : WorkTree → Type 0
-IsFoundTree tree = (standpoint : Standpoint) × (outside : Bool) × (current : List ℕ) × (opened : Opened (List ℕ) (List Seen)) × IsTreeOf standpoint outside current opened tree
+IsFoundTree tree = (standpoint : Standpoint) × (outside : Bool) × (current : List ℕ) × (opened : Repository) × IsTreeOf standpoint outside current opened tree
 
 -- a file of this name in Git's part of some user's folder of settings, if the user has one
 abbrev pub IsUsersFile : List ℕ → Option (List ℕ) → Type 0

@@ -1,8 +1,8 @@
 -- What the program ends with, and what is asked of it.
 use Rattle.std.specs.Prelude.{◌≡◌, ◌⊎◌, ◌||◌, ℕ, Bool, true, List, Some, if◌then◌else◌}
 use Rattle.std.specs.Borrow.{Bor}
-use Rattle.core_settings.specs.declared.untracked.ShowUntracked.{ShowUntracked}
-use Rattle.core_settings.specs.declared.untracked.ShowUntracked.TheVariants as shown
+use Rattle.git_repository.specs.declared.core_values.ShowUntracked.{ShowUntracked}
+use Rattle.git_repository.specs.declared.core_values.ShowUntracked.TheVariants as shown
 use Rattle.near_words.specs.Near.{IsNearest, bytes_of}
 use Rattle.git_paths.specs.declared.quoting.Quoting.{Quoting}
 use Rattle.git_paths.specs.declared.quoting.Quoting.TheVariants.{AsciiOnly, Full}
@@ -15,7 +15,7 @@ use Rattle.tree_commands.specs.declared.files.choosing.Folders.{Folders}
 use Rattle.tree_commands.specs.declared.files.choosing.Folders.TheVariants as folders
 use Rattle.tree_commands.specs.declared.files.mark.Mark.{Mark}
 use Rattle.tree_commands.specs.declared.files.mark.Mark.TheVariants as marks
-use Rattle.config_answers.specs.declared.origin.Manner.{Manner}
+use Rattle.git_config.specs.declared.origin.Manner.{Manner}
 use Rattle.tree_words.specs.declared.check_ignore.CheckIgnoreFlags.{CheckIgnoreFlags}
 use Rattle.tree_words.specs.declared.config.ConfigFlags.{ConfigFlags}
 use Rattle.tree_words.specs.declared.files.FilesFlags.{FilesFlags}

@@ -2,8 +2,8 @@
 use Rattle.std.specs.Prelude.{◌≡◌, ◌⊎◌, ℕ, true, List, [], ◌∷◌, ◌++◌, Contains, Option, None, codes, if◌then◌else◌}
 use Rattle.std.specs.Option.{unwrap_or}
 use Rattle.std.specs.Str.{bytes_eq}
-use Rattle.git_index.specs.declared.checksum.ObjectFormat.{ObjectFormat}
-use Rattle.git_index.specs.declared.checksum.ObjectFormat.TheVariants.{Sha1, Sha256}
+use Rattle.git_index.specs.declared.object_format.ObjectFormat.{ObjectFormat}
+use Rattle.git_index.specs.declared.object_format.ObjectFormat.TheVariants.{Sha1, Sha256}
 use Rattle.git_index.specs.Entries.{Tracked}
 use Rattle.git_index.specs.Format.{IsIndexFile}
 use Rattle.git_index.specs.Split.{IsSplitIndex}

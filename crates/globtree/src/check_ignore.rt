@@ -11,11 +11,11 @@ use crate::index_use::IndexUse;
 use crate::outcomes::{answer_of, status_by};
 use crate::pathspec_settings::{refuse_settings, refuse_settings_for};
 use byte_streams::Watched;
+use git_index::TrackedPaths;
 use git_paths::Quoting;
 use std::alloc::{AllocError, Global};
 use std::io::{Read, Write};
 use std::rt::{Env, Files};
-use tracked_paths::TrackedPaths;
 use tree_answers::Form;
 use tree_commands::check_ignore::{
     IgnoreFlags, IgnoreSources, check_ignore_paths, run_check_ignore,

@@ -1,9 +1,9 @@
 //! Why a command gets no further, told whole.
 
-use opened_repository::OpenFault;
-use repository_files::{ConfigFileFault, VariableFault};
+use git_repository::{OpenFault, VariableFault};
 use std::alloc::AllocError;
 use std::io;
+use system_files::ConfigFileFault;
 use thiserror::Error;
 use tree_files::CheckFault;
 

@@ -10,12 +10,13 @@ use crate::fronts::Fronts;
 use crate::outcomes::ANSWERED;
 use byte_streams::Watched;
 use git_paths::LeadFault;
+use git_repository::Variables;
 use glob_lines::GitIgnoreLines;
 use glob_lists::PreparedList;
-use repository_files::{DiskFiles, RepositoryVariables, User};
 use std::alloc::{AllocError, Global};
 use std::io::Write;
 use std::rt::{Clock, Env, Files};
+use system_files::{DiskFiles, User, read_variables};
 use tree_commands::files::fault::FilesFault;
 use tree_commands::files::{Listing, run_files};
 use tree_files::{CheckFault, NestedRepositories, TreeFiles};
@@ -64,8 +65,8 @@ fn nested_repositories<'a, R: Files + Env>(
 ) -> Result<NestedRepositories<'a, R>> {
     let files = DiskFiles::new(rt, alloc, User::of_process(rt, alloc)?);
     let variables = match &fronts.git_folder {
-        Some(_folder) => RepositoryVariables::read(rt, alloc)?,
-        None => RepositoryVariables::none(),
+        Some(_folder) => read_variables(rt, alloc)?,
+        None => Variables::none(alloc),
     };
     let own = fronts.git_folder.as_deref();
     Ok(NestedRepositories::new(alloc, files, variables, own)?)

@@ -4,14 +4,20 @@ ghost use Rattle.std.specs.Prelude.{◌≡◌, [], IfOk, None};
 use crate::fault::Result;
 use crate::index_use::{IndexUse, Taken, take_from_index};
 use crate::moving::go_to_folders;
-use crate::opening::Purpose;
 use crate::work_tree::{WorkTree, work_tree};
 use git_paths::{Quoting, Standpoint};
+use git_repository::Purpose;
 use std::alloc::Global;
 use std::rt::{Env, Files};
+use system_files::is_true;
 use tree_commands::check_attr::OuterFiles;
 use tree_files::{AttributeFiles, IndexedFiles, path_text};
 use tree_words::Options;
+
+/// The file of attributes for all users of the system.
+const SYSTEM_FILE: &str = "/etc/gitattributes";
+/// The variable that says whether that file is passed over.
+const NO_SYSTEM: &str = "GIT_ATTR_NOSYSTEM";
 
 /// The bytes of the files that are read before any path is asked for, and where paths are told from.
 #[derive(Drop)]
@@ -52,7 +58,7 @@ pub(crate) fn outer_attributes<R: Files + Env + Eprint + AllocGlobal>(
     go_to_folders(rt, alloc, options)?;
     let none = IndexedFiles::none(alloc);
     let reader = AttributeFiles::new(rt, alloc, &none);
-    let system = bytes_of_file(alloc, &reader, options.system.map(str::as_bytes))?;
+    let named_system = bytes_of_file(alloc, &reader, options.system.map(str::as_bytes))?;
     let named = bytes_of_file(alloc, &reader, options.attributes.map(str::as_bytes))?;
     let tree = work_tree(rt, alloc, options, Purpose::Paths)?;
     let Taken { indexed, .. } = take_from_index(rt, alloc, &tree.index, IndexUse::Attributes)?;
@@ -64,6 +70,10 @@ pub(crate) fn outer_attributes<R: Files + Env + Eprint + AllocGlobal>(
         own_attributes,
         ..
     } = tree;
+    let system = match options.system {
+        Some(_name) => named_system,
+        None => system_file(rt, alloc, &reader, options)?,
+    };
     let user = match options.attributes {
         Some(_name) => named,
         None => bytes_of_file(alloc, &reader, attributes.as_deref())?,
@@ -80,6 +90,19 @@ pub(crate) fn outer_attributes<R: Files + Env + Eprint + AllocGlobal>(
         info,
     };
     Ok((outer, indexed))
+}
+
+/// The bytes of the file of all users of the system; none where the top is named, or the environment says so.
+fn system_file<R: Files + Env + Eprint>(
+    rt: &R,
+    alloc: Global,
+    reader: &AttributeFiles<'_, R>,
+    options: Options<'_>,
+) -> Result<Vec<u8>> {
+    if options.top.is_some() || is_true(rt, alloc, NO_SYSTEM)? {
+        return Ok(Vec::new(alloc));
+    }
+    Ok(reader.file(String::from_str(alloc, SYSTEM_FILE)?)?)
 }
 
 /// The bytes of a file, where one is told; none where there is no such file.

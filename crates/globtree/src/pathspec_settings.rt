@@ -5,11 +5,11 @@ ghost use Rattle.byte_streams.specs.Watched.{has_failed, inner};
 
 use crate::fault::{Fault, Result};
 use byte_streams::Watched;
-use repository_files::is_true;
 use std::alloc::Global;
 use std::io;
 use std::io::Read;
 use std::rt::Env;
+use system_files::is_true;
 
 /// The variables.
 const NAMES: [&str; 4] = [

@@ -3,7 +3,7 @@ ghost use Rattle.std.specs.Prelude.{◌≡◌, ◌⊎◌, ◌∷◌, [], IfOk, I
 ghost use Rattle.std.specs.Io.KnownBytes.{Appends};
 ghost use Rattle.git_config.specs.Configuration.{seen_setting};
 ghost use Rattle.byte_streams.specs.Watched.{inner};
-ghost use Rattle.config_answers.specs.Answers.{answer_of, asked_of, has_answer};
+ghost use Rattle.git_config.specs.Answers.{answer_of, asked_of, has_answer};
 ghost use Rattle.globtree.specs.Answers.{AnswersConfig, KeyIsShown, asked_by_key};
 ghost use Rattle.globtree.specs.Running.{IsAnswered, IsRefused, manner_by};
 
@@ -13,12 +13,11 @@ use crate::opening::config_here;
 use crate::outcomes::status_by;
 use crate::wrong_words::tell_misuse;
 use byte_streams::Watched;
-use config_answers::{Manner, Question, append_answer, key_fault};
-use git_config::{Config, canonical_key};
-use repository_files::variable;
+use git_config::{Config, Manner, Question, append_answer, canonical_key, key_fault};
 use std::alloc::Global;
 use std::io::Write;
 use std::rt::{Env, Files};
+use system_files::variable;
 use tree_files::tell_line;
 use tree_words::config::ConfigFlags;
 use tree_words::{CommandName, Options, from_operand};

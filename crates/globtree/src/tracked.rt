@@ -4,11 +4,11 @@ ghost use Rattle.globtree.specs.Tracked.{IsOfIndex};
 
 use crate::fault::{Fault, Result};
 use git_index::{Index, IndexFault, ObjectFormat};
-use repository_files::{Sight, Unread, open_seen};
 use std::alloc::{AllocError, Global};
 use std::io::{ErrorKind, Read};
 use std::rt::Files;
 use std::{fs, io};
+use system_files::{Sight, Unread, open_seen};
 
 /// The length in bytes above which an index isn't read.
 const MOST_BYTES: u64 = 1 << 30;

@@ -1,26 +1,24 @@
 //! The work tree that a command is called in: where paths are told from, and the files that count in all of it.
 ghost use Rattle.std.specs.Prelude.{◌≡◌, codes, option_map, true, IfOk, MatchOption, Some};
 ghost use Rattle.std.specs.Vec.{vec_items};
-ghost use Rattle.core_settings.specs.Values.{last_value};
-ghost use Rattle.core_settings.specs.Views.{seen_settings};
-ghost use Rattle.opened_repository.specs.Results.{opened_of};
+ghost use Rattle.git_repository.specs.Values.{last_value};
+ghost use Rattle.git_repository.specs.Views.{seen_settings};
 ghost use Rattle.globtree.specs.Places.{IsFoundTree, IsIndexOf, IsNamedTree, IsTreeOf, IsUsersFile, listing_excludes};
 ghost use Rattle.globtree.specs.Running.{quoting_by};
 ghost use Rattle.globtree.specs.Tracked.{format_by};
 
 use crate::fault::{Fault, Result};
 use crate::moving::{current_folder, go_to_top};
-use crate::opening::{Purpose, open_here};
+use crate::opening::open_here;
 use crate::places::{from_root, standpoint_at, standpoint_in};
 use crate::tracked::IndexFile;
-use core_settings::{ShowUntracked, settings_file};
 use git_config::Config;
 use git_index::ObjectFormat;
 use git_paths::{Quoting, Standpoint, below_folder};
-use opened_repository::{Opened, told_from};
-use repository_files::variable;
+use git_repository::{Purpose, Repository, ShowUntracked, settings_file, told_from};
 use std::alloc::{AllocError, Global};
 use std::rt::{Env, Files};
+use system_files::variable;
 use tree_files::path_text;
 use tree_words::Options;
 
@@ -124,9 +122,9 @@ fn tree_at(
     standpoint: Standpoint,
     is_outside: bool,
     current: &[u8],
-    opened: Opened<Vec<u8>, Config>,
+    opened: Repository,
 ) -> Result<WorkTree>
-    ensures { IfOk result (IsTreeOf standpoint is_outside current.now (opened_of opened)) }
+    ensures { IfOk result (IsTreeOf standpoint is_outside current.now opened) }
 {
     let own_attributes = told_from(alloc, current, &opened.attributes_file)?;
     let git_folder = told_from(alloc, current, &opened.git_folder)?;
@@ -166,12 +164,8 @@ fn listing_excludes(
 }
 
 /// The index of an opened repository, which is told from this folder.
-fn index_file_of(
-    alloc: Global,
-    current: &[u8],
-    opened: &Opened<Vec<u8>, Config>,
-) -> Result<IndexFile>
-    ensures { IfOk result (IsIndexOf current.now (opened_of opened.now)) }
+fn index_file_of(alloc: Global, current: &[u8], opened: &Repository) -> Result<IndexFile>
+    ensures { IfOk result (IsIndexOf current.now opened.now) }
 {
     let name = told_from(alloc, current, &opened.index_file)?;
     let git_folder = told_from(alloc, current, &opened.git_folder)?;

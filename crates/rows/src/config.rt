@@ -3,10 +3,11 @@
 use crate::answer::{Answer, two};
 use crate::row::Row;
 use anyhow::Result;
-use core_settings::{
-    ConfigPlaces, ConfigSource, ConfigSources, Pair, SourcesFault, config_sources as sources_of,
-};
 use git_config::split_word;
+use git_repository::{
+    ConfigSource, ConfigSources, FindFault, OpenFault, Pair, VariableFault, Variables,
+    config_sources as sources_of,
+};
 use std::alloc::{AllocError, Global};
 
 /// A variable of the environment and its value.
@@ -14,12 +15,19 @@ type Variable<'a> = (&'a [u8], &'a [u8]);
 
 /// Which files and words are read.
 pub(crate) fn config_sources(alloc: Global, row: &Row) -> Result<Answer> {
-    let variables = variables_of(alloc, row.bytes(0))?;
-    let (places, pairs) = (places_of(&variables, row), pairs_of(alloc, &variables)?);
-    let sources = sources_of(alloc, &places, &pairs, &words_of(alloc, row.bytes(3))?)?;
-    match &sources.fault {
+    let mut variables = Variables::none(alloc);
+    set_variables(alloc, &mut variables, &variables_of(alloc, row.bytes(0))?)?;
+    let words = words_of(alloc, row.bytes(3))?;
+    let ConfigSources { list, fault } = sources_of(
+        alloc,
+        &variables,
+        row.option(1),
+        row.option(2),
+        &words,
+    )?;
+    match fault {
         Some(fault) => Ok(two(alloc, None, Some(fault_text(alloc, fault)?))?),
-        None => Ok(two(alloc, Some(list_text(alloc, &sources)?), None)?),
+        None => Ok(two(alloc, Some(list_text(alloc, &list)?), None)?),
     }
 }
 
@@ -46,53 +54,58 @@ fn words_of(alloc: Global, text: &[u8]) -> Result<Vec<&[u8]>, AllocError> {
 }
 
 /// The value of a variable.
-fn value_of<'a>(variables: &[Variable<'a>], asked: &[u8]) -> Option<&'a [u8]> {
+fn value_of(
+    alloc: Global,
+    variables: &[Variable<'_>],
+    asked: &[u8],
+) -> Result<Option<Vec<u8>>, AllocError> {
     for (name, value) in variables {
         if *name == asked {
-            return Some(*value);
+            return Ok(Some(Vec::from_slice(alloc, value)?));
         }
     }
-    None
+    Ok(None)
 }
 
-/// Where files of configuration are, by variables and the folders of a repository.
-fn places_of<'a>(variables: &[Variable<'a>], row: &'a Row) -> ConfigPlaces<&'a [u8]> {
-    ConfigPlaces {
-        home: value_of(variables, b"HOME"),
-        config_home: value_of(variables, b"XDG_CONFIG_HOME"),
-        no_system: value_of(variables, b"GIT_CONFIG_NOSYSTEM"),
-        system: value_of(variables, b"GIT_CONFIG_SYSTEM"),
-        installed: value_of(variables, b"installed"),
-        global: value_of(variables, b"GIT_CONFIG_GLOBAL"),
-        repository: row.option(1),
-        work_tree: row.option(2),
-        count: value_of(variables, b"GIT_CONFIG_COUNT"),
-        parameters: value_of(variables, b"GIT_CONFIG_PARAMETERS"),
+/// Sets the variables that say where files of configuration are; `installed` tells of the installation's.
+fn set_variables(
+    alloc: Global,
+    variables: &mut Variables,
+    told: &[Variable<'_>],
+) -> Result<(), AllocError> {
+    variables.home = value_of(alloc, told, b"HOME")?;
+    variables.config_home = value_of(alloc, told, b"XDG_CONFIG_HOME")?;
+    variables.no_system = value_of(alloc, told, b"GIT_CONFIG_NOSYSTEM")?;
+    variables.system = value_of(alloc, told, b"GIT_CONFIG_SYSTEM")?;
+    if variables.system.is_none() {
+        variables.system = value_of(alloc, told, b"installed")?;
     }
+    variables.global = value_of(alloc, told, b"GIT_CONFIG_GLOBAL")?;
+    variables.count = value_of(alloc, told, b"GIT_CONFIG_COUNT")?;
+    variables.pairs = pairs_of(alloc, told)?;
+    variables.parameters = value_of(alloc, told, b"GIT_CONFIG_PARAMETERS")?;
+    Ok(())
 }
 
 /// The pairs of the environment, up to the first that has no key.
-fn pairs_of<'a>(
-    alloc: Global,
-    variables: &[Variable<'a>],
-) -> Result<Vec<Pair<&'a [u8]>>, AllocError> {
+fn pairs_of(alloc: Global, variables: &[Variable<'_>]) -> Result<Vec<Pair>, AllocError> {
     let mut pairs = Vec::new(alloc);
     for number in 0..variables.len() {
         let name = format!(in alloc; "GIT_CONFIG_KEY_{number}")?;
-        let Some(key) = value_of(variables, name.as_bytes()) else {
+        let Some(key) = value_of(alloc, variables, name.as_bytes())? else {
             return Ok(pairs);
         };
         let name = format!(in alloc; "GIT_CONFIG_VALUE_{number}")?;
-        let value = value_of(variables, name.as_bytes());
+        let value = value_of(alloc, variables, name.as_bytes())?;
         pairs.push(Pair { key, value })?;
     }
     Ok(pairs)
 }
 
 /// A line for each source: the path of a file, or a space, a key and its value.
-fn list_text(alloc: Global, sources: &ConfigSources) -> Result<Vec<u8>, AllocError> {
+fn list_text(alloc: Global, sources: &[ConfigSource]) -> Result<Vec<u8>, AllocError> {
     let mut text = Vec::new(alloc);
-    for source in &sources.list {
+    for source in sources {
         push_source(&mut text, source)?;
         text.push(b'\n')?;
     }
@@ -100,7 +113,7 @@ fn list_text(alloc: Global, sources: &ConfigSources) -> Result<Vec<u8>, AllocErr
 }
 
 /// Adds a source.
-fn push_source(text: &mut Vec<u8>, source: &ConfigSource<Vec<u8>>) -> Result<(), AllocError> {
+fn push_source(text: &mut Vec<u8>, source: &ConfigSource) -> Result<(), AllocError> {
     match source {
         ConfigSource::File(path) => text.extend_from_slice(path),
         ConfigSource::Word { key, value } => {
@@ -116,10 +129,12 @@ fn push_source(text: &mut Vec<u8>, source: &ConfigSource<Vec<u8>>) -> Result<(),
 }
 
 /// What Git says of a fault: of pairs in two lines.
-fn fault_text(alloc: Global, fault: &SourcesFault<Vec<u8>>) -> Result<Vec<u8>, AllocError> {
-    let text = match fault {
-        SourcesFault::Pairs(wrong) => format!(in alloc; "{wrong}\n{fault}\n")?,
-        _ => format!(in alloc; "{fault}\n")?,
-    };
-    Ok(text.into_bytes())
+fn fault_text(alloc: Global, fault: VariableFault) -> Result<Vec<u8>, AllocError> {
+    let first = format!(in alloc; "{fault}\n")?;
+    let last: OpenFault<FindFault> = OpenFault::Variable(fault);
+    let last = format!(in alloc; "{last}\n")?;
+    if first.as_str() == last.as_str() {
+        return Ok(last.into_bytes());
+    }
+    Ok(format!(in alloc; "{first}{last}")?.into_bytes())
 }

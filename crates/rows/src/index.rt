@@ -3,9 +3,8 @@
 use crate::answer::{Answer, one, shown, told, two};
 use crate::row::Row;
 use anyhow::Result;
-use git_index::{Entry, Index, IndexFault, Kind, ObjectFormat};
+use git_index::{Entry, FoldedPaths, Index, IndexFault, Kind, ObjectFormat};
 use std::alloc::{AllocError, Global};
-use tracked_paths::FoldedPaths;
 
 /// How objects are named, by the first field.
 fn format_of(row: &Row) -> ObjectFormat {

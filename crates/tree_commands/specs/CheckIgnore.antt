@@ -15,7 +15,7 @@ use Rattle.glob_trees.specs.Ways.{AreOnTheWay, Folder}
 use Rattle.pathspecs.specs.Leading.{word_front, word_leads, word_leads_from_root, word_names_folder}
 use Rattle.pathspecs.specs.Spelling.{Spelt, spelt_by}
 use Rattle.git_paths.specs.declared.standpoint.Standpoint.{Standpoint}
-use Rattle.tracked_paths.specs.Holding.{IsHeld, LiesInSubmodule}
+use Rattle.git_index.specs.Holding.{IsHeld, LiesInSubmodule}
 use Rattle.tree_answers.specs.Lines.{Decision, line_text}
 use Rattle.tree_commands.specs.declared.check_ignore.fault.IgnoreFault.{IgnoreFault}
 use Rattle.tree_commands.specs.declared.check_ignore.fault.IgnoreFault.TheVariants.{Empty, InSubmodule, Outside, Unspelt}

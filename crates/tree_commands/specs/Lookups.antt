@@ -4,7 +4,7 @@ use Rattle.git_index.specs.Entries.{HasBelow, IsSubmodule, IsTracked, Tracked}
 use Rattle.gix_glob.specs.declared.pattern.Case.{Case}
 use Rattle.gix_glob.specs.declared.pattern.Case.TheVariants.{Sensitive, Fold}
 use Rattle.glob_trees.specs.Ways.{Folder}
-use Rattle.tracked_paths.specs.Folding.{HasBelowFolded, IsSubmoduleFolded, IsTrackedFolded}
+use Rattle.git_index.specs.Folding.{HasBelowFolded, IsSubmoduleFolded, IsTrackedFolded}
 
 -- the entries of the index, and whether case counts where a path is looked up among them
 pub record LookedUp : Type 0 where

@@ -12,7 +12,7 @@ ghost use Rattle.tree_answers.specs.Records.{IsRefusal, IsTextOf};
 ghost use Rattle.tree_commands.specs.Answering.{IsTextOfFirst, StopsAt, TextOfNamed, TextOfPaths, Writes};
 ghost use Rattle.tree_commands.specs.Private.Answering.{FailsAt};
 
-use byte_streams::{RecordFault, RecordStream, Watched, write_whole};
+use byte_streams::{RecordFault, RecordStream, Watched, write_text};
 use git_paths::are_usual_names;
 use std::alloc::Global;
 use std::io::{Read, Write};
@@ -161,26 +161,5 @@ fn write_answers<F: Drop, W: Write>(
     match write_text(writer, text) {
         Ok(()) => Err(RecordFault::Answer(fault)),
         Err(failed) => Err(failed),
-    }
-}
-
-/// Writes a text, and flushes.
-#[tactic(auto, using(crate::proofs::lemmas::RunLemmas::flushed))]
-pub(crate) fn write_text<W: Write, F>(
-    writer: &mut Watched<W>,
-    text: &[u8],
-) -> Result<(), RecordFault<F>>
-    requires { has_failed writer.old ≡ false }
-    ensures ok { OnOk result (Appends (W.contents (inner writer.old)) (W.contents (inner writer.new)) text.now) }
-    ensures cut { OnErr result (AppendsFront (W.contents (inner writer.old)) (W.contents (inner writer.new)) text.now) }
-    ensures none { told_refusal result ≡ [] }
-    ensures write { is_write_fault result ≡ has_failed writer.new }
-{
-    if let Err(error) = write_whole(writer, text) {
-        return Err(RecordFault::Write(error));
-    }
-    match writer.flush() {
-        Ok(()) => Ok(()),
-        Err(error) => Err(RecordFault::Write(error)),
     }
 }

@@ -17,18 +17,16 @@ ghost use Rattle.tree_commands.specs.CheckIgnore.{question_of};
 ghost use Rattle.tree_commands.specs.Files.{path_line};
 ghost use Rattle.tree_commands.specs.TrackedFiles.{AreIgnored, is_signed, is_submodule, lies_at, names_alone, paths_asked, paths_at};
 
-use crate::answering::write_text;
 use crate::check_ignore::{IgnoreFault, IgnoreFlags, IgnoreSources, PathKinds, check_ignore_paths};
 use crate::files::mark::Mark;
 use crate::files::writing::append_path_line;
-use byte_streams::{RecordFault, Watched};
-use git_index::{Entry, Kind};
+use byte_streams::{RecordFault, Watched, write_text};
+use git_index::{Entry, Kind, TrackedPaths};
 use git_paths::{LeadFault, Standpoint};
 use glob_lines::GitIgnoreLines;
 use glob_trees::{FolderLists, Tree};
 use std::alloc::{AllocError, Global};
 use std::io::Write;
-use tracked_paths::TrackedPaths;
 use tree_answers::Form;
 
 /// The paths among the entries of an index that lie at or below a told one, in the order of the index, each as often as it has stages.

@@ -7,11 +7,11 @@ use crate::standing::{OwnFile, Standing, file_in, own_file, path_text, what_stan
 use crate::telling::tell_line;
 use crate::unparsed::Unparsed;
 use glob_attributes::{Silence, SilentLine, silent_lines};
-use repository_files::Sight;
 use std::alloc::{AllocError, Global};
 use std::fs;
 use std::fs::Metadata;
 use std::rt::Files;
+use system_files::Sight;
 use tree_commands::check_attr::AttributeFolders;
 
 /// The name of a folder's own file of attributes.

@@ -17,13 +17,13 @@ use git_paths::folder_of;
 use gix_glob::search::pattern::List;
 use glob_lines::GitIgnoreLines;
 use glob_trees::{FolderLists, list_in_folder};
-use repository_files::Sight;
 use std::alloc::{AllocError, Global};
 use std::fmt::Display;
 use std::fs::FileType;
 use std::io::ErrorKind;
 use std::rt::{Clock, Files};
 use std::{fs, io};
+use system_files::Sight;
 use tree_commands::files::source::{EntryKind, FileSource, FolderNames};
 
 /// The folders below the one that the program stands in.

@@ -4,12 +4,12 @@ ghost use Rattle.tree_files.specs.Indexed.{is_indexed};
 
 use crate::fault::CheckFault;
 use crate::standing::{file_in, path_text};
-use repository_files::{Sight, Unread, open_seen};
 use std::alloc::{AllocError, Global};
 use std::collections::BTreeSet;
 use std::fs;
 use std::fs::Metadata;
 use std::rt::Files;
+use system_files::{Sight, Unread, open_seen};
 
 /// The folders whose own file of patterns lies in the index, from which it isn't read.
 #[derive(Drop)]

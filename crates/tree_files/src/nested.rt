@@ -1,17 +1,17 @@
 //! Folders of a work tree that are repositories of their own.
 
 use crate::fault::CheckFault;
-use git_repository::{FileSystem, FindFault, is_repository};
-use repository_files::{DiskFiles, RepositoryVariables};
+use git_repository::{FileSystem, FindFault, Finder, Variables};
 use std::alloc::{AllocError, Global};
 use std::rt::Files;
+use system_files::DiskFiles;
 
 /// What tells of a folder by its `.git` whether it is a repository of its own.
 #[derive(Drop)]
 pub struct NestedRepositories<'a, R> {
     alloc: Global,
     files: DiskFiles<'a, R>,
-    variables: RepositoryVariables,
+    variables: Variables,
     /// The git folder of the repository that the work tree belongs to, from the root and without links.
     own: Option<Vec<u8>>,
 }
@@ -24,7 +24,7 @@ impl<'a, R: Files> NestedRepositories<'a, R> {
     pub fn new(
         alloc: Global,
         files: DiskFiles<'a, R>,
-        variables: RepositoryVariables,
+        variables: Variables,
         git_folder: Option<&[u8]>,
     ) -> Result<NestedRepositories<'a, R>, AllocError> {
         let own = match git_folder {
@@ -42,8 +42,12 @@ impl<'a, R: Files> NestedRepositories<'a, R> {
     /// Whether what stands at this path, the `.git` of a folder, makes the folder a repository of its own, and not of the one that the work
     /// tree belongs to.
     pub(crate) fn has(&self, git: &[u8]) -> Result<bool, CheckFault> {
-        let words = self.variables.environment();
-        match is_repository(self.alloc, &self.files, &words, git) {
+        let finder = Finder {
+            alloc: self.alloc,
+            source: &self.files,
+            variables: &self.variables,
+        };
+        match finder.is_repository(git) {
             Ok(true) => Ok(!self.is_own(git)?),
             Ok(false) => Ok(false),
             Err(FindFault::Memory) => Err(CheckFault::Memory),

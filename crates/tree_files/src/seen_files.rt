@@ -11,11 +11,11 @@ use crate::standing::tell_unread;
 use gix_glob::search;
 use gix_glob::search::pattern::List;
 use gix_glob::search::{LoadFault, Watched};
-use repository_files::{Sight, Unread, open_seen};
 use std::alloc::Global;
 use std::io::ErrorKind;
 use std::rt::Files;
 use std::{fs, io};
+use system_files::{Sight, Unread, open_seen};
 
 /// The list of a file by its name, as [`seen_list`] answers it of what stands there; `None` where nothing does. A link is followed.
 ///

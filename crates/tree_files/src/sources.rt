@@ -13,9 +13,9 @@ use crate::standing::{OwnFile, Standing, file_in, own_file, path_text, what_stan
 use gix_glob::search::pattern::List;
 use glob_lines::GitIgnoreLines;
 use glob_trees::{FolderLists, list_in_folder};
-use repository_files::Sight;
 use std::alloc::Global;
 use std::rt::Files;
+use system_files::Sight;
 
 /// The name of a folder's own file of patterns.
 pub(crate) const IGNORE_FILE: &str = ".gitignore";

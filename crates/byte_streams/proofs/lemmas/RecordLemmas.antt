@@ -119,16 +119,9 @@ module _ (Answers : List ℕ → List ℕ → Type 0) (a b : List (List ℕ) →
     grown = adds.grown;
   }
 
-module _ (Answers : List ℕ → List ℕ → Type 0) (a b : List (List ℕ) → Type 0) where
-  text_of_last : (last text : List ℕ) → last ≢ [] → TextOfAnswered Answers a b (last ∷ []) text → TextOfAnswered Answers a b (last_record last) text
-  text_of_last [] text some allowed = absurd (some refl)
-  text_of_last (b ∷ bytes) text some allowed = allowed
-
-  -- the record that has begun was the last one, and its text is all that is held
-  pub last_added : (last held grown : List ℕ) → last ≢ [] → held ≡ [] → Adds (TextOfAnswered Answers a b ((last ++ []) ∷ [])) held grown → TextOfAnswered Answers a b (last_record last) grown
-  last_added last held grown some none adds =
-      subst (TextOfAnswered Answers a b (last_record last)) (sym (adds.grown ∙ ap (λ l. l ++ adds.added) none))
-      (text_of_last last adds.added some (subst (λ l. TextOfAnswered Answers a b (l ∷ []) adds.added) (append-nil last) adds.allowed))
+pub one_last : (IsText : List (List ℕ) → List ℕ → Type 0) (last text : List ℕ) → last ≢ [] → IsText (last ∷ []) text → IsText (last_record last) text
+one_last IsText [] text some allowed = absurd (some refl)
+one_last IsText (b ∷ bytes) text some allowed = allowed
 
 -- ---- the text of the records before a rest
 
@@ -149,28 +142,29 @@ module _ (First Next Both : List (List ℕ) → List ℕ → Type 0) (joins : Jo
     answered = joins.join before.records (first ∷ []) text answer before.answered allowed;
   }
 
-  -- a piece comes, and the records that end in it are answered
-  pub AnswersBefore-grown : (piece rest next : List ℕ) → AnswersBefore Next end (left ++ piece) rest next → AnswersBefore Both end (bytes ++ piece) rest (text ++ next)
-  AnswersBefore-grown piece rest next after = record {
-    records = before.records ++ after.records;
-    begins = BeginsWith-more end (bytes ++ piece) (left ++ piece) before.records (BeginsWith-grown end bytes left before.records before.begins piece) after.records rest after.begins;
-    answered = joins.join before.records after.records text next before.answered after.answered;
-  }
-
-  -- no further record is answered
-  pub AnswersBefore-no_more : (next : List ℕ) → Next [] next → AnswersBefore Both end bytes left (text ++ next)
-  AnswersBefore-no_more next none = record {
-    records = before.records ++ [];
-    begins = subst (λ l. BeginsWith end bytes l left) (sym (append-nil before.records)) before.begins;
-    answered = joins.join before.records [] text next before.answered none;
-  }
-
   -- nothing more comes, and the rest is the last record
   pub AnswersAll-last : (answer : List ℕ) → HasNo end left → Next (last_record left) answer → AnswersAll Both end bytes (text ++ answer)
   AnswersAll-last answer unended last = record {
     records = before.records ++ last_record left;
     are = record { ended = before.records; rest = left; begins = before.begins; unended = unended; all = refl };
     answered = joins.join before.records (last_record left) text answer before.answered last;
+  }
+
+module _ (IsText : List (List ℕ) → List ℕ → Type 0) (end : ℕ) (bytes : List ℕ) where
+  -- more bytes come
+  pub AnswersBefore-read : (left text : List ℕ) → AnswersBefore IsText end bytes left text → (more : List ℕ) → AnswersBefore IsText end (bytes ++ more) (left ++ more) text
+  AnswersBefore-read left text before more = record {
+    records = before.records;
+    begins = BeginsWith-grown end bytes left before.records before.begins more;
+    answered = before.answered;
+  }
+
+  -- nothing more comes, and there is no rest
+  pub AnswersAll-ended : (text : List ℕ) → AnswersBefore IsText end bytes [] text → AnswersAll IsText end bytes text
+  AnswersAll-ended text before = record {
+    records = before.records;
+    are = record { ended = before.records; rest = []; begins = before.begins; unended = tt; all = sym (append-nil before.records) };
+    answered = before.answered;
   }
 
 pub AnswersBefore-weaker : (First Both : List (List ℕ) → List ℕ → Type 0) → Weakens First Both → (end : ℕ) (bytes rest text : List ℕ) → AnswersBefore First end bytes rest text → AnswersBefore Both end bytes rest text

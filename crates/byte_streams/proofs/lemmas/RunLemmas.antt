@@ -1,12 +1,17 @@
 -- A run over records: what it read, and what it wrote.
-use Rattle.std.proofs.Common.{◌≡◌, ◌≢◌, ⊎_elim, ℕ, zero, suc, ◌+◌, ◌≤◌, length, length-append, arith, List, [], ◌++◌, Option, inl, inr, refl, sym, subst, append-nil}
-use Rattle.std.proofs.KnownBytes.{Appends-nil, Appends-trans, Consumes-kept, Consumes-nil, Consumes-trans}
-use Rattle.std.specs.Io.KnownBytes.{Appends, Consumes, IsAtEnd, Keeps}
-use Rattle.byte_streams.specs.Records.{AnswersAll, AnswersBefore, AnswersEnded, AnswersFirst, AnswersSome, HasNo, TextOfAnswered, last_record}
+use Rattle.std.proofs.Common.{◌≡◌, ⊎_elim, ℕ, ◌+◌, ◌≤◌, Bool, true, false, length, length-append, arith, List, [], ◌∷◌, ◌++◌, Option, Result, Ok, Err, inl, inr, refl, sym, ap, subst, ◌∙◌, append-nil}
+use Rattle.std.specs.Prelude.{◌⊎◌, IsErrAnd}
+use Rattle.std.proofs.lemmas.Bool.{false≢true}
+use Rattle.std.proofs.KnownBytes.{Appends-nil, Consumes-trans}
+use Rattle.std.specs.Io.KnownBytes.{Appends, Consumes, IsAtEnd}
+use Rattle.byte_streams.specs.Records.{Adds, AnswersAll, AnswersBefore, AnswersEnded, AnswersFirst, AnswersSome, HasNo, last_record}
 use Rattle.byte_streams.specs.Transfers.{AppendsFront, ReadsWhole, Run}
-use Rattle.byte_streams.specs.Private.Streaming.{Takes, TextOfLast, WritesSome}
-use Rattle.byte_streams.proofs.lemmas.RecordLemmas.{AnswersAll-last, AnswersBefore-grown, AnswersBefore-no_more, AnswersBefore-none, AnswersBefore-weaker, Joins, Weakens}
-use Rattle.byte_streams.proofs.lemmas.StreamLemmas.{AppendsFront-next, AppendsFront-whole}
+use Rattle.byte_streams.specs.declared.fault.RecordFault.{RecordFault}
+use Rattle.byte_streams.specs.declared.fault.RecordFault.TheVariants.{Answer, Endless, Memory, Read, Write}
+use Rattle.byte_streams.specs.Faults.{is_endless, is_read_fault}
+use Rattle.byte_streams.specs.Private.Pulling.{Ends, Gives, IsEnded, IsLast, MovesOut}
+use Rattle.byte_streams.proofs.lemmas.RecordLemmas.{AnswersAll-ended, AnswersAll-last, AnswersBefore-more, AnswersBefore-read, AnswersBefore-weaker, Joins, Weakens, one_last}
+use Rattle.byte_streams.proofs.lemmas.StreamLemmas.{AppendsFront-whole, MovesOut-all, MovesOut-front, MovesOut-grown, MovesOut-more}
 
 -- what was written whole is a beginning, too
 pub Run-cut : (IsText : List (List ℕ) → List ℕ → Type 0) (end : ℕ) (IsRead : List ℕ → Type 0) (a b : Option (List ℕ)) → Run IsRead (AnswersFirst IsText end) (Appends a b)
@@ -19,130 +24,180 @@ Run-cut IsText end IsRead a b run = record {
   written = AppendsFront-whole a b run.text run.written;
 }
 
--- each piece has a byte
-longer : (input piece : List ℕ) (counter count : ℕ) → counter ≤ length input → count ≡ length piece → count ≢ 0 → counter + 1 ≤ length (input ++ piece)
-longer input piece counter zero low is some = absurd (some refl)
-longer input piece counter (suc count) low is some = let grew = length-append input piece in omega arith
-
--- The ended records of what was read are answered, their text was written, and the record that has begun is held. Each of so
--- many reads gave a byte.
-pub record IsRunning (IsText : List (List ℕ) → List ℕ → Type 0) (end : ℕ) (q r a b : Option (List ℕ)) (held : List ℕ) (reads : ℕ) : Type 0 where
+-- The records before what is held are answered, or all, where the reader is at its end: a front of their text was written, and the rest of it is kept.
+pub record IsRunning (IsText : List (List ℕ) → List ℕ → Type 0) (end most : ℕ) (q r a b : Option (List ℕ)) (held text : List ℕ) (is_ended : Bool) (reads : ℕ) : Type 0 where
   pub input : List ℕ
-  pub long : reads ≤ length input
   pub consumed : Consumes q r input
-  pub text : List ℕ
-  pub before : AnswersBefore IsText end input held text
-  pub written : Appends a b text
-  pub unended : HasNo end held
+  pub all : List ℕ
+  pub moves : MovesOut a b all text
+  pub so_far : ((is_ended ≡ false) × AnswersBefore IsText end input held all × (most ≤ reads + length input))
+      ⊎ ((is_ended ≡ true) × IsAtEnd r × (held ≡ []) × AnswersAll IsText end input all)
 
--- nothing was read yet
-pub IsRunning-begun : (Answers : List ℕ → List ℕ → Type 0) (before : List (List ℕ) → Type 0) (end : ℕ) (q a : Option (List ℕ)) (held : List ℕ) → held ≡ [] → IsRunning (TextOfAnswered Answers before before) end q q a a held 0
-IsRunning-begun Answers before end q a held none = record {
-  input = [];
-  long = omega arith;
-  consumed = Consumes-nil q;
-  text = [];
-  before = subst (λ l. AnswersBefore (TextOfAnswered Answers before before) end [] l []) (sym none) (AnswersBefore-none Answers before end []);
-  written = Appends-nil a;
-  unended = subst (HasNo end) (sym none) tt;
-}
+-- the same, and the next record was given, and isn't answered yet
+pub record IsWaiting (IsText : List (List ℕ) → List ℕ → Type 0) (end most : ℕ) (q r a b : Option (List ℕ)) (given left text : List ℕ) (is_ended : Bool) (reads : ℕ) : Type 0 where
+  pub input : List ℕ
+  pub consumed : Consumes q r input
+  pub all : List ℕ
+  pub moves : MovesOut a b all text
+  pub waiting : List ℕ
+  pub before : AnswersBefore IsText end input waiting all
+  pub unended : HasNo end given
+  pub stands : ((is_ended ≡ false) × IsEnded end waiting given left × (most ≤ reads + length input)) ⊎ ((is_ended ≡ true) × IsLast r waiting given left)
 
-module _ (First Next Both : List (List ℕ) → List ℕ → Type 0) (joins : Joins First Next Both) (end : ℕ) (q a : Option (List ℕ)) (r b : Option (List ℕ)) (held : List ℕ) (reads : ℕ) (running : IsRunning First end q r a b held reads) (s : Option (List ℕ)) (piece : List ℕ) (read : Consumes r s piece) (c : Option (List ℕ)) where
-  read_on : Consumes q s (running.input ++ piece)
-  read_on = Consumes-trans q r s running.input piece running.consumed read
+longer : (most reads fewer : ℕ) (input more : List ℕ) → most ≤ reads + length input → reads ≤ fewer + length more → most ≤ fewer + length (input ++ more)
+longer most reads fewer input more low less = let grew = length-append input more in omega arith
 
-  on : (rest next : List ℕ) → AnswersBefore Next end (held ++ piece) rest next → AnswersBefore Both end (running.input ++ piece) rest (running.text ++ next)
-  on rest next = AnswersBefore-grown First Next Both joins end running.input held running.text running.before piece rest next
+module _ (IsText : List (List ℕ) → List ℕ → Type 0) (end most : ℕ) (q a : Option (List ℕ)) (r b : Option (List ℕ)) (held text : List ℕ) (is_ended : Bool) (reads : ℕ) (running : IsRunning IsText end most q r a b held text is_ended reads) where
+  -- the reader isn't at its end
+  going : is_ended ≡ false → AnswersBefore IsText end running.input held running.all × (most ≤ reads + length running.input)
+  going not = ⊎_elim
+      (λ (h : (is_ended ≡ false) × AnswersBefore IsText end running.input held running.all × (most ≤ reads + length running.input)). (h.1, h.2))
+      (λ (h : (is_ended ≡ true) × IsAtEnd r × (held ≡ []) × AnswersAll IsText end running.input running.all). absurd (false≢true (sym not ∙ h.0)))
+      running.so_far
 
-  pub IsRunning-taken : (count : ℕ) → count ≡ length piece → count ≢ 0 → (left : List ℕ) → Takes Next end (held ++ piece) left b c → IsRunning Both end q s a c left (reads + 1)
-  IsRunning-taken count is some left takes = record {
-    input = running.input ++ piece;
-    long = longer running.input piece reads count running.long is some;
-    consumed = read_on;
-    text = running.text ++ takes.text;
-    before = on left takes.text takes.allowed;
-    written = Appends-trans a b c running.text takes.text running.written takes.written;
-    unended = takes.unended;
+  module _ (s : Option (List ℕ)) (more : List ℕ) (read : Consumes r s more) where
+    on : Consumes q s (running.input ++ more)
+    on = Consumes-trans q r s running.input more running.consumed read
+
+    before_on : is_ended ≡ false → AnswersBefore IsText end (running.input ++ more) (held ++ more) running.all
+    before_on not = AnswersBefore-read IsText end running.input held running.all (going not).0 more
+
+  -- a record was given
+  pub IsRunning-given : (own : ℕ) → own ≡ end → (s c : Option (List ℕ)) (given left kept : List ℕ) (now : Bool) (fewer : ℕ) → (is_ended ≡ false) × Gives own held given left now r s reads fewer → MovesOut b c text kept
+      → IsWaiting IsText end most q s a c given left kept now fewer
+  IsRunning-given own same s c given left kept now fewer (not, some) out = let gives = subst (λ e. Gives e held given left now r s reads fewer) same some in record {
+    input = running.input ++ gives.more;
+    consumed = on s gives.more gives.consumed;
+    all = running.all;
+    moves = MovesOut-more a b running.all text running.moves c kept out;
+    waiting = held ++ gives.more;
+    before = before_on s gives.more gives.consumed not;
+    unended = gives.unended;
+    stands = ⊎_elim
+        (λ (h : (now ≡ false) × IsEnded end (held ++ gives.more) given left × (reads ≤ fewer + length gives.more)).
+        inl (h.0, h.1, longer most reads fewer running.input gives.more (going not).1 h.2))
+        (λ (h : (now ≡ true) × IsLast s (held ++ gives.more) given left). inr h)
+        gives.stands;
   }
 
-  -- a fault that isn't the writer's came
-  pub IsRunning-stopped : (P : Type 0) → (P → WritesSome (AnswersFirst Next end (held ++ piece)) (Appends b c)) → P → Run (Consumes q s) (AnswersFirst Both end) (Appends a c)
-  IsRunning-stopped P wrote p = let some = wrote p in record {
-    input = running.input ++ piece;
-    read = read_on;
-    text = running.text ++ some.text;
-    allowed = (some.allowed.0, on some.allowed.0 some.text some.allowed.1);
-    written = Appends-trans a b c running.text some.text running.written some.written;
-  }
-
-  -- a fault of the writer's came
-  pub IsRunning-cut : WritesSome (AnswersFirst Next end (held ++ piece)) (AppendsFront b c) → Run (Consumes q s) (AnswersSome Both end) (AppendsFront a c)
-  IsRunning-cut some = record {
-    input = running.input ++ piece;
-    read = read_on;
-    text = running.text ++ some.text;
-    allowed = inl (some.allowed.0, on some.allowed.0 some.text some.allowed.1);
-    written = AppendsFront-next a b c running.text some.text running.written some.written;
-  }
-
--- ---- no more was read
-
-module _ (IsText : List (List ℕ) → List ℕ → Type 0) (end : ℕ) (q a : Option (List ℕ)) (r b : Option (List ℕ)) (held : List ℕ) (reads : ℕ) (running : IsRunning IsText end q r a b held reads) where
-  pub IsRunning-unread : (s : Option (List ℕ)) → Keeps r s → Run (Consumes q s) (AnswersFirst IsText end) (Appends a b)
-  IsRunning-unread s kept = record {
-    input = running.input;
-    read = Consumes-kept q r s running.input running.consumed kept;
-    text = running.text;
-    allowed = (held, running.before);
-    written = running.written;
-  }
-
-  -- all records that have ended are answered
-  pub IsRunning-ended : (s : Option (List ℕ)) → Keeps r s → Run (Consumes q s) (AnswersEnded IsText end) (Appends a b)
-  IsRunning-ended s kept = record {
-    input = running.input;
-    read = Consumes-kept q r s running.input running.consumed kept;
-    text = running.text;
-    allowed = (held, running.unended, running.before);
-    written = running.written;
-  }
-
--- a read that gives nothing changes nothing
-all_read : (q r s : Option (List ℕ)) (input : List ℕ) → Consumes q r input → Consumes r s [] → Consumes q s input
-all_read q r s input consumed none = subst (Consumes q s) (append-nil input) (Consumes-trans q r s input [] consumed none)
-
-module _ (First Next Both : List (List ℕ) → List ℕ → Type 0) (joins : Joins First Next Both) (end : ℕ) (q a : Option (List ℕ)) (r b : Option (List ℕ)) (held : List ℕ) (reads : ℕ) (running : IsRunning First end q r a b held reads) (s : Option (List ℕ)) (read : Consumes r s []) (c : Option (List ℕ)) where
-  pub IsRunning-finished : IsAtEnd s → WritesSome (Next (last_record held)) (Appends b c) → Run (ReadsWhole q s) (AnswersAll Both end) (Appends a c)
-  IsRunning-finished ended last = record {
-    input = running.input;
-    read = record { consumed = all_read q r s running.input running.consumed read; ended = ended };
-    text = running.text ++ last.text;
-    allowed = AnswersAll-last First Next Both joins end running.input held running.text running.before last.text running.unended last.allowed;
-    written = Appends-trans a b c running.text last.text running.written last.written;
-  }
-
-  pub IsRunning-cut_last : WritesSome (TextOfLast Next held) (AppendsFront b c) → Run (Consumes q s) (AnswersSome Both end) (AppendsFront a c)
-  IsRunning-cut_last last = record {
-    input = running.input;
-    read = all_read q r s running.input running.consumed read;
-    text = running.text ++ last.text;
+  -- there is no further one
+  pub IsRunning-finished : (s c : Option (List ℕ)) (kept : List ℕ) → Ends held r s → MovesOut b c text kept → kept ≡ [] → Run (ReadsWhole q s) (AnswersAll IsText end) (Appends a c)
+  IsRunning-finished s c kept ends out none = record {
+    input = running.input ++ ends.more;
+    read = record { consumed = on s ends.more ends.consumed; ended = ends.ended };
+    text = running.all;
     allowed = ⊎_elim
-        (λ (none : Next [] last.text). inl (held, AnswersBefore-no_more First Next Both joins end running.input held running.text running.before last.text none))
-        (λ (one : Next (last_record held) last.text).
-        inr (AnswersAll-last First Next Both joins end running.input held running.text running.before last.text running.unended one))
-        last.allowed;
-    written = AppendsFront-next a b c running.text last.text running.written last.written;
+        (λ (h : (is_ended ≡ false) × AnswersBefore IsText end running.input held running.all × (most ≤ reads + length running.input)).
+        AnswersAll-ended IsText end (running.input ++ ends.more) running.all
+        (subst (λ l. AnswersBefore IsText end (running.input ++ ends.more) l running.all) ends.none (before_on s ends.more ends.consumed h.0)))
+        (λ (h : (is_ended ≡ true) × IsAtEnd r × (held ≡ []) × AnswersAll IsText end running.input running.all).
+        subst (λ l. AnswersAll IsText end l running.all)
+        (sym (ap (λ l. running.input ++ l) (ap (λ l. l ++ ends.more) (sym h.2) ∙ ends.none) ∙ append-nil running.input)) h.3)
+        running.so_far;
+    written = MovesOut-all a c running.all kept (MovesOut-more a b running.all text running.moves c kept out) c (subst (Appends c c) (sym none) (Appends-nil c));
   }
 
-  -- the last record got no answer
-  pub IsRunning-unfinished : (P : Type 0) → (P → WritesSome (Next []) (Appends b c)) → P → Run (Consumes q s) (AnswersFirst Both end) (Appends a c)
-  IsRunning-unfinished P wrote p = let none = wrote p in record {
-    input = running.input;
-    read = all_read q r s running.input running.consumed read;
-    text = running.text ++ none.text;
-    allowed = (held, AnswersBefore-no_more First Next Both joins end running.input held running.text running.before none.text none.allowed);
-    written = Appends-trans a b c running.text none.text running.written none.written;
+  -- a fault that is none of the writer's came
+  stopped : (s c : Option (List ℕ)) → (is_ended ≡ false) × Appends b c text × ((more : List ℕ) × Consumes r s more) → Run (Consumes q s) (AnswersFirst IsText end) (Appends a c)
+  stopped s c (not, out, (more, read)) = record {
+    input = running.input ++ more;
+    read = on s more read;
+    text = running.all;
+    allowed = (held ++ more, before_on s more read not);
+    written = MovesOut-all a b running.all text running.moves c out;
   }
+
+  pub IsRunning-stopped : (P : Type 0) (s c : Option (List ℕ)) → (P → (is_ended ≡ false) × Appends b c text × ((more : List ℕ) × Consumes r s more)) → P → Run (Consumes q s) (AnswersFirst IsText end) (Appends a c)
+  IsRunning-stopped P s c stops p = stopped s c (stops p)
+
+  -- a read failed
+  pub IsRunning-unread : (own : ℕ) → own ≡ end → (s c : Option (List ℕ)) → (is_ended ≡ false) × Appends b c text × ((more : List ℕ) × Consumes r s more × HasNo own (held ++ more)) → Run (Consumes q s) (AnswersEnded IsText end) (Appends a c)
+  IsRunning-unread own same s c (not, out, (more, read, unended)) = record {
+    input = running.input ++ more;
+    read = on s more read;
+    text = running.all;
+    allowed = (held ++ more, subst (λ e. HasNo e (held ++ more)) same unended, before_on s more read not);
+    written = MovesOut-all a b running.all text running.moves c out;
+  }
+
+  pub IsRunning-endless : (s : Option (List ℕ)) → (is_ended ≡ false) × ((more : List ℕ) × Consumes r s more × (reads ≤ length more)) → (input : List ℕ) × Consumes q s input × (most ≤ length input)
+  IsRunning-endless s (not, (more, read, long)) =
+      let low : most ≤ 0 + length (running.input ++ more) = longer most reads 0 running.input more (going not).1 (omega arith) in
+      (running.input ++ more, on s more read, omega arith)
+
+  cut_off : (c : Option (List ℕ)) → AppendsFront b c text → Run (Consumes q r) (AnswersSome IsText end) (AppendsFront a c)
+  cut_off c out = record {
+    input = running.input;
+    read = running.consumed;
+    text = running.all;
+    allowed = ⊎_elim
+        (λ (h : (is_ended ≡ false) × AnswersBefore IsText end running.input held running.all × (most ≤ reads + length running.input)). inl (held, h.1))
+        (λ (h : (is_ended ≡ true) × IsAtEnd r × (held ≡ []) × AnswersAll IsText end running.input running.all). inr h.3)
+        running.so_far;
+    written = MovesOut-front a b running.all text running.moves c out;
+  }
+
+  -- any fault came, the writer's perhaps
+  pub IsRunning-cut : (a_write_failed : Bool) (s c : Option (List ℕ)) → (a_write_failed ≡ false → (is_ended ≡ false) × Appends b c text × ((more : List ℕ) × Consumes r s more))
+      → (a_write_failed ≡ true → (s ≡ r) × AppendsFront b c text) → Run (Consumes q s) (AnswersSome IsText end) (AppendsFront a c)
+  IsRunning-cut false s c stops cut = Run-cut IsText end (Consumes q s) a c (stopped s c (stops refl))
+  IsRunning-cut true s c stops cut = subst (λ t. Run (Consumes q t) (AnswersSome IsText end) (AppendsFront a c)) (sym (cut refl).0) (cut_off c (cut refl).1)
+
+-- ---- the record that was given is answered, or not
+
+module _ (First Next Both : List (List ℕ) → List ℕ → Type 0) (joins : Joins First Next Both) (end most : ℕ) (q r a b : Option (List ℕ)) (given left text : List ℕ) (is_ended : Bool) (reads : ℕ) (waits : IsWaiting First end most q r a b given left text is_ended reads) where
+  pub IsWaiting-answered : (grown : List ℕ) → Adds (Next (given ∷ [])) text grown → IsRunning Both end most q r a b left grown is_ended reads
+  IsWaiting-answered grown adds = record {
+    input = waits.input;
+    consumed = waits.consumed;
+    all = waits.all ++ adds.added;
+    moves = MovesOut-grown a b waits.all text waits.moves adds.added grown adds.grown;
+    so_far = ⊎_elim
+        (λ (h : (is_ended ≡ false) × IsEnded end waits.waiting given left × (most ≤ reads + length waits.input)).
+        inl (h.0, AnswersBefore-more First Next Both joins end waits.input waits.waiting waits.all waits.before given left adds.added waits.unended h.1.joined adds.allowed, h.2))
+        (λ (h : (is_ended ≡ true) × IsLast r waits.waiting given left).
+        inr (
+          h.0,
+          h.1.ended,
+          h.1.none,
+          AnswersAll-last First Next Both joins end waits.input waits.waiting waits.all waits.before adds.added (subst (HasNo end) (sym h.1.whole) waits.unended)
+              (subst (λ l. Next (last_record l) adds.added) (sym h.1.whole) (one_last Next given adds.added h.1.some adds.allowed)),
+        ))
+        waits.stands;
+  }
+
+module _ (First Both : List (List ℕ) → List ℕ → Type 0) (weakens : Weakens First Both) (end most : ℕ) (q r a b : Option (List ℕ)) (given left text : List ℕ) (is_ended : Bool) (reads : ℕ) (waits : IsWaiting First end most q r a b given left text is_ended reads) (c : Option (List ℕ)) (whole : List ℕ) (same : whole ≡ text) where
+  pub IsWaiting-stopped : Appends b c whole → Run (Consumes q r) (AnswersFirst Both end) (Appends a c)
+  IsWaiting-stopped out = record {
+    input = waits.input;
+    read = waits.consumed;
+    text = waits.all;
+    allowed = (waits.waiting, AnswersBefore-weaker First Both weakens end waits.input waits.waiting waits.all waits.before);
+    written = MovesOut-all a b waits.all text waits.moves c (subst (Appends b c) same out);
+  }
+
+  pub IsWaiting-cut : AppendsFront b c whole → Run (Consumes q r) (AnswersSome Both end) (AppendsFront a c)
+  IsWaiting-cut out = record {
+    input = waits.input;
+    read = waits.consumed;
+    text = waits.all;
+    allowed = inl (waits.waiting, AnswersBefore-weaker First Both weakens end waits.input waits.waiting waits.all waits.before);
+    written = MovesOut-front a b waits.all text waits.moves c (subst (AppendsFront b c) same out);
+  }
+
+-- ---- a fault that is told on
+
+fault_told : (X Y : Type 0) {F : Type 0} (fault : RecordFault F) → (is_read_fault {X = X} (Err fault) ≡ is_read_fault {X = Y} (Err fault)) × (is_endless {X = X} (Err fault) ≡ is_endless {X = Y} (Err fault))
+fault_told X Y Memory = (refl, refl)
+fault_told X Y (Read error) = (refl, refl)
+fault_told X Y (Write error) = (refl, refl)
+fault_told X Y (Answer refused) = (refl, refl)
+fault_told X Y Endless = (refl, refl)
+
+pub told_on : (X Y : Type 0) {F : Type 0} (result : Result X (RecordFault F)) (fault : RecordFault F) → IsErrAnd result (λ told. told ≡ fault)
+    → (is_read_fault result ≡ is_read_fault {X = Y} (Err fault)) × (is_endless result ≡ is_endless {X = Y} (Err fault))
+told_on X Y (Ok x) fault is = absurd is
+told_on X Y {F} (Err told) fault is = subst (λ f. (is_read_fault {X = X} (Err told) ≡ is_read_fault {X = Y} (Err f)) × (is_endless {X = X} (Err told) ≡ is_endless {X = Y} (Err f))) is (fault_told X Y told)
 
 -- ---- the same in another sense of what a text of records is
 

@@ -4,6 +4,7 @@ use Rattle.std.proofs.KnownBytes.{Appends-kept, Appends-trans}
 use Rattle.std.proofs.Math.Seq.{take-add, take-length}
 use Rattle.std.specs.Io.KnownBytes.{Appends, Keeps}
 use Rattle.byte_streams.specs.Transfers.{AppendsFront}
+use Rattle.byte_streams.proofs.lemmas.StreamLemmas.{AppendsFront-whole}
 
 -- the text was written up to the place, and then `count` more bytes of it
 pub Appends-more : (a b c : Option (List ℕ)) (text : List ℕ) (at count : ℕ) → Appends a b (take at text) → Appends b c (take count (take (length text - at) (drop at text)))
@@ -24,3 +25,7 @@ pub Keeps-of_none : (a b : Option (List ℕ)) → Appends a b [] → Keeps a b
 Keeps-of_none None b h = tt
 Keeps-of_none (Some xs) None h = absurd h
 Keeps-of_none (Some xs) (Some ys) h = h ∙ append-nil xs
+
+-- a text was written whole, and then flushed
+pub flushed : (a b c : Option (List ℕ)) (text : List ℕ) → Appends a b text → Keeps b c → AppendsFront a c text
+flushed a b c text written kept = AppendsFront-whole a c text (Appends-kept a b c text written kept)

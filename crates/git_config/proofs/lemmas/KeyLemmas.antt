@@ -1,9 +1,10 @@
 -- Keys that are cut at a byte 0, and compared piece by piece.
-use Rattle.std.proofs.Common.{◌≡◌, ⊎_elim, ℕ, suc, ◌+◌, Bool, true, false, cond, not, eqb, List, [], ◌∷◌, ◌++◌, length, take, drop, refl, sym, ap, ◌∙◌, eq-eqb, arith}
+use Rattle.std.proofs.Common.{◌≡◌, ◌<◌, ◌≤◌, ⊎_elim, ℕ, suc, ◌+◌, Bool, true, false, cond, not, eqb, List, [], ◌∷◌, ◌++◌, length, take, drop, refl, sym, ap, ◌∙◌, append_assoc, eq-eqb, arith}
 use Rattle.std.specs.Prelude.{◌&&◌, ◌||◌, ◌==◌, nat_eq}
 use Rattle.std.specs.List.{list_any, position_or_len}
 use Rattle.std.specs.Str.{bytes_eq}
 use Rattle.std.proofs.lemmas.Bool.{cases_Bool, eqb-false, eqb-true, false≢true, ne_eqb}
+use Rattle.std.proofs.lemmas.List.{length-take-le, take-append-drop}
 use Rattle.git_config.specs.Grammar.{before_zero}
 use lib.Pointwise.{pointwise}
 
@@ -71,3 +72,31 @@ ne-stripped (x ∷ front) back (k ∷ key) h =
     ap (λ (t : Bool). nat_eq x k && t) (ne-stripped front back key rest) ∙ and_false (nat_eq x k))
     (λ (other : nat_eq k x ≡ false). ap (λ (t : Bool). t && bytes_eq (front ++ back) key) (ne_eqb x k (λ (e : x ≡ k). eqb-false k x other (sym e))))
     (cases_Bool (nat_eq k x))
+
+-- behind a front that is longer than the key, each text makes the same of it
+one_longer : (front a b key : List ℕ) → length key < length front → bytes_eq (before_zero (front ++ a)) key ≡ bytes_eq (before_zero (front ++ b)) key
+one_longer [] a b key h = absurd (omega (arith, h))
+one_longer (x ∷ front) a b [] h =
+    ⊎_elim
+    (λ (yes : is_zero x ≡ true). ap (λ (l : List ℕ). bytes_eq l []) (cut-zero x (front ++ a) yes ∙ sym (cut-zero x (front ++ b) yes)))
+    (λ (other : is_zero x ≡ false). ap (λ (l : List ℕ). bytes_eq l []) (cut-other x (front ++ a) other) ∙ sym (ap (λ (l : List ℕ). bytes_eq l []) (cut-other x (front ++ b) other)))
+    (cases_Bool (is_zero x))
+one_longer (x ∷ front) a b (k ∷ key) h =
+    let less : length key < length front = omega (arith, h) in
+    ⊎_elim
+    (λ (yes : is_zero x ≡ true). ap (λ (l : List ℕ). bytes_eq l (k ∷ key)) (cut-zero x (front ++ a) yes ∙ sym (cut-zero x (front ++ b) yes)))
+    (λ (other : is_zero x ≡ false).
+    ap (λ (l : List ℕ). bytes_eq l (k ∷ key)) (cut-other x (front ++ a) other)
+    ∙ ap (λ (t : Bool). nat_eq x k && t) (one_longer front a b key less)
+    ∙ sym (ap (λ (l : List ℕ). bytes_eq l (k ∷ key)) (cut-other x (front ++ b) other)))
+    (cases_Bool (is_zero x))
+
+-- of a front that is longer than the key no more counts than one byte more than the key has
+pub front_decides : (section name key : List ℕ) → length key < length section → bytes_eq (before_zero (take (length key + 1) section ++ name)) key ≡ bytes_eq (before_zero (section ++ name)) key
+front_decides section name key h =
+    let n = length key + 1 in let front = take n section in let back = drop n section in
+    let within : n ≤ length section = omega (arith, h) in
+    let is : length front ≡ n = length-take-le n section within in
+    let longer : length key < length front = omega (arith, is) in
+    one_longer front name (back ++ name) key longer
+    ∙ ap (λ (l : List ℕ). bytes_eq (before_zero l) key) (sym (append_assoc front back name) ∙ ap (λ (l : List ℕ). l ++ name) (take-append-drop n section))

@@ -5,13 +5,13 @@ use Rattle.std.specs.Int.{w32, to_be_bytes}
 use Rattle.std.specs.List.{starts_with}
 use Rattle.std.proofs.lemmas.Bool.{ltb-false, le-ltb}
 use Rattle.std.proofs.lemmas.Bool.Decides.{Decides-eqb}
-use Rattle.std.proofs.lemmas.List.{drop_at, length-append, length-drop, take_at, take-append-drop}
+use Rattle.std.proofs.lemmas.List.{length-append, length-drop, take_at, take-append-drop}
 use Rattle.std.proofs.lemmas.Slice.Eq.{starts_is}
-use Rattle.git_index.specs.declared.checksum.ObjectFormat.{ObjectFormat}
+use Rattle.git_index.specs.declared.object_format.ObjectFormat.{ObjectFormat}
 use Rattle.git_index.specs.declared.fault.IndexFault.{IndexFault}
 use Rattle.git_index.specs.declared.fault.IndexFault.TheVariants.{Cut, Signature, Version}
 use Rattle.git_index.specs.Entries.{Tracked}
-use Rattle.git_index.specs.Format.{HasRoom, IsChecksum, IsFile, hash_len}
+use Rattle.git_index.specs.Format.{HasRoom, IsFile, hash_len}
 use Rattle.git_index.specs.Private.Reading.{◌>>=◌, Finds, entries_at, header_at, number_at, room_of, skipped}
 use Rattle.git_index.proofs.lemmas.EntryLaws.{entries_again, entries_take}
 use Rattle.git_index.proofs.lemmas.Fields.{IsBytes, IsBytes-behind, IsBytes-front, IsBytes-take, bind_ok, guard_ok, number_again, number_takes, ok_is, skipped_again, wide32}
@@ -79,17 +79,15 @@ header_again version count rest low high few =
 -- ---- the whole file
 
 -- what a reader found, told by what it has in hand
-pub finds_by : (format : ObjectFormat) (bytes content checksum : List ℕ) (h : ℕ) (header : Header) (room : ℕ) (es : List Tracked) (extensions : List ℕ) → h ≡ hash_len format → 12 + h ≤ length bytes
-    → content ≡ take (length bytes - h) bytes → checksum ≡ drop (length bytes - h) bytes → header_at content ≡ Ok header → IsChecksum format content checksum → room ≡ room_of bytes
+pub finds_by : (format : ObjectFormat) (bytes content : List ℕ) (h : ℕ) (header : Header) (room : ℕ) (es : List Tracked) (extensions : List ℕ) → h ≡ hash_len format → 12 + h ≤ length bytes
+    → content ≡ take (length bytes - h) bytes → header_at content ≡ Ok header → room ≡ room_of bytes
     → entries_at header.0.0 h header.0.1 [] room header.1 ≡ Ok (es, extensions) → Finds format bytes es extensions
-finds_by format bytes content checksum h header room es extensions h_is long content_is checksum_is read checked room_is entries =
+finds_by format bytes content h header room es extensions h_is long content_is read room_is entries =
     let c : content ≡ take (length bytes - hash_len format) bytes = content_is ∙ ap (λ (n : ℕ). take (length bytes - n) bytes) h_is in
-    let s : checksum ≡ drop (length bytes - hash_len format) bytes = checksum_is ∙ ap (λ (n : ℕ). drop (length bytes - n) bytes) h_is in
     record {
       long = subst (λ (n : ℕ). 12 + n ≤ length bytes) h_is long;
       header = header;
       header_is = subst (λ (w : List ℕ). header_at w ≡ Ok header) c read;
-      checked = subst (λ (w : List ℕ). IsChecksum format w (drop (length bytes - hash_len format) bytes)) c (subst (λ (w : List ℕ). IsChecksum format content w) s checked);
       entries_are = subst (λ (n : ℕ). entries_at header.0.0 n header.0.1 [] (room_of bytes) header.1 ≡ Ok (es, extensions)) h_is (subst (λ (n : ℕ). entries_at header.0.0 h header.0.1 [] n header.1 ≡ Ok (es, extensions)) room_is entries);
     }
 
@@ -116,7 +114,7 @@ found_is_file format bytes es extensions fits f =
       content = content;
       content_is = counted;
       checksum = drop n bytes;
-      checked = (omega (arith, length-drop n bytes, f.long), f.checked);
+      checksum_len = omega (arith, length-drop n bytes, f.long);
       joined = sym (take-append-drop n bytes);
     }
 
@@ -127,10 +125,9 @@ content_len version count rest content e =
 pub file_is_found : (format : ObjectFormat) (bytes : List ℕ) (es : List Tracked) (extensions : List ℕ) → IsBytes bytes → IsFile format bytes es extensions → HasRoom bytes es → Finds format bytes es extensions
 file_is_found format bytes es extensions fits f room =
     let h = hash_len format in
-    let len : length bytes ≡ length f.content + h = omega (arith, ap length f.joined, length-append f.content f.checksum, f.checked.0) in
+    let len : length bytes ≡ length f.content + h = omega (arith, ap length f.joined, length-append f.content f.checksum, f.checksum_len) in
     let n : length f.content ≡ length bytes - h = omega (arith, len) in
     let content_is : take (length bytes - h) bytes ≡ f.content = ap (take (length bytes - h)) f.joined ∙ take_at f.content f.checksum (length bytes - h) n in
-    let checksum_is : drop (length bytes - h) bytes ≡ f.checksum = ap (drop (length bytes - h)) f.joined ∙ drop_at f.content f.checksum (length bytes - h) n in
     let content_fits = IsBytes-front f.content f.checksum bytes f.joined fits in
     let rest = f.texts ++ extensions in
     let f0 = IsBytes-behind (codes "DIRC") (to_be_bytes w32 f.version ++ (to_be_bytes w32 (length es) ++ rest)) f.content f.content_is content_fits in
@@ -142,6 +139,5 @@ file_is_found format bytes es extensions fits f room =
       long = omega (arith, len, long);
       header = ((f.version, length es), rest);
       header_is = ap header_at (content_is ∙ f.content_is) ∙ header_again f.version (length es) rest f.known.0 f.known.1 f.known.2;
-      checked = rw (content_is, checksum_is) f.checked.1;
       entries_are = entries_again f.version h [] es (room_of bytes) f.texts extensions texts_fit f.each room;
     }

@@ -7,7 +7,7 @@ use Rattle.std.proofs.lemmas.Bool.{false≢true, ltb-false, le-ltb}
 use Rattle.std.proofs.lemmas.Bool.Decides.{Decides-eqb}
 use Rattle.std.proofs.lemmas.List.{drop_at, length-append, length-take, take_at, take-append-drop}
 use Rattle.std.proofs.lemmas.Slice.Eq.{starts_is}
-use Rattle.git_index.specs.declared.checksum.ObjectFormat.{ObjectFormat}
+use Rattle.git_index.specs.declared.object_format.ObjectFormat.{ObjectFormat}
 use Rattle.git_index.specs.declared.fault.IndexFault.{IndexFault}
 use Rattle.git_index.specs.declared.fault.IndexFault.TheVariants.{Cut, Link, Memory}
 use Rattle.git_index.specs.declared.link.Link.{Link as LinkParts}

@@ -2,13 +2,13 @@
 use Rattle.std.specs.Prelude.{◌≡◌, ◌⊎◌, ℕ, zero, suc, ◌+◌, ◌-◌, ◌*◌, ◌/◌, ◌%◌, ◌^◌, ◌<◌, ◌≤◌, Bool, true, false, ◌==◌, ◌&&◌, ◌||◌, nat_lt, nat_eq, nat_le, not, if◌then◌else◌, List, [], ◌∷◌, ◌++◌, length, take, drop, Option, None, Some, Result, Ok, Err, codes, min, count_by}
 use Rattle.std.specs.List.{list_all, starts_with}
 use Rattle.std.specs.Int.{Width, w16, w32, w64, byte_len, from_be_bytes}
-use Rattle.git_index.specs.declared.checksum.ObjectFormat.{ObjectFormat}
+use Rattle.git_index.specs.declared.object_format.ObjectFormat.{ObjectFormat}
 use Rattle.git_index.specs.declared.entry.Kind.{Kind}
 use Rattle.git_index.specs.declared.entry.Kind.TheVariants.{File, Executable, Link, Submodule}
 use Rattle.git_index.specs.declared.fault.IndexFault.{IndexFault}
 use Rattle.git_index.specs.declared.fault.IndexFault.TheVariants.{Memory, Signature, Version, Cut, Mode, Flags, Path, PathsTooLong, Extension, Sparse, Link as LinkFault, Position, Replacements}
 use Rattle.git_index.specs.Entries.{Tracked}
-use Rattle.git_index.specs.Format.{hash_len, ArePassedOver, IsChecksum, extension_text}
+use Rattle.git_index.specs.Format.{hash_len, ArePassedOver, extension_text}
 use Rattle.git_index.specs.Split.{bits_of, due_after, named, put_in, replaced_by, unmarked}
 
 infixl 10 ◌>>=◌
@@ -166,7 +166,6 @@ pub record Finds (format : ObjectFormat) (bytes : List ℕ) (entries : List Trac
   pub long : 12 + hash_len format ≤ length bytes
   pub header : (ℕ × ℕ) × List ℕ
   pub header_is : header_at (take (length bytes - hash_len format) bytes) ≡ Ok header
-  pub checked : IsChecksum format (take (length bytes - hash_len format) bytes) (drop (length bytes - hash_len format) bytes)
   pub entries_are : entries_at header.0.0 (hash_len format) header.0.1 [] (room_of bytes) header.1 ≡ Ok (entries, extensions)
 
 -- ---- bitmaps

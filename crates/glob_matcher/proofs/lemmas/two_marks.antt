@@ -13,5 +13,6 @@ pub mod Scans
 pub mod SlashesAhead
 pub mod Findings
 pub mod Turns
+pub mod Fronts
 pub mod Texts
 pub mod LastByte

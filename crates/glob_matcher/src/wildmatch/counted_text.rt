@@ -2,13 +2,15 @@
 //!
 //! This module alone sees the slices of a match, and it hands out none: whoever has a text reads a byte of it in a look that
 //! its ledger counts, or not at all.
-ghost use Rattle.std.specs.Prelude.{◌≡◌, ◌<◌, ◌≤◌, ◌+◌, ◌-◌, MatchOption, length, slice_index};
+ghost use Rattle.std.specs.Prelude.{◌≡◌, ◌<◌, ◌≤◌, ◌+◌, ◌-◌, ◌*◌, MatchOption, length, slice_index};
 ghost use Rattle.glob_matcher.specs.Bytes.{HasByte};
-ghost use Rattle.glob_matcher.specs.Private.Finding.{HasComeTo};
+ghost use Rattle.glob_matcher.specs.Private.Finding.{HasComeTo, IsLiteralFront, places_compared};
 ghost use Rattle.glob_matcher.specs.Private.Takes.{TakesExactly, looks_at};
 
 use super::any_of::AnyOf;
+use super::spans::literal_front;
 use super::steps::Steps;
+use super::way::Way;
 use std::marker::{Model, PhantomData};
 use std::sync::ledger::Ledger;
 
@@ -103,5 +105,25 @@ impl<'a, L: Ledger> CountedText<'a, L> {
                 (from + passed, Some(self.bytes[from + passed]))
             }
         }
+    }
+
+    /// How many bytes at the front of a pattern are tokens by themselves, and no slash, and alike in the value, in a step and two
+    /// looks at each place up to there, and at the one that ends them.
+    #[inline(always)]
+    pub(super) fn literal_front(
+        &self,
+        value: &CountedText<'a, L>,
+        way: Way,
+        counts: &mut Steps<L>,
+    ) -> usize
+        ensures front { IsLiteralFront way self.now value.now result }
+        ensures count { TakesExactly counts.old counts.new (places_compared self.now value.now result) (2 * places_compared self.now value.now result) }
+    {
+        let passed = literal_front(self.bytes, value.bytes, way);
+        let compared = (passed + 1).min(self.bytes.len().min(value.bytes.len()));
+        counts.steps(compared);
+        counts.looks(compared);
+        counts.looks(compared);
+        passed
     }
 }

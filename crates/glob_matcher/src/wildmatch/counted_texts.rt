@@ -2,7 +2,7 @@
 //! `counted_value`.
 ghost use Rattle.std.specs.Prelude.{◌≡◌, ◌<◌, ◌≤◌, ◌+◌, ◌-◌, ◌*◌, MatchOption, length, slice_index};
 ghost use Rattle.glob_matcher.specs.Bytes.{HasByte};
-ghost use Rattle.glob_matcher.specs.Private.Finding.{HasComeTo};
+ghost use Rattle.glob_matcher.specs.Private.Finding.{HasComeTo, IsLiteralFront, places_compared};
 ghost use Rattle.glob_matcher.specs.Private.Takes.{TakesExactly, looks_at};
 
 use super::any_of::AnyOf;
@@ -10,6 +10,7 @@ use super::counted_text::CountedText;
 use super::counted_value::CountedValue;
 use super::steps::Steps;
 use super::texts::Texts;
+use super::way::Way;
 use std::marker::{Model, PhantomData};
 use std::sync::ledger::Ledger;
 
@@ -149,5 +150,14 @@ impl<'c, 'a, L: Ledger, M: Texts> CountedTexts<'c, 'a, L, M> {
         ensures count { TakesExactly self.old self.new (2 * (result.0 - from) + looks_at result.1) (result.0 - from + looks_at result.1) }
     {
         self.value.find(from, wanted, self.counts)
+    }
+
+    /// How many bytes at the front of the pattern are tokens by themselves, and no slash, and alike in the value.
+    #[inline(always)]
+    pub(super) fn literal_front(&mut self, way: Way) -> usize
+        ensures front { IsLiteralFront way M.pattern M.value result }
+        ensures count { TakesExactly self.old self.new (places_compared M.pattern M.value result) (2 * places_compared M.pattern M.value result) }
+    {
+        self.value.literal_front(&self.pattern, way, self.counts)
     }
 }

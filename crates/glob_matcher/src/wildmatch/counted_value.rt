@@ -1,12 +1,13 @@
 //! What can read a byte of the value of a match: each look at it is a step, too.
 ghost use Rattle.std.specs.Prelude.{◌≡◌, ◌<◌, ◌≤◌, ◌+◌, ◌-◌, ◌*◌, MatchOption, length, slice_index};
 ghost use Rattle.glob_matcher.specs.Bytes.{HasByte};
-ghost use Rattle.glob_matcher.specs.Private.Finding.{HasComeTo};
+ghost use Rattle.glob_matcher.specs.Private.Finding.{HasComeTo, IsLiteralFront, places_compared};
 ghost use Rattle.glob_matcher.specs.Private.Takes.{TakesExactly, looks_at};
 
 use super::any_of::AnyOf;
 use super::counted_text::CountedText;
 use super::steps::Steps;
+use super::way::Way;
 use std::marker::Model;
 use std::sync::ledger::Ledger;
 
@@ -97,5 +98,19 @@ impl<'a, L: Ledger> CountedValue<'a, L> {
                 (at, Some(byte))
             }
         }
+    }
+
+    /// How many bytes at the front of a pattern are tokens by themselves, and no slash, and alike in the value.
+    #[inline(always)]
+    pub(super) fn literal_front(
+        &self,
+        pattern: &CountedText<'a, L>,
+        way: Way,
+        counts: &mut Steps<L>,
+    ) -> usize
+        ensures front { IsLiteralFront way pattern.now self.now result }
+        ensures count { TakesExactly counts.old counts.new (places_compared pattern.now self.now result) (2 * places_compared pattern.now self.now result) }
+    {
+        pattern.literal_front(&self.text, way, counts)
     }
 }

@@ -89,14 +89,16 @@ impl<'c, 'a, L: Ledger, M: Texts> Engine<'c, 'a, L, M> {
         ensures count { IsSetPaid self.old self.new place (read_end M.pattern result) }
         ensures looked { IfSome result (λ set. self.old.looks + 1 < self.new.looks) }
     {
-        let byte = self.value_at(at);
-        let Some(SetRead { end, holds }) = self.set_apart(place, byte.unwrap_or(0)) else {
-            return None;
-        };
-        Some(SetRead {
-            end,
-            holds: byte.is_some() && holds,
-        })
+        match self.value_at(at) {
+            Some(byte) => self.set_apart(place, byte),
+            None => match self.set_apart(place, 0) {
+                Some(set) => Some(SetRead {
+                    holds: false,
+                    ..set
+                }),
+                None => None,
+            },
+        }
     }
 
     /// Tests a token that matches nothing: it fits no byte, and none is read.

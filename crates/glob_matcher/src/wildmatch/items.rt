@@ -1,48 +1,9 @@
 //! What a bracket set holds: its items, each of them a byte, a range or a class. How a set is read is in `sets`.
-ghost use Rattle.std.specs.Prelude.{◌≡◌, ◌<◌, [], ◌∷◌, ◌++◌, length, MatchOption};
+ghost use Rattle.std.specs.Prelude.{◌≡◌, MatchOption};
 ghost use Rattle.glob_matcher.specs.declared.wildmatch.items.Class.{Class};
 ghost use Rattle.glob_matcher.specs.Sets.{capital_lies, class_holds, is_between, item_holds, member_of, name_of, range_holds};
 
 use super::way::Way;
-use std::marker::Model;
-
-/// A name of a class as it is read, byte by byte. It holds no reference, and no more bytes than the longest name has.
-#[derive(Drop)]
-pub struct ClassName {
-    bytes: [u8; 6],
-    len: usize,
-}
-
-impl Model for ClassName {
-    ghost use Rattle.std.specs.Prelude.{ℕ, ◌≤◌, List, take};
-
-    ghost Value = { List ℕ };
-
-    ghost view = { λ n. take n.len n.bytes };
-
-    ghost invariant = { λ n. n.len ≤ 6 };
-}
-
-impl ClassName {
-    /// No byte yet.
-    pub fn new() -> ClassName
-        ensures { result ≡ [] }
-    {
-        ClassName {
-            bytes: [0; 6],
-            len: 0,
-        }
-    }
-
-    /// Adds a byte.
-    pub fn push(&mut self, byte: u8)
-        requires { length self.old < 6 }
-        ensures { self.new ≡ self.old ++ byte ∷ [] }
-    {
-        self.bytes[self.len] = byte;
-        self.len += 1;
-    }
-}
 
 /// A class of bytes that a set names between `[:` and `:]`.
 #[derive(Debug, Copy, Clone, Eq, PartialEq)]
@@ -74,10 +35,11 @@ pub enum Item {
 
 impl Class {
     /// The class of a name, where there is one.
-    pub fn named(name: ClassName) -> Option<Class>
-        ensures { MatchOption result ((class : Class) → ¬ (name ≡ name_of class)) (λ class. name ≡ name_of class) }
+    #[inline(always)]
+    pub fn named(name: &[u8]) -> Option<Class>
+        ensures { MatchOption result ((class : Class) → ¬ (name.now ≡ name_of class)) (λ class. name.now ≡ name_of class) }
     {
-        match &name.bytes[..name.len] {
+        match name {
             b"alnum" => Some(Class::Alnum),
             b"alpha" => Some(Class::Alpha),
             b"blank" => Some(Class::Blank),

@@ -120,4 +120,20 @@ impl<'c, 'a, L: Ledger, M: Texts> Engine<'c, 'a, L, M> {
         }
         Scan::Undecided(reached)
     }
+
+    /// The same byte by byte, without the call that a search takes: what has seldom far to go keeps its registers.
+    #[inline(always)]
+    pub fn scan_near<N: Needle, B: Barrier>(&mut self, mark: Mark, needle: N, barrier: B) -> Scan
+        requires { mark.at ≤ length M.value }
+        ensures { IsScan M.value (N.suits needle) B.stops mark result self.old self.new }
+    {
+        let mut reached = mark;
+        'bytes: while self.has_left(reached, 1) {
+            match self.try_place(reached, needle, barrier) {
+                Scan::Undecided(moved) => reached = moved,
+                ended => return ended,
+            }
+        }
+        Scan::Undecided(reached)
+    }
 }

@@ -4,6 +4,7 @@ ghost use Rattle.std.specs.Prelude.{◌≡◌, ◌<◌, IfSome, []};
 ghost use Rattle.glob_matcher.specs.Bytes.{HasByte, open_bracket};
 ghost use Rattle.glob_matcher.specs.Private.Looks.{LookedOver, read_end};
 ghost use Rattle.glob_matcher.specs.Private.Reader.{IsSetRead};
+ghost use Rattle.glob_matcher.specs.Private.SetAnswers.{set_of};
 
 use super::counted_text::CountedText;
 use super::counted_texts::CountedTexts;
@@ -16,6 +17,43 @@ use super::way::Way;
 use std::marker::Brand;
 use std::sync::ledger::Ledger;
 
+/// What is read of a set, as two registers hand it over; an `Option<SetRead>` would go through memory.
+#[derive(Clone, Copy)]
+pub enum SetAnswer {
+    /// A set ends at this place, and holds the byte.
+    Holds(usize),
+    /// A set ends at this place, and doesn't hold the byte.
+    Lacks(usize),
+    /// No set begins.
+    NoSet,
+}
+
+impl SetAnswer {
+    /// The answer that hands this over.
+    #[inline(always)]
+    fn of(read: Option<SetRead>) -> SetAnswer
+        ensures { set_of result ≡ read }
+    {
+        match read {
+            Some(SetRead { end, holds: true }) => SetAnswer::Holds(end),
+            Some(SetRead { end, holds: false }) => SetAnswer::Lacks(end),
+            None => SetAnswer::NoSet,
+        }
+    }
+
+    /// What is handed over.
+    #[inline(always)]
+    fn read(self) -> Option<SetRead>
+        ensures { result ≡ set_of self }
+    {
+        match self {
+            SetAnswer::Holds(end) => Some(SetRead { end, holds: true }),
+            SetAnswer::Lacks(end) => Some(SetRead { end, holds: false }),
+            SetAnswer::NoSet => None,
+        }
+    }
+}
+
 impl<'c, 'a, L: Ledger, M: Texts> Engine<'c, 'a, L, M> {
     /// Reads the set whose bracket stands at a place of the pattern, apart from this engine; `None` where no set begins.
     #[inline(always)]
@@ -27,13 +65,32 @@ impl<'c, 'a, L: Ledger, M: Texts> Engine<'c, 'a, L, M> {
     {
         let way = self.way();
         let texts = &mut self.texts;
-        read_set::<L, Brand>(texts.pattern.again(), place, byte, way, &mut *texts.counts).0
+        read_set::<L, M>(texts.pattern.again(), place, byte, way, &mut *texts.counts).read()
     }
 }
 
-/// Reads a set by an engine without a value, and hands the counts back.
+/// Reads a set, out of line.
 #[inline(never)]
-fn read_set<'c, 'a, L: Ledger, M: Texts>(
+fn read_set<'a, L: Ledger, M: Texts>(
+    pattern: CountedText<'a, L>,
+    place: usize,
+    byte: u8,
+    way: Way,
+    counts: &mut Steps<L>,
+) -> SetAnswer
+    requires pattern { pattern ≡ M.pattern }
+    requires way { way ≡ M.way }
+    requires bracket { HasByte M.pattern place open_bracket }
+    ensures read { IsSetRead M.way M.pattern place byte (set_of result) }
+    ensures count { LookedOver 4 counts.old counts.new place (read_end M.pattern (set_of result)) }
+    ensures looked { IfSome (set_of result) (λ set. counts.old.looks < counts.new.looks) }
+{
+    SetAnswer::of(read_by::<L, Brand>(pattern, place, byte, way, counts).0)
+}
+
+/// Reads a set by an engine without a value, and hands the counts back.
+#[inline(always)]
+fn read_by<'c, 'a, L: Ledger, M: Texts>(
     pattern: CountedText<'a, L>,
     place: usize,
     byte: u8,

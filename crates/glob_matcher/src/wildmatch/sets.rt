@@ -6,14 +6,15 @@ ghost use Rattle.std.specs.Prelude.{◌↔◌, ℕ, false, ◌+◌, ◌-◌, ◌
 ghost use Rattle.glob_matcher.specs.Bytes.{HasByte, IsEscaped, folds, open_bracket, backslash};
 ghost use Rattle.glob_matcher.specs.Private.Spelling.{close_bracket, colon, dash, IsSign};
 ghost use Rattle.glob_matcher.specs.declared.wildmatch.items.Class.{Class};
+ghost use Rattle.glob_matcher.specs.declared.wildmatch.items.Item.{Item};
 ghost use Rattle.glob_matcher.specs.Steps.{Counts};
-ghost use Rattle.glob_matcher.specs.Sets.{BeginsRange, BeginsClass, IsFirstFrom, IsUpperEnd, name_of};
+ghost use Rattle.glob_matcher.specs.Sets.{BeginsRange, BeginsClass, IsFirstFrom, IsUpperEnd, item_holds, name_of};
 ghost use Rattle.glob_matcher.specs.Private.Takes.{Takes, TakesExactly, looks_at};
 ghost use Rattle.glob_matcher.specs.Private.Looks.{LookedAtEach, LookedOver, IsItemRead, IsKnown, IsPaidFor, IsPartPaid, read_end, search_front};
 ghost use Rattle.glob_matcher.specs.Private.Reader.{IsNextItem, IsPartRead, IsPlainByte, IsSetRead, after_item, first_item, part_holds, part_opened, part_past};
 
 use super::engine::Engine;
-use super::items::{Class, ClassName, Item};
+use super::items::{Class, Item};
 use super::texts::Texts;
 use super::way::Way;
 use std::sync::ledger::Ledger;
@@ -124,7 +125,7 @@ impl SetPart {
         ensures { result ≡ part_past way byte self spelled }
     {
         SetPart {
-            is_held: self.is_held || spelled.item.holds(byte, way),
+            is_held: self.is_held | spelled.item.holds(byte, way),
             cursor: spelled.onward(),
             ..self
         }
@@ -138,15 +139,6 @@ impl SetPart {
     {
         !(way.is_path() && byte == b'/') && self.is_held != self.is_negated
     }
-}
-
-/// Whether a byte of a set is a member by itself, whatever stands around it.
-#[inline(always)]
-fn is_plain(byte: u8) -> bool
-    ensures { IsTrue result → IsPlainByte byte }
-{
-    // most are letters, which lie past the brackets
-    byte > b']' || (byte < b'[' && byte != b'-')
 }
 
 impl<'c, 'a, L: Ledger, M: Texts> Engine<'c, 'a, L, M> {
@@ -227,30 +219,45 @@ impl<'c, 'a, L: Ledger, M: Texts> Engine<'c, 'a, L, M> {
         self.pattern_byte(end - 1) == b':'
     }
 
-    /// The class that the bytes from one place up to another name, in a look at each. No class has a name longer than six bytes,
-    /// so of a longer one none is looked at.
+    /// The class that the bytes from one place up to another name, in a look at each. No class has a name of other than five or
+    /// six bytes, so of another none is looked at.
+    #[inline(always)]
     fn class_named(&mut self, from: usize, to: usize) -> Option<Class>
         requires order { from ≤ to }
         requires inside { to ≤ length M.pattern }
         ensures class { MatchOption result ((class : Class) → ¬ (slice_range M.pattern from to ≡ name_of class))
             (λ class. slice_range M.pattern from to ≡ name_of class) }
         ensures count { Takes self.old self.new 0 (to - from) }
-        ensures each { to ≤ from + 6 → LookedAtEach self.old self.new from to }
     {
-        if to - from > 6 {
-            return None;
+        match to - from {
+            5 => {
+                let name = [
+                    self.pattern_byte(from),
+                    self.pattern_byte(from + 1),
+                    self.pattern_byte(from + 2),
+                    self.pattern_byte(from + 3),
+                    self.pattern_byte(from + 4),
+                ];
+                Class::named(&name)
+            }
+            6 => {
+                let name = [
+                    self.pattern_byte(from),
+                    self.pattern_byte(from + 1),
+                    self.pattern_byte(from + 2),
+                    self.pattern_byte(from + 3),
+                    self.pattern_byte(from + 4),
+                    self.pattern_byte(from + 5),
+                ];
+                Class::named(&name)
+            }
+            _ => None,
         }
-        let mut name = ClassName::new();
-        let mut place = from;
-        'bytes: while place < to {
-            name.push(self.pattern_byte(place));
-            place += 1;
-        }
-        Class::named(name)
     }
 
     /// The class that begins with the `[:` at this place, or a lone `[` where the first `]` ends no class. `None` where there
     /// is no `]`, or no class of that name.
+    #[inline(always)]
     fn class_at(&mut self, place: usize, close: Option<usize>) -> Option<Spelled>
         requires begins { BeginsClass M.pattern place }
         requires known { IsKnown M.pattern place close }
@@ -297,6 +304,7 @@ impl<'c, 'a, L: Ledger, M: Texts> Engine<'c, 'a, L, M> {
     }
 
     /// The range whose `-` stands at this place.
+    #[inline(always)]
     fn range_at(&mut self, from: u8, place: usize, close: Option<usize>) -> Option<Spelled>
         requires begins { BeginsRange M.pattern (Some from) place }
         requires known { IsKnown M.pattern place close }
@@ -313,6 +321,7 @@ impl<'c, 'a, L: Ledger, M: Texts> Engine<'c, 'a, L, M> {
     }
 
     /// The range that begins with the `-` at this place, or a `-` alone.
+    #[inline(always)]
     fn dash_at(&mut self, low: Option<u8>, place: usize, close: Option<usize>) -> Option<Spelled>
         requires here { HasByte M.pattern place dash }
         requires known { IsKnown M.pattern place close }
@@ -338,6 +347,7 @@ impl<'c, 'a, L: Ledger, M: Texts> Engine<'c, 'a, L, M> {
     }
 
     /// The class that begins with the `[` at this place, or a `[` alone.
+    #[inline(always)]
     fn bracket_at(&mut self, low: Option<u8>, place: usize, close: Option<usize>) -> Option<Spelled>
         requires here { HasByte M.pattern place open_bracket }
         requires known { IsKnown M.pattern place close }
@@ -354,6 +364,7 @@ impl<'c, 'a, L: Ledger, M: Texts> Engine<'c, 'a, L, M> {
     }
 
     /// The member that the backslash at this place escapes.
+    #[inline(always)]
     fn escape_at(&mut self, place: usize, close: Option<usize>) -> Option<Spelled>
         requires here { HasByte M.pattern place backslash }
         requires known { IsKnown M.pattern place close }
@@ -370,6 +381,7 @@ impl<'c, 'a, L: Ledger, M: Texts> Engine<'c, 'a, L, M> {
     }
 
     /// The item where the cursor stands, at this byte.
+    #[inline(always)]
     fn item_at(&mut self, cursor: Cursor, byte: u8) -> Option<Spelled>
         requires here { HasByte M.pattern cursor.place byte }
         requires known { IsKnown M.pattern cursor.place cursor.close }
@@ -388,6 +400,7 @@ impl<'c, 'a, L: Ledger, M: Texts> Engine<'c, 'a, L, M> {
     }
 
     /// What stands where the cursor stands.
+    #[inline(always)]
     fn next_item(&mut self, cursor: Cursor) -> NextItem
         requires inside { cursor.place ≤ length M.pattern }
         requires known { IsKnown M.pattern cursor.place cursor.close }
@@ -412,7 +425,8 @@ impl<'c, 'a, L: Ledger, M: Texts> Engine<'c, 'a, L, M> {
         ensures answer { IsTrue result ↔ IsSign M.pattern place }
         ensures count { Takes self.old self.new 0 1 }
     {
-        matches!(self.look_at(place), Some(b'!' | b'^'))
+        // most sets begin with a letter, which lies past both signs
+        matches!(self.look_at(place), Some(byte) if byte <= b'^' && (byte == b'!' || byte == b'^'))
     }
 
     /// What is read of a set before its first item: its bracket stands at this place.
@@ -460,6 +474,26 @@ impl<'c, 'a, L: Ledger, M: Texts> Engine<'c, 'a, L, M> {
         }
     }
 
+    /// What is read once the next item is, which is this byte by itself.
+    #[inline(always)]
+    fn past_plain_member(&mut self, part: SetPart, member: u8, byte: u8) -> SetPart
+        requires case { folds M.way ≡ false }
+        requires read { IsPartRead M.way M.pattern byte part }
+        requires here { HasByte M.pattern part.cursor.place member }
+        requires plain { IsPlainByte member }
+        ensures read { IsPartRead M.way M.pattern byte result }
+        ensures place { result.place ≡ part.place }
+        ensures onward { part.cursor.place < result.cursor.place }
+        ensures paid { (before : Counts) → IsPartPaid 2 before self.old part → IsPartPaid 3 before self.new result }
+    {
+        let spelled = Spelled {
+            item: Item::Member(member),
+            next: part.cursor.place + 1,
+            close: part.cursor.close,
+        };
+        part.past(spelled, byte, Way::Plain)
+    }
+
     /// What is read once the next item is, if it is a member that is spelled by itself, or a range of two such.
     #[inline(always)]
     fn past_plain_item(&mut self, part: SetPart, byte: u8) -> Option<SetPart>
@@ -474,32 +508,29 @@ impl<'c, 'a, L: Ledger, M: Texts> Engine<'c, 'a, L, M> {
         let Some(next) = self.look_at(part.cursor.place) else {
             return None;
         };
-        if is_plain(next) {
-            let member = Spelled {
-                item: Item::Member(next),
-                next: part.cursor.place + 1,
-                close: part.cursor.close,
-            };
-            return Some(part.past(member, byte, Way::Plain));
+        // most are letters, which lie past the brackets
+        if next > b']' {
+            return Some(self.past_plain_member(part, next, byte));
         }
-        if next != b'-' {
+        if next == b'-' {
+            return self.past_plain_range(part, byte);
+        }
+        if next >= b'[' {
             return None;
         }
-        self.past_plain_range(part, byte)
+        Some(self.past_plain_member(part, next, byte))
     }
 
-    /// Reads the items of a set up to the first that isn't plain, where case counts. Most sets have no other items, and a loop
+    /// Reads the items of a set up to the first that isn't plain. Most sets have no other items, and a loop
     /// that reads no others is short.
     #[inline(always)]
     fn plain_part(&mut self, first: SetPart, byte: u8) -> SetPart
-        requires { IsPartRead M.way M.pattern byte first }
+        requires case { folds M.way ≡ false }
+        requires read { IsPartRead M.way M.pattern byte first }
         ensures read { IsPartRead M.way M.pattern byte result }
         ensures place { result.place ≡ first.place }
         ensures count { (before : Counts) → IsPartPaid 3 before self.old first → IsPartPaid 1 before self.new result }
     {
-        if self.folds() {
-            return first;
-        }
         let mut part = first;
         'items: while let Some(next) = self.past_plain_item(part, byte) {
             part = next;
@@ -517,23 +548,24 @@ impl<'c, 'a, L: Ledger, M: Texts> Engine<'c, 'a, L, M> {
         !cursor.is_first && matches!(self.look_at(cursor.place), Some(b']'))
     }
 
-    /// Reads the rest of a set for this byte; `None` where it doesn't close.
+    /// Reads the rest of a set for this byte, in a way that holds in an item what this match does; `None` where it doesn't close.
     #[inline(always)]
-    fn rest_of_set(&mut self, first: SetPart, byte: u8) -> Option<SetRead>
-        requires { IsPartRead M.way M.pattern byte first }
+    fn rest_of_set(&mut self, first: SetPart, byte: u8, way: Way) -> Option<SetRead>
+        requires read { IsPartRead M.way M.pattern byte first }
+        requires alike { (item : Item) → item_holds way byte item ≡ item_holds M.way byte item }
         ensures read { IsSetRead M.way M.pattern first.place byte result }
         ensures count { (before : Counts) → IsPartPaid 0 before self.old first → LookedOver 4 before self.new first.place (read_end M.pattern result) }
         ensures looked { IfSome result (λ set. self.old.looks < self.new.looks) }
     {
-        let way = self.way();
         let mut part = first;
         'items: loop {
             match self.next_item(part.cursor) {
                 NextItem::Item(spelled) => part = part.past(spelled, byte, way),
                 NextItem::Close => {
+                    let holds = part.holds(byte, self.way());
                     return Some(SetRead {
                         end: part.cursor.place + 1,
-                        holds: part.holds(byte, way),
+                        holds,
                     });
                 }
                 NextItem::Broken => return None,
@@ -550,6 +582,9 @@ impl<'c, 'a, L: Ledger, M: Texts> Engine<'c, 'a, L, M> {
         ensures looked { IfSome result (λ set. self.old.looks < self.new.looks) }
     {
         let opening = self.set_opening(place);
+        if self.folds() {
+            return self.rest_of_set(opening, byte, self.way());
+        }
         let part = self.plain_part(opening, byte);
         if self.closes_at(part.cursor) {
             return Some(SetRead {
@@ -557,6 +592,6 @@ impl<'c, 'a, L: Ledger, M: Texts> Engine<'c, 'a, L, M> {
                 holds: part.holds(byte, self.way()),
             });
         }
-        self.rest_of_set(part, byte)
+        self.rest_of_set(part, byte, Way::Plain)
     }
 }

@@ -119,7 +119,7 @@ impl<'c, 'a, L: Ledger, M: Texts> Engine<'c, 'a, L, M> {
                 ..state
             });
         }
-        match self.scan(mark, ExactByte(b'/'), NoBarrier) {
+        match self.scan_near(mark, ExactByte(b'/'), NoBarrier) {
             Scan::Blocked(_) => Turn::NoMatch,
             Scan::Undecided(end) => Turn::On(State {
                 place: end.place(),

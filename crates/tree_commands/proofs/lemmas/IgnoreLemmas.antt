@@ -19,7 +19,7 @@ use Rattle.pathspecs.specs.Leading.{word_front, word_leads}
 use Rattle.git_paths.specs.declared.standpoint.Standpoint.{Standpoint}
 use Rattle.git_paths.specs.Paths.{parts_of, walk}
 use Rattle.git_paths.specs.Standpoints.{is_absolute, led}
-use Rattle.tracked_paths.specs.Holding.{IsHeld, LiesIn, LiesInSubmodule}
+use Rattle.git_index.specs.Holding.{IsHeld, LiesIn, LiesInSubmodule}
 use Rattle.tree_answers.specs.Lines.{Decision}
 use Rattle.tree_commands.specs.declared.check_ignore.flags.IgnoreFlags.{IgnoreFlags}
 use Rattle.tree_answers.specs.declared.records.NameFault.TheVariants as name

@@ -13,7 +13,7 @@ use Rattle.glob_trees.specs.TreeParts.{StandAt, TreeParts}
 use Rattle.glob_trees.specs.Trees.{DecidesInTree}
 use Rattle.glob_trees.specs.Ways.{AreOnTheWay, Folder, GoesOn}
 use Rattle.tree_answers.specs.Lines.{Decision}
-use Rattle.tracked_paths.specs.Holding.{IsHeld, LiesInSubmodule}
+use Rattle.git_index.specs.Holding.{IsHeld, LiesInSubmodule}
 use Rattle.tree_commands.specs.CheckIgnore.{LeadsTo, Question, told_path}
 use Rattle.tree_commands.specs.Tops.{DecidesForTop}
 

@@ -3,7 +3,7 @@ use Rattle.std.specs.Prelude.{◌≡◌, List, Option, None, Some}
 use Rattle.git_index.specs.Entries.{Tracked}
 use Rattle.gix_glob.specs.declared.pattern.Case.{Case}
 use Rattle.gix_glob.specs.declared.pattern.Case.TheVariants.{Sensitive, Fold}
-use Rattle.tracked_paths.specs.Folding.{AreAlike}
+use Rattle.git_index.specs.Folding.{AreAlike}
 use denote.Ref.{Bor}
 
 -- case counts where there are no paths without it

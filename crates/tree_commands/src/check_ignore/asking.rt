@@ -13,7 +13,7 @@ ghost use Rattle.pathspecs.specs.Leading.{word_names_folder};
 ghost use Rattle.pathspecs.specs.Spelling.{Spelt, seen, spelt_by};
 ghost use Rattle.git_paths.specs.declared.quoting.Quoting.TheVariants.{Full};
 ghost use Rattle.git_paths.specs.Quoting.{is_unusual};
-ghost use Rattle.tracked_paths.specs.Holding.{IsHeld, LiesInSubmodule};
+ghost use Rattle.git_index.specs.Holding.{IsHeld, LiesInSubmodule};
 ghost use Rattle.tree_answers.specs.Lines.{Decision};
 ghost use Rattle.tree_answers.specs.Records.{LeadsAsTold};
 ghost use Rattle.tree_commands.specs.CheckIgnore.{IsLineAt, LeadsNowhere, LeadsTo, Refuses, counted, question_of, text_about, told_path};
@@ -25,6 +25,7 @@ use crate::check_ignore::flags::IgnoreFlags;
 use crate::check_ignore::kinds::{PathKinds, left_behind_top};
 use crate::check_ignore::running::IgnoreSources;
 use crate::check_ignore::unlinked::UnlinkedFolders;
+use git_index::TrackedPaths;
 use git_paths::Standpoint;
 use gix_glob::search::pattern;
 use gix_glob::search::pattern::Mapping;
@@ -34,7 +35,6 @@ use glob_trees::FolderLists;
 use pathspecs::{Pathspec, is_path};
 use std::alloc::{AllocError, Global};
 use std::marker::{Brand, PhantomData};
-use tracked_paths::TrackedPaths;
 use tree_answers::{DecidingLine, PathAnswerer, append_line};
 
 /// What is asked, in words that contracts alone have.

@@ -21,13 +21,13 @@ use crate::check_ignore::flags::IgnoreFlags;
 use crate::check_ignore::kinds::PathKinds;
 use crate::check_ignore::unlinked::UnlinkedFolders;
 use byte_streams::{RecordFault, Watched};
+use git_index::TrackedPaths;
 use git_paths::Standpoint;
 use glob_lines::GitIgnoreLines;
 use glob_trees::{FolderLists, Tree};
 use std::alloc::Global;
 use std::io::{Read, Write};
 use std::marker::{Brand, PhantomData};
-use tracked_paths::TrackedPaths;
 
 /// Where answers come from.
 #[derive(Drop)]

@@ -9,11 +9,10 @@ ghost use Rattle.tree_commands.specs.Private.FoldedPaths.{AreFoldedBy};
 ghost use Rattle.tree_commands.specs.Private.Listing.{looked};
 
 use crate::files::lookup::Lookup;
-use git_index::Index;
+use git_index::{FoldedPaths, Index};
 use git_paths::folder_of;
 use gix_glob::pattern::Case;
 use std::alloc::{AllocError, Global};
-use tracked_paths::FoldedPaths;
 
 /// The entries that count where a path is told; `None` where all of the index do.
 pub(crate) fn counted_at(

@@ -1,8 +1,7 @@
 //! The index, as paths are looked up in it.
 ghost use Rattle.tree_commands.specs.Private.FoldedPaths.{AreOf};
 
-use git_index::Index;
-use tracked_paths::FoldedPaths;
+use git_index::{FoldedPaths, Index};
 
 /// The index, and its paths without case where case doesn't count.
 #[derive(Clone, Copy)]

@@ -1,6 +1,6 @@
 -- What the reader of a set keeps of its looks: what is known of a closing bracket stays known further on, and how far it was looked for.
 use Rattle.std.proofs.lemmas.Bool.{cases_lt}
-use Rattle.std.proofs.Common.{◌≡◌, ◌↔◌, ℕ, Bool, true, false, ◌||◌, IsTrue, ◌+◌, ◌*◌, ◌<◌, ◌≤◌, List, [], length, Option, Some, None, MatchOption, inl, inr, refl, sym, subst, arith}
+use Rattle.std.proofs.Common.{◌≡◌, ◌↔◌, ℕ, Bool, true, false, ◌||◌, IsTrue, ◌+◌, ◌*◌, ◌<◌, ◌≤◌, List, [], length, Option, Some, None, MatchOption, inl, inr, ap, refl, sym, subst, arith}
 use Rattle.glob_matcher.specs.declared.wildmatch.items.Item.{Item}
 use Rattle.glob_matcher.specs.declared.wildmatch.items.Item.TheVariants as item
 use Rattle.glob_matcher.specs.declared.wildmatch.items.Class.{Class}
@@ -87,7 +87,7 @@ spare_taken {item = Some s} takes read = record {
 }
 
 -- what a byte that case doesn't change tells of an item is told in each way in which case counts
-item_of_plain : (way : Way) → folds way ≡ false → (b : ℕ) (x : Item) → item_holds Plain b x ≡ item_holds way b x
+pub item_of_plain : (way : Way) → folds way ≡ false → (b : ℕ) (x : Item) → item_holds Plain b x ≡ item_holds way b x
 item_of_plain Plain off b x = refl
 item_of_plain Path off b (item.Member m) = refl
 item_of_plain Path off b (item.Range low high) = refl
@@ -109,6 +109,15 @@ item_of_plain FoldedPlain on b x = cc
 item_of_plain FoldedPath on b x = cc
 item_of_plain ExactPlain on b x = cc
 item_of_plain ExactPath on b x = cc
+
+-- what is read once an item is that holds the byte or not
+abbrev part_by : SetPart → Spelled → Bool → SetPart
+part_by part s holds = record { place = part.place; is_negated = part.is_negated; is_held = part.is_held || holds; cursor = after_item s }
+
+-- ways that tell the same of an item tell the same of a set's part past it
+pub part_past_alike : (way other : Way) (b : ℕ) (part : SetPart) (s : Spelled) → item_holds way b s.item ≡ item_holds other b s.item
+    → part_past way b part s ≡ part_past other b part s
+part_past_alike way other b part s alike = ap (part_by part s) alike
 
 past_bracket : (place : ℕ) (negated : Bool) → place < first_item negated place
 past_bracket place true = omega arith

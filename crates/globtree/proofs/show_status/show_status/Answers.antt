@@ -1,6 +1,6 @@
 use Rattle.std.proofs.Common.{◌≡◌, ◌&&◌, ℕ, false, List, MatchBool, Option, ap, refl, subst, sym, ◌∙◌}
 use Rattle.std.proofs.lemmas.Result.{IfOk-weaker}
-use Rattle.core_settings.specs.declared.untracked.ShowUntracked.{ShowUntracked}
+use Rattle.git_repository.specs.declared.core_values.ShowUntracked.{ShowUntracked}
 use Rattle.byte_streams.specs.Watched.{inner}
 use Rattle.git_paths.specs.declared.quoting.Quoting.{Quoting}
 use Rattle.git_paths.specs.declared.quoting.Quoting.TheVariants.{Full}

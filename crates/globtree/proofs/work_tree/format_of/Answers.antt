@@ -1,8 +1,8 @@
 -- The last entry has it.
 use Rattle.std.proofs.Common.{ap, codes, sym, ◌∙◌}
 use Rattle.git_config.specs.Configuration.{seen_setting}
-use Rattle.core_settings.specs.Views.{seen_settings}
-use Rattle.core_settings.proofs.lemmas.LastLemmas.{last_value-is}
+use Rattle.git_repository.specs.Views.{seen_settings}
+use Rattle.git_repository.proofs.lemmas.LastLemmas.{last_value-is}
 use Rattle.globtree.specs.Tracked.{format_by}
 use Rattle.globtree.proofs.work_tree.format_of.Goals as goal
 

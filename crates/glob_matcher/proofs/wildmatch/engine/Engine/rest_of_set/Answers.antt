@@ -2,19 +2,19 @@ use Rattle.std.proofs.Common.{◌∙◌, ℕ, ◌+◌, Bool, ap, refl, subst, sy
 use Rattle.glob_matcher.specs.declared.wildmatch.sets.SetPart.{SetPart}
 use Rattle.glob_matcher.specs.declared.wildmatch.way.Way.{Way}
 use Rattle.glob_matcher.specs.Private.Looks.{IsPartPaid}
-use Rattle.glob_matcher.specs.Private.Reader.{IsPartRead, IsSetThatHolds, part_holds, part_past}
+use Rattle.glob_matcher.specs.Private.Reader.{IsPartRead, IsSetThatHolds, part_holds}
 use Rattle.glob_matcher.specs.Sets.{Set, SetAt}
-use Rattle.glob_matcher.proofs.lemmas.reading.LookLemmas.{paid_next, part_broken, part_next, part_read, search_front_here, search_front_inside}
+use Rattle.glob_matcher.proofs.lemmas.reading.LookLemmas.{paid_next, part_broken, part_past_alike, part_next, part_read, search_front_here, search_front_inside}
 use Rattle.glob_matcher.proofs.wildmatch.engine.Engine.rest_of_set.Goals as goal
 
 pub items-init : goal.items-init
-items-init g c = record { read = c.requires; place = refl; paid = λ before paid. paid; low = omega arith }
+items-init g c = record { read = c.requires.read; place = refl; paid = λ before paid. paid; low = omega arith }
 
 pub items-preserved : goal.items-preserved
 items-preserved g c =
     let so_far = c.items.invariant in
     let s = c.in-Item.spelled in
-    let is = c.past-part.ensures ∙ ap (λ (w : Way). part_past w c.args.byte c.items.part s) c.way-way.ensures in
+    let is = c.past-part.ensures ∙ part_past_alike c.args.way g.M.Texts.way c.args.byte c.items.part s (c.requires.alike s.item) in
     record {
       read = subst (λ (x : SetPart). IsPartRead g.M.Texts.way g.M.Texts.pattern c.args.byte x) (sym is) (part_next s so_far.read c.in-Item.ensures.item);
       place = ap (λ (x : SetPart). x.place) is ∙ so_far.place;
@@ -34,8 +34,8 @@ pub returns-in-Close-clause-read : goal.returns-in-Close-clause-read
 returns-in-Close-clause-read g c =
     let so_far = c.items.invariant in
     let closed = c.in-Close.ensures.item in
-    let held = c.holds.ensures ∙ ap (λ (w : Way). part_holds w c.args.byte c.items.part) c.way-way.ensures in
-    subst (λ (n : ℕ). IsSetThatHolds g.M.Texts.way g.M.Texts.pattern n c.args.byte (c.items.part.cursor.place + 1) c.holds.result) so_far.place
+    let held = c.holds-holds.ensures ∙ ap (λ (w : Way). part_holds w c.args.byte c.items.part) c.way.ensures in
+    subst (λ (n : ℕ). IsSetThatHolds g.M.Texts.way g.M.Texts.pattern n c.args.byte (c.items.part.cursor.place + 1) c.holds-holds.result) so_far.place
     (subst (λ (h : Bool). IsSetThatHolds g.M.Texts.way g.M.Texts.pattern c.items.part.place c.args.byte (c.items.part.cursor.place + 1) h) (sym held)
     (part_read so_far.read closed.0 closed.1))
 

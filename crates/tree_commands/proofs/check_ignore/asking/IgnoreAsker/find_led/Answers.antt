@@ -1,6 +1,6 @@
 use Rattle.std.proofs.Common.{refl, take}
 use Rattle.std.proofs.lemmas.Bool.{false≢true}
-use Rattle.tracked_paths.specs.Holding.{IsHeld, LiesInSubmodule}
+use Rattle.git_index.specs.Holding.{IsHeld, LiesInSubmodule}
 use Rattle.tree_commands.proofs.lemmas.IgnoreLemmas.{told_held}
 use Rattle.tree_commands.proofs.check_ignore.asking.IgnoreAsker.find_led.Goals as goal
 

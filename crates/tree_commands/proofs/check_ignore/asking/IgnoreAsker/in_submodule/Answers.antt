@@ -1,5 +1,5 @@
 use Rattle.std.proofs.Common.{ℕ, List, rules, subst, take}
-use Rattle.tracked_paths.specs.Holding.{LiesInSubmodule}
+use Rattle.git_index.specs.Holding.{LiesInSubmodule}
 use Rattle.tree_commands.proofs.check_ignore.asking.IgnoreAsker.in_submodule.Goals as goal
 
 pub returns-in-Ok : goal.returns-in-Ok

@@ -1,7 +1,7 @@
 use Rattle.std.proofs.Common.{ℕ, List, IsTrue, ◌↔◌, ap, subst, sym, ◌∙◌}
 use Rattle.std.specs.Option.{option_map_or}
 use Rattle.pathspecs.specs.Leading.{front_of}
-use Rattle.tracked_paths.specs.Holding.{IsHeld}
+use Rattle.git_index.specs.Holding.{IsHeld}
 use Rattle.tree_commands.specs.CheckIgnore.{Question}
 use Rattle.tree_commands.proofs.lemmas.IgnoreLemmas.{held_as_asked}
 use Rattle.tree_commands.proofs.check_ignore.asking.IgnoreAsker.is_held.Goals as goal

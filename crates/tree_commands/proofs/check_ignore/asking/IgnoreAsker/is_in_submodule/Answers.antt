@@ -1,5 +1,5 @@
 use Rattle.std.proofs.Common.{ℕ, List, IsTrue, ◌↔◌, ap, subst}
-use Rattle.tracked_paths.specs.Holding.{LiesInSubmodule}
+use Rattle.git_index.specs.Holding.{LiesInSubmodule}
 use Rattle.tree_commands.specs.CheckIgnore.{Question}
 use Rattle.tree_commands.proofs.lemmas.IgnoreLemmas.{lies_in_some}
 use Rattle.tree_commands.proofs.check_ignore.asking.IgnoreAsker.is_in_submodule.Goals as goal

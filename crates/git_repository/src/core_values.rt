@@ -1,0 +1,237 @@
+//! What a configuration sets of matching, printing and listing.
+ghost use Rattle.std.specs.Prelude.{◌≡◌, ◌==◌, codes, false, option_and_then, option_map, position, true, IfOk};
+ghost use Rattle.std.specs.Option.{option_copied};
+ghost use Rattle.std.specs.Vec.{vec_items};
+ghost use Rattle.git_config.specs.Configuration.{key_of, seen_setting};
+ghost use Rattle.git_config.specs.Grammar.{before_zero};
+ghost use Rattle.git_repository.specs.Values.{boolean_at, file_at, if_path, last_value, told_path};
+ghost use Rattle.git_repository.specs.UserFiles.{settings_file};
+ghost use Rattle.git_repository.specs.Views.{seen_settings};
+
+use crate::bytes::slice_of;
+use crate::faults::OpenFault;
+use crate::paths::joined;
+use crate::user_files::settings_file;
+use crate::value_faults::{check_boolean, entry_fault};
+use crate::value_paths::told_path;
+use git_config::{Config, ReadSetting, Surroundings, boolean};
+use std::alloc::{AllocError, Global};
+
+/// What the section `core` sets of matching and printing, and `status` of listing. A path that isn't absolute is told from the top of the work
+/// tree.
+#[derive(Debug, Drop)]
+pub struct CoreSettings {
+    /// `ignoreCase`: ASCII letters match without case.
+    pub ignore_case: bool,
+    /// `quotePath`: bytes above 127 are a reason to quote a name that is printed.
+    pub quote_path: bool,
+    /// `excludesFile`: a file of patterns for each repository.
+    pub excludes: Option<Vec<u8>>,
+    /// `attributesFile`: a file of attributes for each repository.
+    pub attributes: Option<Vec<u8>>,
+    /// `status.showUntrackedFiles`: which files `status` tells that aren't tracked.
+    pub untracked: ShowUntracked,
+}
+
+/// Which files are told that aren't tracked: a value of `status.showUntrackedFiles`.
+#[derive(Debug, Clone, Copy, PartialEq, Eq)]
+pub enum ShowUntracked {
+    /// None.
+    No,
+    /// Those in folders with tracked files, and other folders by their names.
+    Normal,
+    /// Each.
+    All,
+}
+
+/// What a configuration sets. `config_home` is `XDG_CONFIG_HOME`, and `around.home` is `HOME`.
+///
+/// # Errors
+/// The first entry that is wrong, of the keys that Git looks at, and `for_status` of `status.showUntrackedFiles`, too; also
+/// where a later one is right: a boolean that is none, a path without a value, or one in a folder that isn't known, a word that is none of those that Git knows.
+/// [`OpenFault::Memory`] where memory was refused.
+pub(crate) fn core_settings<F>(
+    alloc: Global,
+    config: &Config,
+    around: &Surroundings,
+    config_home: Option<&[u8]>,
+    for_status: bool,
+) -> Result<CoreSettings, OpenFault<F>>
+    ensures ignore_case { IfOk result (λ core. core.ignore_case ≡ boolean_at false (last_value (codes "core.ignorecase") (seen_settings config.now))) }
+    ensures quote_path { IfOk result (λ core. core.quote_path ≡ boolean_at true (last_value (codes "core.quotepath") (seen_settings config.now))) }
+    ensures excludes { IfOk result (λ core. option_map vec_items core.excludes ≡ file_at around.now (settings_file (option_copied config_home.entry) (option_map vec_items around.now.home) (codes "ignore")) (last_value (codes "core.excludesfile") (seen_settings config.now))) }
+    ensures attributes { IfOk result (λ core. option_map vec_items core.attributes ≡ file_at around.now (settings_file (option_copied config_home.entry) (option_map vec_items around.now.home) (codes "attributes")) (last_value (codes "core.attributesfile") (seen_settings config.now))) }
+{
+    for setting in &config.settings {
+        check_setting(alloc, around, for_status, setting)?;
+    }
+    Ok(CoreSettings {
+        ignore_case: boolean_at(config, b"core.ignorecase", false),
+        quote_path: boolean_at(config, b"core.quotepath", true),
+        excludes: file_at(
+            alloc,
+            config,
+            around,
+            config_home,
+            b"core.excludesfile",
+            b"ignore",
+        )?,
+        attributes: file_at(
+            alloc,
+            config,
+            around,
+            config_home,
+            b"core.attributesfile",
+            b"attributes",
+        )?,
+        untracked: mode_in(config),
+    })
+}
+
+/// Looks at an entry.
+fn check_setting<F>(
+    alloc: Global,
+    around: &Surroundings,
+    for_status: bool,
+    setting: &ReadSetting,
+) -> Result<(), OpenFault<F>> {
+    let key = key_of(alloc, setting)?;
+    if is_boolean(&key) {
+        return check_boolean(alloc, key, &setting.entry.value);
+    }
+    let value = setting.entry.value.as_deref();
+    match key.as_slice() {
+        b"core.excludesfile" | b"core.attributesfile" | b"core.hookspath" => match value {
+            Some(value) if told_path(alloc, around, value)?.is_some() => Ok(()),
+            Some(value) => Err(OpenFault::NoFolder(Vec::from_slice(alloc, value)?)),
+            None => Err(entry_fault(alloc, key, setting)?),
+        },
+        b"push.default" if !is_way_to_push(value) => Err(entry_fault(alloc, key, setting)?),
+        b"status.showuntrackedfiles" if for_status && mode_named(value).is_none() => {
+            Err(entry_fault(alloc, key, setting)?)
+        }
+        _ => Ok(()),
+    }
+}
+
+/// Whether Git looks for a boolean at a key.
+fn is_boolean(key: &[u8]) -> bool {
+    match key {
+        b"core.filemode"
+        | b"core.trustctime"
+        | b"core.quotepath"
+        | b"core.symlinks"
+        | b"core.ignorecase"
+        | b"core.bare"
+        | b"core.ignorestat"
+        | b"core.prefersymlinkrefs"
+        | b"core.warnambiguousrefs"
+        | b"core.precomposeunicode"
+        | b"core.protecthfs"
+        | b"core.protectntfs"
+        | b"core.sparsecheckout"
+        | b"core.sparsecheckoutcone"
+        | b"core.usereplacerefs" => true,
+        _ => false,
+    }
+}
+
+/// Whether a value says what `git push` does by default. Case counts.
+fn is_way_to_push(value: Option<&[u8]>) -> bool {
+    match value {
+        Some(b"nothing" | b"matching" | b"simple" | b"upstream" | b"tracking" | b"current") => true,
+        _ => false,
+    }
+}
+
+/// The mode that a value names.
+fn mode_named(value: Option<&[u8]>) -> Option<ShowUntracked> {
+    match value {
+        Some(b"no") => Some(ShowUntracked::No),
+        Some(b"normal") => Some(ShowUntracked::Normal),
+        Some(b"all") => Some(ShowUntracked::All),
+        _ => None,
+    }
+}
+
+/// The mode that counts.
+fn mode_in(config: &Config) -> ShowUntracked {
+    match config.last_of(b"status.showuntrackedfiles") {
+        Some(setting) => {
+            mode_named(setting.entry.value.as_deref()).unwrap_or(ShowUntracked::Normal)
+        }
+        None => ShowUntracked::Normal,
+    }
+}
+
+/// The key of an entry: what stands before the first byte 0 of its section and name.
+///
+/// # Errors
+/// Only where memory was refused.
+pub(crate) fn key_of(alloc: Global, setting: &ReadSetting) -> Result<Vec<u8>, AllocError>
+    ensures { IfOk result (λ key. key.items ≡ key_of (seen_setting setting.now)) }
+{
+    let whole = joined(alloc, &setting.section, &setting.entry.name)?;
+    Vec::from_slice(alloc, until_zero(&whole))
+}
+
+/// What stands before the first byte 0.
+fn until_zero(bytes: &[u8]) -> &[u8]
+    ensures { result.now ≡ before_zero bytes.now }
+{
+    match first_zero(bytes) {
+        Some(place) => &bytes[..place],
+        None => bytes,
+    }
+}
+
+/// The place of the first byte 0.
+fn first_zero(bytes: &[u8]) -> Option<usize>
+    ensures { result ≡ position (λ b. b == 0) bytes.now }
+{
+    bytes.iter().position(|b| *b == 0)
+}
+
+/// The boolean that counts of a key.
+pub(crate) fn boolean_at(config: &Config, key: &[u8], default: bool) -> bool
+    ensures { result ≡ boolean_at default (last_value key.now (seen_settings config.now)) }
+{
+    match config.last_of(key) {
+        Some(setting) => boolean(slice_of(&setting.entry.value)).unwrap_or(default),
+        None => default,
+    }
+}
+
+/// The file that counts of a key; by default that of a name among the user's settings.
+fn file_at(
+    alloc: Global,
+    config: &Config,
+    around: &Surroundings,
+    config_home: Option<&[u8]>,
+    key: &[u8],
+    name: &[u8],
+) -> Result<Option<Vec<u8>>, AllocError>
+    ensures { IfOk result (λ file. option_map vec_items file ≡ file_at around.now (settings_file (option_copied config_home.entry) (option_map vec_items around.now.home) name.now) (last_value key.now (seen_settings config.now))) }
+{
+    match config.last_of(key) {
+        Some(setting) => path_at(alloc, around, setting),
+        None => settings_file(alloc, config_home, slice_of(&around.home), name),
+    }
+}
+
+/// The file that an entry sets, if its path isn't empty.
+fn path_at(
+    alloc: Global,
+    around: &Surroundings,
+    setting: &ReadSetting,
+) -> Result<Option<Vec<u8>>, AllocError>
+    ensures { IfOk result (λ file. option_map vec_items file ≡ if_path (option_and_then (told_path around.now) (option_map vec_items setting.now.entry.value))) }
+{
+    let Some(value) = &setting.entry.value else {
+        return Ok(None);
+    };
+    match told_path(alloc, around, value)? {
+        Some(path) if !path.is_empty() => Ok(Some(path)),
+        _ => Ok(None),
+    }
+}

@@ -1,0 +1,13 @@
+-- The pattern is that of the match, the value is empty, and the counts are kept behind the reference that is passed.
+use Rattle.std.proofs.Common.{[], arith}
+use Rattle.glob_matcher.proofs.wildmatch.set_apart.read_set.Given as goal
+
+abbrev pub ghosts-read_by : goal.ghosts-read_by
+ghosts-read_by g a = record {
+  pattern = g.M.Texts.pattern;
+  value = [];
+  way = g.M.Texts.way;
+  counts = a.counts.ghost_name;
+  short_pattern = g.M.Texts.short_pattern;
+  short_value = omega arith;
+}

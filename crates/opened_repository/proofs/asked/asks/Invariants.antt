@@ -1,5 +1,0 @@
-use Rattle.std.proofs.Common.{length}
-use Rattle.opened_repository.proofs.asked.asks.Given as goal
-
-abbrev pub decreases-settings : goal.decreases-settings
-decreases-settings l = length l.rest

@@ -1,3 +1,0 @@
-pub mod Sight
-pub mod User
-pub mod Variables

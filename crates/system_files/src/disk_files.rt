@@ -1,0 +1,129 @@
+//! The files of the operating system, and what the search for a repository asks of them.
+
+use crate::config_files::{KeptFile, MOST_BYTES};
+use crate::reading::{Unread, answered, read_front};
+use crate::real_path::real_path;
+use crate::user::User;
+use git_repository::FileSystem;
+use std::alloc::{AllocError, Global};
+use std::cell::Cell;
+use std::fs;
+use std::fs::Metadata;
+use std::io::ErrorKind;
+use std::os::unix::fs::MetadataExt;
+use std::rt::Files;
+
+/// The files of the operating system. What can't be looked at isn't there. The kit opens a file only by a text, so what has a path that is
+/// no UTF-8 isn't there, either. Of a configuration 10,000 files of 16 MiB in all are given at most, since files that include one another
+/// could ask for very many.
+#[derive(Drop)]
+pub struct DiskFiles<'a, R> {
+    pub(crate) rt: &'a R,
+    pub(crate) alloc: Global,
+    user: User,
+    /// How many files of a configuration were asked for.
+    pub(crate) asked: Cell<usize>,
+    /// How many bytes of such files may still be given.
+    pub(crate) left: Cell<usize>,
+    /// Files of a configuration that were read, and may be asked for again.
+    pub(crate) kept: Cell<Vec<KeptFile>>,
+}
+
+impl<'a, R> DiskFiles<'a, R> {
+    /// The files as this user sees them, of which none was asked for.
+    pub fn new(rt: &'a R, alloc: Global, user: User) -> DiskFiles<'a, R> {
+        DiskFiles {
+            rt,
+            alloc,
+            user,
+            asked: Cell::new(0),
+            left: Cell::new(MOST_BYTES),
+            kept: Cell::new(Vec::new(alloc)),
+        }
+    }
+}
+
+impl<'a, R: Files> DiskFiles<'a, R> {
+    /// What stands at a path, where links are followed.
+    fn found(&self, path: &[u8]) -> Result<Option<Metadata>, AllocError> {
+        match str::from_utf8(path) {
+            Ok(path) => answered(fs::metadata(self.rt, path)),
+            Err(_bad) => Ok(None),
+        }
+    }
+
+    /// What stands at a path. A link isn't followed.
+    fn standing(&self, path: &[u8]) -> Result<Option<Metadata>, AllocError> {
+        match str::from_utf8(path) {
+            Ok(path) => answered(fs::symlink_metadata(self.rt, path)),
+            Err(_bad) => Ok(None),
+        }
+    }
+
+    /// Whether what is told from a folder by `.` is found, which needs leave to enter it.
+    fn leads_into(&self, folder: &[u8]) -> Result<bool, AllocError> {
+        let mut inner = Vec::from_slice(self.alloc, folder)?;
+        inner.extend_from_slice(b"/.")?;
+        Ok(self.found(&inner)?.is_some())
+    }
+}
+
+/// The bits of a mode that let the owner, the group or others run a file.
+const RUN_BITS: u32 = 0o111;
+
+impl<'a, R: Files> FileSystem for DiskFiles<'a, R> {
+    fn is_file(&self, path: &[u8]) -> Result<bool, AllocError> {
+        Ok(self.found(path)?.is_some_and(|there| there.is_file()))
+    }
+
+    fn is_there(&self, path: &[u8]) -> Result<bool, AllocError> {
+        Ok(self.standing(path)?.is_some())
+    }
+
+    /// The text of a link that is no UTF-8 can't be had: it is told as no link.
+    fn link(&self, path: &[u8]) -> Result<Option<Vec<u8>>, AllocError> {
+        let Ok(path) = str::from_utf8(path) else {
+            return Ok(None);
+        };
+        let link = answered(self.rt.read_link(self.alloc, path))?;
+        Ok(link.map(|text| text.into_string().into_bytes()))
+    }
+
+    fn bytes(&self, path: &[u8], limit: usize) -> Result<Option<Vec<u8>>, AllocError> {
+        let Ok(path) = str::from_utf8(path) else {
+            return Ok(None);
+        };
+        match read_front(self.rt, self.alloc, path, limit) {
+            Ok(bytes) => Ok(Some(bytes)),
+            Err(Unread::System(error)) if error.kind() == ErrorKind::OutOfMemory => Err(AllocError),
+            Err(_unread) => Ok(None),
+        }
+    }
+
+    /// The kit has no `access`: a folder can be entered where `.` is found in it. What is no folder is answered for by the bits of its
+    /// mode, whoever they let run it.
+    fn can_enter(&self, path: &[u8]) -> Result<bool, AllocError> {
+        match self.found(path)? {
+            Some(there) if there.is_dir() => self.leads_into(path),
+            Some(there) => Ok(there.mode() & RUN_BITS != 0),
+            None => Ok(false),
+        }
+    }
+
+    fn is_ours(&self, path: &[u8]) -> Result<bool, AllocError> {
+        let user = self.user;
+        Ok(
+            self.standing(path)?
+                .is_some_and(|there| user.owns(there.uid())),
+        )
+    }
+
+    /// 0 where nothing can be looked at.
+    fn device(&self, path: &[u8]) -> Result<u64, AllocError> {
+        Ok(self.found(path)?.map_or(0, |there| there.dev()))
+    }
+
+    fn real_path(&self, path: &[u8]) -> Result<Option<Vec<u8>>, AllocError> {
+        real_path(self.rt, self.alloc, path)
+    }
+}

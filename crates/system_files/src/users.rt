@@ -1,0 +1,55 @@
+//! The users' home folders: the user's own, and those that `/etc/passwd` tells.
+
+use git_config::{Surroundings, UserFolder};
+use git_repository::FileSystem;
+use std::alloc::{AllocError, Global};
+
+/// The file that names the users.
+const USERS: &[u8] = b"/etc/passwd";
+
+/// So many bytes of it are looked at: 1 MiB.
+const USERS_LIMIT: usize = 1 << 20;
+
+/// What paths and conditions of a configuration are told from outside a repository: the folder that `HOME` tells, and those of the users whom
+/// `/etc/passwd` names. Others, which a service may know, aren't told, and of the installation nothing is known.
+///
+/// # Errors
+/// Only where memory was refused.
+pub fn surroundings<F: FileSystem>(
+    alloc: Global,
+    files: &F,
+    home: Option<&[u8]>,
+) -> Result<Surroundings, AllocError> {
+    let (home, real_home) = match home {
+        Some(home) => (Some(Vec::from_slice(alloc, home)?), files.real_path(home)?),
+        None => (None, None),
+    };
+    let users = match files.bytes(USERS, USERS_LIMIT)? {
+        Some(text) => users_in(alloc, &text)?,
+        None => Vec::new(alloc),
+    };
+    Ok(Surroundings {
+        home,
+        real_home,
+        installed: None,
+        users,
+        git_folders: Vec::new(alloc),
+        branch: None,
+        urls: None,
+    })
+}
+
+/// The users that a text names, a line each: the first of seven fields is the name, and the sixth the folder.
+fn users_in(alloc: Global, text: &[u8]) -> Result<Vec<UserFolder>, AllocError> {
+    let mut users = Vec::new(alloc);
+    for line in text.split(|b| *b == b'\n') {
+        let fields: Vec<&[u8]> = line.split(|b| *b == b':').collect(alloc)?;
+        if let [name, _, _, _, _, folder, _, ..] = fields.as_slice() {
+            users.push(UserFolder {
+                name: Vec::from_slice(alloc, name)?,
+                folder: Vec::from_slice(alloc, folder)?,
+            })?;
+        }
+    }
+    Ok(users)
+}

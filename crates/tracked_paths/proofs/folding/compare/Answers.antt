@@ -1,6 +1,0 @@
-use Rattle.std.proofs.Common.{sym, ◌∙◌, arith}
-use Rattle.tracked_paths.proofs.lemmas.Folding.{lengths_decide}
-use Rattle.tracked_paths.proofs.folding.compare.Goals as goal
-
-pub returns : goal.returns
-returns c = c.cmp.ensures ∙ sym (c.loop-place.invariant ∙ lengths_decide c.args.path.now c.args.other.now c.loop-place.place (omega (arith, c.min-most.ensures)))

@@ -1,7 +1,0 @@
-use Rattle.std.proofs.Common.{◌≤◌, ℕ, List, length}
-use Rattle.tracked_paths.specs.Holding.{LiesIn}
-use Rattle.tracked_paths.proofs.search.submodule_above.Given as goal
-
--- no submodule in which the path lies has a shorter path
-abbrev pub invariant-loop-place : goal.invariant-loop-place
-invariant-loop-place l = (other : List ℕ) → LiesIn l.index l.asked other → l.place ≤ length other

@@ -1,7 +1,0 @@
-use Rattle.std.proofs.Common.{◌≡◌, map, take}
-use Rattle.git_index.specs.Entries.{tracked}
-use Rattle.tracked_paths.proofs.sorted.sorted.Given as goal
-
--- the entries so far, in their order
-abbrev pub invariant-loop-entry : goal.invariant-loop-entry
-invariant-loop-entry l = map tracked l.sorted.items ≡ take l.entry-index (map tracked l.entries)

@@ -1,3 +1,0 @@
-pub mod Folding
-pub mod Holding
-pub mod Private
