@@ -1,14 +1,14 @@
-//! How many patterns an index asks: those alone that can match by what a path shows.
+//! How many patterns a stack of prepared lists asks: those alone that can match by what a path shows.
 use crate::compare::same;
 use crate::lists::list_of;
 use gix_glob::pattern::Case;
 use glob_lines::{LabelLines, bases_are_folders};
-use glob_lists::{CountedDecision, ListIndex, RepositoryPath, Rules};
+use glob_lists::{CountedDecision, PreparedStack, RepositoryPath, Rules};
 use std::alloc::{AllocError, Global};
 use std::process::Abort;
 use std::test::Fail;
 
-/// Pattern lines, how many other ones follow, a path, and what an index of the lines answers for it.
+/// Pattern lines, how many other ones follow, a path, and what the prepared lines answer for it.
 type Row<'a> = (&'a str, usize, &'a str, Option<(usize, usize)>, usize);
 
 /// A pattern is asked where the path ends as its literal end does; where it has none, where the path's last part has its literal bytes,
@@ -54,17 +54,17 @@ fn lines_of(alloc: Global, text: &str, others: usize) -> Result<Vec<u8>, AllocEr
     Ok(lines)
 }
 
-/// Compares what an index answers for the path of a row.
+/// Compares what prepared lists answer for the path of a row.
 fn check_path(
     rt: &(impl Abort + AllocGlobal),
-    index: &ListIndex<'_, LabelLines>,
+    stack: &PreparedStack<'_, LabelLines>,
     path: &str,
     wanted: CountedDecision,
     row: usize,
 ) -> Result<(), Fail> {
     let named = RepositoryPath::new(path.as_bytes(), false).ok_or("a path")?;
-    same(rt, index.decide_and_count(&named) == wanted, "asked", row);
-    let found = index.matches(rt.alloc(), &named)?;
+    same(rt, stack.decide_and_count(&named) == wanted, "asked", row);
+    let found = stack.matches(rt.alloc(), &named)?;
     same(rt, found.last().copied() == wanted.pair, "matches", row);
     Ok(())
 }
@@ -75,12 +75,12 @@ fn only_what_can_match_is_asked(rt: HostRuntime) -> Result<(), Fail> {
         let lines = lines_of(rt.alloc(), text, *others)?;
         let lists = [list_of(rt.alloc(), &lines)?];
         assert!(rt; bases_are_folders(&lists));
-        let index = ListIndex::new(rt.alloc(), &lists, Rules::by_crate(Case::Sensitive))?;
+        let stack = PreparedStack::new(rt.alloc(), &lists, Rules::by_crate(Case::Sensitive))?;
         let wanted = CountedDecision {
             pair: *pair,
             asked: *asked,
         };
-        check_path(&rt, &index, path, wanted, row)?;
+        check_path(&rt, &stack, path, wanted, row)?;
     }
     Ok(())
 }
@@ -154,14 +154,14 @@ fn path_of(alloc: Global, seed: &mut u32) -> Result<String, AllocError> {
 /// How many patterns are asked for 300 paths, and about how many of these none decides.
 fn count_asked(
     alloc: Global,
-    index: &ListIndex<'_, LabelLines>,
+    stack: &PreparedStack<'_, LabelLines>,
     seed: &mut u32,
 ) -> Result<(usize, usize), Fail> {
     let (mut asked, mut undecided): (usize, usize) = (0, 0);
     for _ in 0..300 {
         let path = path_of(alloc, seed)?;
         let named = RepositoryPath::new(path.as_bytes(), false).ok_or("a path")?;
-        let counted = index.decide_and_count(&named);
+        let counted = stack.decide_and_count(&named);
         asked = asked.saturating_add(counted.asked);
         undecided = undecided.saturating_add(usize::from(counted.pair.is_none()));
     }
@@ -174,8 +174,8 @@ fn of_a_thousand_patterns_few_are_asked(rt: HostRuntime) -> Result<(), Fail> {
     let lines = thousand_lines(rt.alloc(), &mut seed)?;
     let lists = [list_of(rt.alloc(), lines.as_bytes())?];
     assert!(rt; bases_are_folders(&lists));
-    let index = ListIndex::new(rt.alloc(), &lists, Rules::by_crate(Case::Sensitive))?;
-    let (asked, undecided) = count_asked(rt.alloc(), &index, &mut seed)?;
+    let stack = PreparedStack::new(rt.alloc(), &lists, Rules::by_crate(Case::Sensitive))?;
+    let (asked, undecided) = count_asked(rt.alloc(), &stack, &mut seed)?;
     // A path shows its own ending, one of 144, which some two patterns ask for, and few that ask for a part of its name. In
     // turn each of the 1,000 would be asked where none decides.
     assert!(rt; asked <= 1_500 && undecided >= 30);

@@ -8,7 +8,7 @@ ghost use Rattle.gix_glob_c.specs.Parts.{rules_of};
 ghost use Rattle.glob_attributes.specs.Views.{state_with};
 ghost use Rattle.glob_attributes.specs.Borrowed.{assigned_by, definition_of, row_of};
 ghost use Rattle.glob_attributes.specs.States.{Assigned, IsAssigned, assigned_at, state_in};
-ghost use Rattle.glob_lists.specs.Index.{AreMatches};
+ghost use Rattle.glob_lists.specs.Matches.{AreMatches};
 
 use crate::attribute_file::GlobAttributeLine;
 use crate::lists::is_folder;

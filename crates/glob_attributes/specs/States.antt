@@ -5,7 +5,7 @@ use Rattle.std.specs.Option.{option_and_then, option_map_or}
 use Rattle.std.specs.Str.{bytes_eq}
 use Rattle.glob_lists.specs.declared.rules.Rules.{Rules}
 use Rattle.gix_glob.specs.EntryLists.{EntryList}
-use Rattle.glob_lists.specs.Index.{AreMatches}
+use Rattle.glob_lists.specs.Matches.{AreMatches}
 use Rattle.glob_lists.specs.Paths.{Path}
 use Rattle.glob_attributes.specs.declared.assignment.State.{State}
 use Rattle.glob_attributes.specs.declared.assignment.State.TheVariants.{Set, Unspecified}

@@ -10,15 +10,15 @@ use crate::fields::{append_fields, state_text};
 use crate::macro_table::MacroTable;
 use crate::parser::AttributeLines;
 use crate::states::PathAttributes;
-use glob_lists::{ListIndex, RepositoryPath};
+use glob_lists::{PreparedStack, RepositoryPath};
 use std::alloc::{AllocError, Global};
 use std::marker::Model;
 
-/// What is asked of each path: the states of some attributes, by the lists of an index and by macros. Contracts see it as plain
+/// What is asked of each path: the states of some attributes, by prepared lists and by macros. Contracts see it as plain
 /// data.
 #[derive(Debug, Drop)]
 pub struct AttributeQuery<'a> {
-    index: &'a ListIndex<'a, AttributeLines>,
+    prepared: &'a PreparedStack<'a, AttributeLines>,
     macros: &'a MacroTable,
     names: &'a [&'a [u8]],
 }
@@ -31,11 +31,11 @@ impl<'a> Model for AttributeQuery<'a> {
 
     ghost Value = { Query };
 
-    ghost view = { λ query. record { lists = map (entry_list_of seen_assignments) query.index.now.lists; macros = query.macros.now; rules = query.index.now.rules; names = map (λ name. name.now) query.names.now } };
+    ghost view = { λ query. record { lists = map (entry_list_of seen_assignments) query.prepared.now.lists; macros = query.macros.now; rules = query.prepared.now.rules; names = map (λ name. name.now) query.names.now } };
 }
 
 impl<'a> AttributeQuery<'a> {
-    /// Asks for the attributes of these names, by the lists of the index, which come from the weakest to the strongest, and by the
+    /// Asks for the attributes of these names, by the prepared lists, which come from the weakest to the strongest, and by the
     /// macros of their files. Each name is asked for as it is: what [`AttributeLines`] reads, and each macro, assigns to names alone
     /// that pass [`is_name`](crate::is_name), so another one is unspecified for each path, unless a list that was made by hand
     /// assigns to it ([`invalid_names_are_unspecified`](crate::laws::invalid_names_are_unspecified)).
@@ -43,14 +43,14 @@ impl<'a> AttributeQuery<'a> {
     /// A part `.` or `..` of a path is a name like any other, where Git goes to the folder that it means. One trailing slash of a path
     /// marks a directory, and isn't of its last part, as [`RepositoryPath::of_line`] says.
     pub fn new(
-        index: &'a ListIndex<'a, AttributeLines>,
+        prepared: &'a PreparedStack<'a, AttributeLines>,
         macros: &'a MacroTable,
         names: &'a [&'a [u8]],
     ) -> AttributeQuery<'a>
-        ensures { result ≡ record { lists = map (entry_list_of seen_assignments) index.now.lists; macros = macros.now; rules = index.now.rules; names = map (λ name. name.now) names.now } }
+        ensures { result ≡ record { lists = map (entry_list_of seen_assignments) prepared.now.lists; macros = macros.now; rules = prepared.now.rules; names = map (λ name. name.now) names.now } }
     {
         AttributeQuery {
-            index,
+            prepared,
             macros,
             names,
         }
@@ -75,7 +75,7 @@ impl<'a> AttributeQuery<'a> {
         ensures { IfOk result (λ assigned. IsAssignedTo self.now told.now assigned) }
     {
         match RepositoryPath::of_line(told) {
-            Some(path) => PathAttributes::with_index(alloc, self.index, &[], self.macros, &path),
+            Some(path) => PathAttributes::with_prepared(alloc, self.prepared, &[], self.macros, &path),
             None => Ok(PathAttributes::none(alloc)),
         }
     }

@@ -16,7 +16,7 @@ use crate::macro_table::MacroTable;
 use crate::parser::AttributeLines;
 use crate::places::Places;
 use gix_glob::search::pattern::List;
-use glob_lists::{ListIndex, RepositoryPath, Rules, matches_into};
+use glob_lists::{PreparedStack, RepositoryPath, Rules, matches_into};
 use std::alloc::{AllocError, Global};
 use std::marker::Model;
 
@@ -70,7 +70,7 @@ impl<'a> PathAttributes<'a> {
         Ok(PathAttributes { filled })
     }
 
-    /// What the lists of an index, then stronger ones, and the macros assign to a path. Patterns are matched by the rules of the index.
+    /// What prepared lists, then stronger ones, and the macros assign to a path. Patterns are matched by the rules of the prepared ones.
     /// The stronger lists have to meet [`bases_are_folders`](glob_lists::bases_are_folders).
     ///
     /// Of the path counts what [`PathAttributes::new`] says: a part `.` or `..` is a name, and a trailing slash leaves an empty last
@@ -78,21 +78,21 @@ impl<'a> PathAttributes<'a> {
     ///
     /// # Errors
     /// Only where memory was refused.
-    pub fn with_index(
+    pub fn with_prepared(
         alloc: Global,
-        index: &ListIndex<'a, AttributeLines>,
+        prepared: &PreparedStack<'a, AttributeLines>,
         stronger: &'a [List<AttributeLines>],
         macros: &'a MacroTable,
         path: &RepositoryPath<'_>,
     ) -> Result<PathAttributes<'a>, AllocError>
         requires folders { BasesAreFolders (map (entry_list_of seen_assignments) stronger.now) }
-        ensures { IfOk result (λ assigned. IsAssigned (map (entry_list_of seen_assignments) index.now.lists ++ map (entry_list_of seen_assignments) stronger.now) macros.now path.now index.now.rules assigned) }
+        ensures { IfOk result (λ assigned. IsAssigned (map (entry_list_of seen_assignments) prepared.now.lists ++ map (entry_list_of seen_assignments) stronger.now) macros.now path.now prepared.now.rules assigned) }
     {
         let mut pairs = Vec::with_capacity(alloc, FEW)?;
-        index.matches_into(path, &mut pairs)?;
+        prepared.matches_into(path, &mut pairs)?;
         let mut row = Vec::new(alloc);
-        push_row(&mut row, index.lists(), &pairs)?;
-        matches_into(stronger, path, index.rules(), &mut pairs)?;
+        push_row(&mut row, prepared.lists(), &pairs)?;
+        matches_into(stronger, path, prepared.rules(), &mut pairs)?;
         push_row(&mut row, stronger, &pairs)?;
         let filled = fill_in(alloc, row, macros)?;
         Ok(PathAttributes { filled })

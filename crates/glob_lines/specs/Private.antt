@@ -1,6 +1,5 @@
 -- Words that only private clauses cite: what the functions of the crate say to one another.
 pub mod Answering
 pub mod Growing
-pub mod Indexing
 pub mod Reading
 pub mod Trimming

@@ -13,13 +13,12 @@ use crate::fault::EngineFault;
 use crate::ignore::IgnoreLines;
 use crate::numbers::append_decimal;
 use crate::path_lines::{PathReport, report_on};
-use crate::stack::ListStack;
 use crate::transfer::{read_whole, write_output};
 use byte_streams::Watched;
 use gix_glob::pattern::Case;
 use gix_glob::search;
 use gix_glob::search::pattern::{List, Mapping};
-use glob_lists::{Cursor, RepositoryPath, Rules};
+use glob_lists::{PreparedStack, RepositoryPath, Rules};
 use std::alloc::{AllocError, Global};
 use std::io::{Read, Write};
 
@@ -69,32 +68,30 @@ fn decisions_of<T: search::Pattern>(
     requires { BasesAreFolders (map (entry_list_of T.seen) lists.now) }
     ensures { IfOk result (λ text. DecisionsText (map (entry_list_of T.seen) lists.now) case paths.now text.items) }
 {
-    let stack = ListStack::new(alloc, lists, Rules::by_crate(case))?;
-    let cursor = Cursor::new();
-    report_on(alloc, &mut Decision { stack, cursor }, paths)
+    let stack = PreparedStack::new(alloc, lists, Rules::by_crate(case))?;
+    report_on(alloc, &mut Decision { stack }, paths)
 }
 
 /// Reports which pattern decides about a path.
 #[derive(Drop)]
 struct Decision<'a, T: search::Pattern> {
-    stack: ListStack<'a, T>,
-    cursor: Cursor,
+    stack: PreparedStack<'a, T>,
 }
 
 impl<'a, T: search::Pattern> PathReport for Decision<'a, T> {
     ghost use Rattle.std.specs.Prelude.{map};
     ghost use Rattle.gix_glob.specs.EntryLists.{entry_list_of};
-    ghost use Rattle.glob_lists.specs.Index.{IndexedLists};
+    ghost use Rattle.glob_lists.specs.Matches.{RuledLists};
     ghost use Rattle.glob_lines.specs.Decisions.{WritesDecision};
 
-    ghost Basis = { IndexedLists T T.Value };
+    ghost Basis = { RuledLists T T.Value };
 
     ghost basis = { λ report. report.stack };
 
     ghost writes = { λ stack. WritesDecision (map (entry_list_of T.seen) stack.lists) stack.rules };
 
     fn append(&mut self, text: &mut Vec<u8>, path: &RepositoryPath<'_>) -> Result<(), AllocError> {
-        match self.stack.decide_near(path, &mut self.cursor) {
+        match self.stack.decide(path) {
             Some((i, m)) => {
                 let mapping = &self.stack.lists()[i].patterns[m];
                 append_verdict(text, i + 1, mapping)

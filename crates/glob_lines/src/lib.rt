@@ -15,7 +15,6 @@ mod list;
 mod numbers;
 mod path_lines;
 mod plain;
-mod stack;
 mod transfer;
 mod wild;
 

@@ -17,12 +17,11 @@ use crate::laws;
 use crate::numbers::{append_decimal, append_separated};
 use crate::path_lines::{PathReport, report_on};
 use crate::plain::PlainLines;
-use crate::stack::ListStack;
 use crate::transfer::{read_whole, write_output};
 use byte_streams::Watched;
 use gix_glob::pattern::Case;
 use gix_glob::search::pattern::List;
-use glob_lists::{RepositoryPath, Rules};
+use glob_lists::{PreparedStack, RepositoryPath, Rules};
 use std::alloc::{AllocError, Global};
 use std::io::{Read, Write};
 use std::slice;
@@ -88,7 +87,7 @@ fn matches_of(
 {
     let mut report = Matches {
         list,
-        stack: ListStack::new(alloc, slice::from_ref(list), Rules::by_crate(case))?,
+        stack: PreparedStack::new(alloc, slice::from_ref(list), Rules::by_crate(case))?,
         pairs: Vec::new(alloc),
     };
     report_on(alloc, &mut report, paths)
@@ -99,7 +98,7 @@ fn matches_of(
 struct Matches<'a> {
     list: &'a List<PlainLines>,
     /// The stack of the list alone.
-    stack: ListStack<'a, PlainLines>,
+    stack: PreparedStack<'a, PlainLines>,
     /// The places of the mappings that match a path: one list of them for all paths, so that not each of those takes memory.
     pairs: Vec<(usize, usize)>,
     ghost one: { stack.lists ≡ list.now ∷ [] },

@@ -4,7 +4,7 @@ use Rattle.std.specs.Prelude.{ℕ, ◌+◌, ◌*◌, List, length, sum_by}
 use Rattle.gix_glob.specs.PatternLimits.{pattern_look_limit, pattern_step_limit}
 use Rattle.gix_glob.specs.EntryLists.{EntryList}
 use Rattle.gix_glob.specs.Stripping.{strip_looks}
-use Rattle.glob_lists.specs.Index.{entry_count}
+use Rattle.glob_lists.specs.Matches.{entry_count}
 
 -- how many steps, and how many looks, one list takes at most
 abbrev pub list_step_limit : {V : Type 0} → EntryList V → ℕ → ℕ
@@ -20,7 +20,6 @@ decision_step_limit lists v = sum_by (λ list. list_step_limit list v) lists
 abbrev pub decision_look_limit : {V : Type 0} → List (EntryList V) → ℕ → ℕ
 decision_look_limit lists v = sum_by (λ list. list_look_limit list v) lists
 
--- how many looks an index adds: it reads the path three times, and two bytes more at most; it compares the path with at most 32
--- bases, byte by byte, and the front of the path with numbers; and it meets the row of each entry once
-abbrev pub index_look_limit : {V : Type 0} → List (EntryList V) → ℕ → ℕ
-index_look_limit lists v = 68 * v + 2 + entry_count lists
+-- how many looks prepared lists add: the path is read three times at most, and a byte more; and the row of each entry is met once
+abbrev pub prepared_look_limit : {V : Type 0} → List (EntryList V) → ℕ → ℕ
+prepared_look_limit lists v = 3 * v + 1 + entry_count lists

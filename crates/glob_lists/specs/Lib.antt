@@ -2,6 +2,6 @@ pub mod Paths
 pub mod Rules
 pub mod Deciding
 pub mod DecisionLimits
-pub mod Index
+pub mod Matches
 pub mod Prepared
 pub mod Private

@@ -4,7 +4,6 @@
 
 mod asks;
 mod deciding;
-mod fault;
 pub mod laws;
 mod link;
 mod list;
@@ -17,9 +16,8 @@ pub use asks::row::Row;
 pub use deciding::list_stack::ListStack;
 pub use deciding::matching::matches_into;
 pub use deciding::{bases_are_folders, decide, decide_by, decide_with_counts};
-pub use fault::IndexError;
 pub use list::prepared_list::PreparedList;
 pub use path::{RepositoryPath, plain_path};
 pub use rules::{Reading, Rules};
 pub use stack::changing::decide_prepared;
-pub use stack::index::{CountedDecision, Cursor, ListIndex};
+pub use stack::prepared_stack::{CountedDecision, PreparedStack};

@@ -1,4 +1,4 @@
-//! Links: where a row, an end or a folder stands, in four bytes.
+//! Links: where a row or an end stands, in four bytes.
 ghost use Rattle.std.specs.Prelude.{◌≡◌, ◌↔◌, ◌+◌, ◌^◌, ◌<◌, ◌≤◌, IsTrue, MatchOption, true};
 
 /// Where something stands among others, or that there is none, in four bytes: the number is one more than its place, or 0.
@@ -16,14 +16,6 @@ impl Link {
         ensures { result.0 ≡ place + 1 }
     {
         Link(place as u32 + 1)
-    }
-
-    /// The link to the last of so many, where there is one.
-    pub(crate) fn up_to(count: usize) -> Link
-        requires { count < 2 ^ 32 }
-        ensures { result.0 ≡ count }
-    {
-        Link(count as u32)
     }
 
     /// The place of the row, where there is one.

@@ -1,7 +1,4 @@
-//! Stacks of prepared lists: which lists a path asks, and in which order.
+//! Stacks of prepared lists: which patterns of them match a path.
 pub(crate) mod changing;
-mod folders;
-pub(crate) mod index;
 mod lists;
-mod order;
-mod way;
+pub(crate) mod prepared_stack;

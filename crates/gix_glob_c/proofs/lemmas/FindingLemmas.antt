@@ -11,7 +11,7 @@ use Rattle.gix_glob.specs.Entries.{Entry}
 use Rattle.gix_glob.specs.EntryLists.{EntryList}
 use Rattle.gix_glob.specs.Stripping.{Rest}
 use Rattle.glob_lists.specs.Deciding.{AnswersFor, AnswersUnder, PairAnswers}
-use Rattle.glob_lists.specs.Index.{AreMatches}
+use Rattle.glob_lists.specs.Matches.{AreMatches}
 use Rattle.glob_lists.specs.Paths.{Path}
 use Rattle.glob_lists.proofs.lemmas.Deciding.Answering.{AnswersAt-only, AnswersUnder-only, PairAnswers-only}
 use Rattle.glob_lists.proofs.lemmas.Deciding.MatchesUpTo.{matches_all, matches_more, matches_of_list, matches_skip}

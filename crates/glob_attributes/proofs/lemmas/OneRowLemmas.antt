@@ -10,7 +10,7 @@ use Rattle.gix_glob.specs.Entries.{Entry}
 use Rattle.gix_glob.specs.EntryLists.{EntryList}
 use Rattle.gix_glob.specs.Stripping.{NothingLeft, RestOf}
 use Rattle.glob_lists.specs.Deciding.{PairAnswers}
-use Rattle.glob_lists.specs.Index.{AreMatches, ComesBefore}
+use Rattle.glob_lists.specs.Matches.{AreMatches, ComesBefore}
 use Rattle.glob_lists.specs.Paths.{Path}
 use Rattle.glob_attributes.specs.Laws.Leaving.{emptied}
 use Rattle.glob_attributes.specs.Macros.{Definition}

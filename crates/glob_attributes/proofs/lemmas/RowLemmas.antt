@@ -8,7 +8,7 @@ use Rattle.std.proofs.lemmas.Option.{none-some, same_Some, slice_get_within}
 use Rattle.glob_lists.specs.declared.rules.Rules.{Rules}
 use Rattle.gix_glob.specs.EntryLists.{EntryList}
 use Rattle.glob_lists.specs.Deciding.{PairAnswers}
-use Rattle.glob_lists.specs.Index.{AreMatches, ComesBefore}
+use Rattle.glob_lists.specs.Matches.{AreMatches, ComesBefore}
 use Rattle.glob_lists.specs.Paths.{Path}
 use Rattle.glob_attributes.specs.States.{Assigned, IsRow, Lists, assigned_at}
 

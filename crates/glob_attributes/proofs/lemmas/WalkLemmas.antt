@@ -3,7 +3,7 @@ use Rattle.std.proofs.Common.{◌≡◌, ◌⊎◌, inl, inr, ⊎_elim, ℕ, zer
 use Rattle.std.specs.Prelude.{nat_lt, slice_get}
 use Rattle.std.proofs.lemmas.Bool.{cases_Bool, ltb-true, ltb-false}
 use Rattle.std.proofs.lemmas.Option.{none-some, same_Some}
-use Rattle.glob_lists.specs.Index.{ComesBefore}
+use Rattle.glob_lists.specs.Matches.{ComesBefore}
 
 -- the place (j, n) doesn't come before the place (i, m)
 abbrev pub ComesFrom : ℕ → ℕ → ℕ → ℕ → Type 0

@@ -7,7 +7,7 @@ use Rattle.std.proofs.lemmas.Option.{get_or_from_slice_get, same_Some, slice_get
 use Rattle.glob_lists.specs.declared.rules.Rules.{Rules}
 use Rattle.glob_lists.specs.Deciding.{AnswersAt, AnswersUnder, BasesAreFolders, HasFolder}
 use Rattle.gix_glob.specs.EntryLists.{EntryList}
-use Rattle.glob_lists.specs.Index.{AreMatches}
+use Rattle.glob_lists.specs.Matches.{AreMatches}
 use Rattle.glob_lines.specs.Plain.{PlainEntry}
 use Rattle.glob_lines.proofs.lemmas.MappingsLemmas.{IsListedUpTo, IsListedUpTo-more, IsListedUpTo-none, IsListedUpTo-skip}
 

@@ -3,7 +3,7 @@ use Rattle.std.specs.Prelude.{◌≡◌, ℕ, ◌<◌, Bool, List, Some, slice_g
 use Rattle.glob_lists.specs.declared.rules.Rules.{Rules}
 use Rattle.gix_glob.specs.EntryLists.{EntryList}
 use Rattle.glob_lists.specs.Deciding.{PairAnswers}
-use Rattle.glob_lists.specs.Index.{ComesBefore}
+use Rattle.glob_lists.specs.Matches.{ComesBefore}
 
 -- The pairs before (j, n) that answer, each of them once, in order.
 pub record AreMatchesUpTo {V : Type 0} (lists : List (EntryList V)) (path : List ℕ) (is_dir : Bool) (rules : Rules) (j n : ℕ) (found : List (ℕ × ℕ)) : Type 0 where

@@ -2,7 +2,7 @@
 ghost use Rattle.std.specs.Prelude.{◌+◌, ◌<◌, OnOk, length, map};
 ghost use Rattle.gix_glob.specs.EntryLists.{entry_list_of};
 ghost use Rattle.glob_lists.specs.Deciding.{BasesAreFolders};
-ghost use Rattle.glob_lists.specs.Index.{AreMatches};
+ghost use Rattle.glob_lists.specs.Matches.{AreMatches};
 ghost use Rattle.glob_lists.specs.Private.Matching.{AreMatchesUpTo};
 
 use crate::deciding::Asked;
@@ -15,8 +15,8 @@ use std::alloc::AllocError;
 /// Puts into `pairs` all patterns that match a path, in place of what it held: the places of the list and of the mapping in it,
 /// lists first, each from 0. A pattern matches where it matches what the base of its list leaves of the path.
 ///
-/// The lists have to meet [`bases_are_folders`](crate::bases_are_folders). An index answers the same for less
-/// ([`ListIndex::matches_into`](crate::ListIndex::matches_into)): this is the way where there is none.
+/// The lists have to meet [`bases_are_folders`](crate::bases_are_folders). Lists that are prepared
+/// answer the same for less ([`PreparedStack::matches_into`](crate::PreparedStack::matches_into)).
 ///
 /// # Errors
 /// Only where memory was refused. What `pairs` holds then is not said.

@@ -3,7 +3,7 @@
 ghost use Rattle.std.specs.Prelude.{◌≡◌, ◌+◌, ◌<◌, ◌≤◌, IfOk, OnOk, length, map};
 ghost use Rattle.gix_glob.specs.EntryLists.{entry_list_of};
 ghost use Rattle.glob_lists.specs.Deciding.{BasesAreFolders, Decides, PairAnswers};
-ghost use Rattle.glob_lists.specs.Index.{AreMatches, entry_count};
+ghost use Rattle.glob_lists.specs.Matches.{AreMatches, entry_count};
 ghost use Rattle.glob_lists.specs.Private.Asks.Showing.{Shows};
 ghost use Rattle.glob_lists.specs.Private.Asked.{IsLastOfList};
 ghost use Rattle.glob_lists.specs.Private.Stack.Finding.{AreFoundFrom, SpendsOnAll, SpendsOnList};

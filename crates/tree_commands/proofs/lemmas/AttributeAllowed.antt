@@ -84,16 +84,16 @@ module _ {S Q : Type 0} (files : Files) (asked : Asked) (case : Case) (shows : F
     abbrev at_path : Path
     at_path = record { bytes = asker.path.items; is_dir = is_folder }
 
-    module _ (assigned : List Assigned) (its : IsAssigned (map (entry_list_of seen_assignments) asker.index.now.lists ++ map (entry_list_of seen_assignments) asker.walk.lists.items) asker.walk.macros.now at_path asker.index.now.rules assigned) where
+    module _ (assigned : List Assigned) (its : IsAssigned (map (entry_list_of seen_assignments) asker.fronts.now.lists ++ map (entry_list_of seen_assignments) asker.walk.lists.items) asker.walk.macros.now at_path asker.fronts.now.rules assigned) where
       -- by the lists that are kept, as they are asked for
       by_kept : IsAssigned (lists_if_any (macros_for files) files at_path (by_git case) (asked_by asker.walk.asking) gone.way) (macros_for files) at_path (by_git case) assigned
       by_kept =
           let walks = gone.walks in
           subst (λ a. IsAssigned (lists_if_any (macros_for files) files at_path (by_git case) a gone.way) (macros_for files) at_path (by_git case) assigned) (sym walks.asks)
           (subst (λ rules. IsAssigned (lists_if_any (macros_for files) files at_path (by_git case) asked gone.way) (macros_for files) at_path rules assigned) ready.rules
-          (subst (λ macros. IsAssigned (lists_if_any (macros_for files) files at_path (by_git case) asked gone.way) macros at_path asker.index.now.rules assigned) walks.macros
-          (subst (λ lists. IsAssigned (front_lists asked (macros_for files) files ++ lists) asker.walk.macros.now at_path asker.index.now.rules assigned) gone.standing
-          (subst (λ lists. IsAssigned (lists ++ map (entry_list_of seen_assignments) asker.walk.lists.items) asker.walk.macros.now at_path asker.index.now.rules assigned) ready.lists its))))
+          (subst (λ macros. IsAssigned (lists_if_any (macros_for files) files at_path (by_git case) asked gone.way) macros at_path asker.fronts.now.rules assigned) walks.macros
+          (subst (λ lists. IsAssigned (front_lists asked (macros_for files) files ++ lists) asker.walk.macros.now at_path asker.fronts.now.rules assigned) gone.standing
+          (subst (λ lists. IsAssigned (lists ++ map (entry_list_of seen_assignments) asker.walk.lists.items) asker.walk.macros.now at_path asker.fronts.now.rules assigned) ready.lists its))))
 
       text_same : (filled : List Assigned) → IsAssignedTo (record { files = files; asked = asked; case = case; standpoint = asker.standpoint.now; form = asker.form }) told asker.path.items gone.way filled
           → told_states (asked_by asker.walk.asking) (names_of files gone.walks.read) assigned ≡ told_states asked (names_of files gone.walks.read) filled
@@ -166,7 +166,7 @@ module _ {S Q : Type 0} (files : Files) (asked : Asked) (case : Case) (shows : F
   -- ---- the top
 
   module _ (top : asker.path.items ≡ []) (unspent : asker.is_spent ≡ false) (assigned : List Assigned)
-      (its : IsAssigned (map (entry_list_of seen_assignments) asker.top.items) asker.walk.macros.now (record { bytes = []; is_dir = false }) asker.index.now.rules assigned) where
+      (its : IsAssigned (map (entry_list_of seen_assignments) asker.top.items) asker.walk.macros.now (record { bytes = []; is_dir = false }) asker.fronts.now.rules assigned) where
     abbrev at_top : Path
     at_top = record { bytes = []; is_dir = false }
 
@@ -176,8 +176,8 @@ module _ {S Q : Type 0} (files : Files) (asked : Asked) (case : Case) (shows : F
         let walks = ready.entered unspent in
         subst (λ a. IsAssigned (top_lists a (macros_for files) files) (macros_for files) at_top (by_git case) assigned) (sym walks.asks)
         (subst (λ rules. IsAssigned (top_lists asked (macros_for files) files) (macros_for files) at_top rules assigned) ready.rules
-        (subst (λ macros. IsAssigned (top_lists asked (macros_for files) files) macros at_top asker.index.now.rules assigned) walks.macros
-        (subst (λ lists. IsAssigned lists asker.walk.macros.now at_top asker.index.now.rules assigned) ready.top its)))
+        (subst (λ macros. IsAssigned (top_lists asked (macros_for files) files) macros at_top asker.fronts.now.rules assigned) walks.macros
+        (subst (λ lists. IsAssigned lists asker.walk.macros.now at_top asker.fronts.now.rules assigned) ready.top its)))
 
     top_same : (filled : List Assigned) → IsAssignedTo (record { files = files; asked = asked; case = case; standpoint = asker.standpoint.now; form = asker.form }) told asker.path.items [] filled
         → told_states (asked_by asker.walk.asking) (names_of files (ready.entered unspent).read) assigned ≡ told_states asked (names_of files (ready.entered unspent).read) filled

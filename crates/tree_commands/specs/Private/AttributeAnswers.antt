@@ -32,8 +32,8 @@ module _ {S Q : Type 0} (files : Files) (asked : Asked) (case : Case) (shows : F
   -- what is asked is what the asker has, and the folders on the way to something are entered, unless the asker is spent
   pub record IsReady (asker : AttributeAsker S Q) : Type 0 where
     pub allowed : (told text : List ℕ) → IsStatesText (record { files = files; asked = asked; case = case; standpoint = asker.standpoint.now; form = asker.form }) shows told text → allows told text
-    pub lists : map (entry_list_of seen_assignments) asker.index.now.lists ≡ front_lists asked (macros_for files) files
-    pub rules : asker.index.now.rules ≡ by_git case
+    pub lists : map (entry_list_of seen_assignments) asker.fronts.now.lists ≡ front_lists asked (macros_for files) files
+    pub rules : asker.fronts.now.rules ≡ by_git case
     pub top : map (entry_list_of seen_assignments) asker.top.items ≡ top_lists asked (macros_for files) files
     pub labels : map vec_items asker.labels.items ≡ labels_of asker.form asked
     pub entered : asker.is_spent ≡ false → IsEntered files asked shows shows_of asker.walk

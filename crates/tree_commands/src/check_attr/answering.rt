@@ -25,7 +25,7 @@ use crate::check_attr::walk::{Asking, FolderAttributes};
 use git_paths::Standpoint;
 use gix_glob::search::pattern;
 use glob_attributes::{Assignment, AttributeLines, PathAttributes, State};
-use glob_lists::{ListIndex, RepositoryPath, plain_path};
+use glob_lists::{PreparedStack, RepositoryPath, plain_path};
 use std::alloc::{AllocError, Global};
 use std::marker::Model;
 use tree_answers::{Form, PathAnswerer, append_answer, append_label, path_text};
@@ -82,7 +82,7 @@ pub(crate) struct AttributeAsker<'q, 'm, S, Q> {
     pub(crate) standpoint: &'q Standpoint,
     pub(crate) form: Form,
     /// The lists that are weaker than those of all folders below the top.
-    pub(crate) index: &'m ListIndex<'m, AttributeLines>,
+    pub(crate) fronts: &'m PreparedStack<'m, AttributeLines>,
     pub(crate) walk: FolderAttributes<'q, 'm, S, Q>,
     /// The lists that count for the top, with their patterns for names alone.
     pub(crate) top: Vec<pattern::List<AttributeLines>>,
@@ -236,9 +236,9 @@ impl<'q, 'm, S: AttributeFolders, Q: Question> AttributeAsker<'q, 'm, S, Q> {
         ensures kept { StartsWith text.new.items text.old.items }
     {
         let path = RepositoryPath::from_plain(&self.path, is_folder);
-        let assigned = PathAttributes::with_index(
+        let assigned = PathAttributes::with_prepared(
             self.alloc,
-            self.index,
+            self.fronts,
             &self.walk.lists,
             self.walk.macros,
             &path,
@@ -259,7 +259,7 @@ impl<'q, 'm, S: AttributeFolders, Q: Question> AttributeAsker<'q, 'm, S, Q> {
         ensures kept { StartsWith text.new.items text.old.items }
     {
         let top = RepositoryPath::top();
-        let rules = self.index.rules();
+        let rules = self.fronts.rules();
         let assigned = PathAttributes::new(self.alloc, &self.top, self.walk.macros, &top, rules)?;
         self.append_states(text, told, false, &assigned)
     }

@@ -7,7 +7,6 @@ ghost use Rattle.gix_glob.specs.EntryLists.{entry_list_of};
 ghost use Rattle.byte_streams.specs.Watched.{has_failed, inner};
 ghost use Rattle.glob_attributes.specs.Views.{seen_assignments};
 ghost use Rattle.byte_streams.specs.Transfers.{AppendsFront};
-ghost use Rattle.glob_lists.specs.Deciding.{BasesAreFolders};
 ghost use Rattle.glob_lists.specs.Rules.{by_git};
 ghost use Rattle.byte_streams.specs.Faults.{is_write_fault, told_refusal};
 ghost use Rattle.byte_streams.specs.Records.{TextOf};
@@ -30,10 +29,8 @@ use crate::check_attr::outer::{asking_of, front_lists, macros_of_files, top_list
 use crate::check_attr::question::{AskedAttributes, AttributeQuestion, Question};
 use crate::check_attr::walk::FolderAttributes;
 use byte_streams::{RecordFault, Watched};
-use gix_glob::pattern::Case;
-use gix_glob::search::pattern::List;
 use glob_attributes::{AttributeLines, MacroTable};
-use glob_lists::{ListIndex, Rules};
+use glob_lists::{PreparedStack, Rules};
 use std::alloc::{AllocError, Global};
 use std::io::{Read, Write};
 use std::marker::Brand;
@@ -91,10 +88,10 @@ fn run_question<R: Read, W: Write, S: AttributeFolders, Q: Question>(
     let Ok(lists) = front_lists(alloc, question.files, question.asked, &macros) else {
         return Err(RecordFault::Memory);
     };
-    let Ok(index) = index_of(alloc, &lists, question.case) else {
+    let Ok(fronts) = PreparedStack::new(alloc, &lists, Rules::by_git(question.case)) else {
         return Err(RecordFault::Memory);
     };
-    let Ok(answerer) = answerer_of::<S, Q>(alloc, question, source, &macros, &index) else {
+    let Ok(answerer) = answerer_of::<S, Q>(alloc, question, source, &macros, &fronts) else {
         return Err(RecordFault::Memory);
     };
     let (_answerer, told) = answer_records(alloc, answerer, form, records, writer);
@@ -158,29 +155,14 @@ fn check_paths<W: Write, S: AttributeFolders, Q: Question>(
     let Ok(lists) = front_lists(alloc, question.files, question.asked, &macros) else {
         return Err(RecordFault::Memory);
     };
-    let Ok(index) = index_of(alloc, &lists, question.case) else {
+    let Ok(fronts) = PreparedStack::new(alloc, &lists, Rules::by_git(question.case)) else {
         return Err(RecordFault::Memory);
     };
-    let Ok(answerer) = answerer_of::<S, Q>(alloc, question, source, &macros, &index) else {
+    let Ok(answerer) = answerer_of::<S, Q>(alloc, question, source, &macros, &fronts) else {
         return Err(RecordFault::Memory);
     };
     let (_answerer, told) = answer_paths(alloc, answerer, paths, true, writer);
     told
-}
-
-/// An index of the lists that are weaker than those of folders. These files have fewer patterns than would be too many.
-fn index_of(
-    alloc: Global,
-    lists: &[List<AttributeLines>],
-    case: Case,
-) -> Result<ListIndex<'_, AttributeLines>, AllocError>
-    requires { BasesAreFolders (map (entry_list_of seen_assignments) lists.now) }
-    ensures { IfOk result (λ index. (index.lists ≡ lists.entry.now) × (index.rules ≡ by_git case)) }
-{
-    match ListIndex::new(alloc, lists, Rules::by_git(case)) {
-        Ok(index) => Ok(index),
-        Err(_refused) => Err(AllocError),
-    }
 }
 
 /// What answers each path by a question.
@@ -189,12 +171,12 @@ fn answerer_of<'q, 'm, S: AttributeFolders, Q: Question>(
     question: &AttributeQuestion<'q>,
     source: S,
     macros: &'m MacroTable,
-    index: &'m ListIndex<'m, AttributeLines>,
+    fronts: &'m PreparedStack<'m, AttributeLines>,
 ) -> Result<AttributeAnswerer<'q, 'm, S, Q>, AllocError>
     requires asks { AsksFor Q.files Q.asked Q.case Q.shows Q.allows question.now (S.shows source) }
     requires macros { macros.now ≡ macros_for Q.files }
-    requires lists { map (entry_list_of seen_assignments) index.now.lists ≡ front_lists Q.asked (macros_for Q.files) Q.files }
-    requires rules { index.now.rules ≡ by_git Q.case }
+    requires lists { map (entry_list_of seen_assignments) fronts.now.lists ≡ front_lists Q.asked (macros_for Q.files) Q.files }
+    requires rules { fronts.now.rules ≡ by_git Q.case }
 {
     let walk = walk_of::<S, Q>(alloc, question, source, macros)?;
     let labels = labels_of(alloc, question.asked, question.form)?;
@@ -203,7 +185,7 @@ fn answerer_of<'q, 'm, S: AttributeFolders, Q: Question>(
         alloc,
         standpoint: question.standpoint,
         form: question.form,
-        index,
+        fronts,
         walk,
         top,
         labels,

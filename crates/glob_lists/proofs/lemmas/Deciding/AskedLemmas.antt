@@ -21,10 +21,6 @@ pub record SpendsFromWith {V : Type 0} (lists : List (EntryList V)) (more : Entr
   pub grows : NeverFall before after
 
 module _ {V : Type 0} (lists : List (EntryList V)) (more : EntryList V → ℕ) (v : ℕ) where
-  -- no list was asked
-  pub SpendsFrom-none : (i : ℕ) (counts : Counts) → SpendsFromWith lists more v i counts counts
-  SpendsFrom-none i counts = record { steps = omega arith; looks = omega arith; grows = record { steps = omega arith; looks = omega arith } }
-
   -- a list before those was asked
   pub SpendsFrom-asked : (i reached : ℕ) (list : EntryList V) (before middle after : Counts) → i + 1 ≤ reached → slice_get lists i ≡ Some list → SpendsFromWith lists more v reached before middle
       → SpendsWith list (more list) v middle after → SpendsFromWith lists more v i before after

@@ -5,7 +5,7 @@ use Rattle.std.proofs.lemmas.Option.{slice_get_within}
 use Rattle.glob_lists.specs.declared.rules.Rules.{Rules}
 use Rattle.gix_glob.specs.EntryLists.{EntryList}
 use Rattle.glob_lists.specs.Deciding.{PairAnswers}
-use Rattle.glob_lists.specs.Index.{AreMatches, ComesBefore}
+use Rattle.glob_lists.specs.Matches.{AreMatches, ComesBefore}
 use Rattle.glob_lists.specs.Private.Matching.{AreMatchesUpTo}
 use Rattle.glob_lists.proofs.lemmas.Elements.{slice_get-push_cases, slice_get-push_new, slice_get-push_old}
 use Rattle.glob_lists.proofs.lemmas.Deciding.PlaceOrder.{before_later, before_next, before_next_list}

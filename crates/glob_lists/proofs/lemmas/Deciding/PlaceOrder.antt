@@ -1,7 +1,7 @@
 -- The order of places: lists first.
 use Rattle.std.proofs.Common.{◌≡◌, ◌⊎◌, inl, inr, ⊎_elim, ℕ, ◌+◌, ◌≤◌, arith}
 use Rattle.std.proofs.lemmas.Bool.{cases_eq}
-use Rattle.glob_lists.specs.Index.{ComesBefore}
+use Rattle.glob_lists.specs.Matches.{ComesBefore}
 
 -- before the next place of a list: before this one, or this one
 pub before_next : (a b j n : ℕ) → ComesBefore a b j (n + 1) → ComesBefore a b j n ⊎ ((a ≡ j) × (b ≡ n))

@@ -7,7 +7,7 @@ use Rattle.std.proofs.lemmas.Option.{slice_get_within}
 use Rattle.glob_lists.specs.declared.rules.Rules.{Rules}
 use Rattle.gix_glob.specs.EntryLists.{EntryList}
 use Rattle.glob_lists.specs.Deciding.{AnswersAt, PairAnswers}
-use Rattle.glob_lists.specs.Index.{AreMatches, ComesBefore}
+use Rattle.glob_lists.specs.Matches.{AreMatches, ComesBefore}
 use Rattle.glob_lists.specs.Paths.{Path}
 use Rattle.glob_lists.specs.Private.Lists.Answering.{IsNextMatch, NoneAnswers}
 use Rattle.glob_lists.specs.Private.Stack.Finding.{AreFoundFrom, IsFrom}
@@ -24,19 +24,6 @@ module _ {V : Type 0} (lists : List (EntryList V)) (path : Path) (rules : Rules)
 
   abbrev Found : ℕ → ℕ → List (ℕ × ℕ) → Type 0
   Found j n found = AreFoundFrom lists path rules j n found
-
-  -- past the last list nothing is found
-  pub AreFoundFrom-none : (j n : ℕ) (found : List (ℕ × ℕ)) → length lists ≤ j → found ≡ [] → Found j n found
-  AreFoundFrom-none j n found past none =
-      let short : length found ≡ 0 = ap (λ (xs : List (ℕ × ℕ)). length xs) none in record {
-        each = λ x pair got. (let inside = slice_get_within found x pair got in absurd (omega arith));
-        from = λ x pair got. (let inside = slice_get_within found x pair got in absurd (omega arith));
-        falling = λ x y a b less got. (let inside = slice_get_within found x a got in absurd (omega arith));
-        all = λ i m answers from. (let inside = slice_get_within lists i answers.list answers.there in ⊎_elim
-            (λ (later : j < i). absurd (omega arith))
-            (λ (same : (j ≡ i) × (n ≤ m)). absurd (omega (arith, same.0)))
-            from);
-      }
 
   -- from an earlier pair on the same is found, where none between answers
   pub AreFoundFrom-skip : (j n i m : ℕ) (found : List (ℕ × ℕ)) → IsFrom j n i m → ((k e : ℕ) → IsFrom j n k e → ComesBefore k e i m → ¬ Answer k e) → Found i m found → Found j n found

@@ -4,7 +4,7 @@ use Rattle.glob_lists.specs.declared.rules.Rules.{Rules}
 use Rattle.gix_glob.specs.EntryLists.{EntryList}
 use Rattle.gix_glob.specs.Steps.{Counts}
 use Rattle.glob_lists.specs.Deciding.{PairAnswers}
-use Rattle.glob_lists.specs.Index.{ComesBefore}
+use Rattle.glob_lists.specs.Matches.{ComesBefore}
 use Rattle.glob_lists.specs.Paths.{Path}
 use Rattle.glob_lists.specs.Private.Asked.{SpendsOnAllWith}
 use Rattle.glob_lists.specs.Private.Lists.Answering.{Spends}

@@ -8,8 +8,8 @@ use Rattle.tree_commands.proofs.check_attr.running.run_question.Goals as goal
 pub returns-in_default-front_lists : goal.returns-in_default-front_lists
 returns-in_default-front_lists g c = refused_run (IsTextOf g.Q.Question.allows c.args.question.now.form) _ _ _ _ _ _ c.requires.readable c.requires.writable
 
-pub returns-in_default-index_of : goal.returns-in_default-index_of
-returns-in_default-index_of g c = refused_run (IsTextOf g.Q.Question.allows c.args.question.now.form) _ _ _ _ _ _ c.requires.readable c.requires.writable
+pub returns-in_default-new : goal.returns-in_default-new
+returns-in_default-new g c = refused_run (IsTextOf g.Q.Question.allows c.args.question.now.form) _ _ _ _ _ _ c.requires.readable c.requires.writable
 
 pub returns-in_default-answerer_of : goal.returns-in_default-answerer_of
 returns-in_default-answerer_of g c = refused_run (IsTextOf g.Q.Question.allows c.args.question.now.form) _ _ _ _ _ _ c.requires.readable c.requires.writable

@@ -1,7 +1,7 @@
 use Rattle.std.proofs.Common.{◌≤◌, ◌<◌, map, take}
 use Rattle.gix_glob.specs.EntryLists.{entry_list_of}
 use Rattle.glob_lists.specs.Deciding.{PairAnswers}
-use Rattle.glob_lists.specs.Index.{entry_count}
+use Rattle.glob_lists.specs.Matches.{entry_count}
 use Rattle.glob_lists.proofs.stack.lists.PreparedLists.count_shown_from.Given as goal
 
 -- as many were counted at most as the lists so far have, and one where the first pair answers

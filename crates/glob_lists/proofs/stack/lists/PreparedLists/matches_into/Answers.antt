@@ -1,7 +1,7 @@
 -- All lists were gone through, from the last one on.
 use Rattle.std.proofs.Common.{◌≡◌, ℕ, map, sym, subst, arith}
 use Rattle.gix_glob.specs.EntryLists.{entry_list_of}
-use Rattle.glob_lists.specs.Index.{AreMatches}
+use Rattle.glob_lists.specs.Matches.{AreMatches}
 use Rattle.glob_lists.specs.Private.Stack.Finding.{AreFoundFrom}
 use Rattle.glob_lists.proofs.lemmas.Stack.FoundPairs.{AreFoundFrom-all}
 use Rattle.glob_lists.proofs.stack.lists.PreparedLists.matches_into.Goals as goal

@@ -9,8 +9,8 @@ use Rattle.tree_commands.specs.CheckAttr.{macros_for}
 use Rattle.tree_commands.proofs.lemmas.AttributeAllowed.{assigned_allowed, bases_of_way}
 use Rattle.tree_commands.proofs.check_attr.answering.AttributeAsker.append_assigned.Goals as goal
 
-pub with_index-requires : goal.with_index-requires
-with_index-requires g c = record {
+pub with_prepared-requires : goal.with_prepared-requires
+with_prepared-requires g c = record {
   folders = subst BasesAreFolders
       (sym (ap (map (entry_list_of seen_assignments)) c.deref-2.ensures.value ∙ c.requires.gone.standing))
       (bases_of_way g.Q.Question.asked (macros_for g.Q.Question.files) c.requires.gone.way g.Q.Question.files.info);
@@ -19,12 +19,12 @@ with_index-requires g c = record {
 pub returns-clause-written : goal.returns-clause-written
 returns-clause-written g c =
     let asker = c.args.self.now in
-    let fronts = map (entry_list_of seen_assignments) asker.index.now.lists in
+    let fronts = map (entry_list_of seen_assignments) asker.fronts.now.lists in
     let path : c.from_plain-path.result ≡ record { bytes = asker.path.items; is_dir = c.args.is_folder } =
     c.from_plain-path.ensures ∙ ap (λ bytes. record { bytes = bytes; is_dir = c.args.is_folder }) c.deref.ensures.value in
     let its =
-    subst (λ p. IsAssigned (fronts ++ map (entry_list_of seen_assignments) asker.walk.lists.items) asker.walk.macros.now p asker.index.now.rules c.in_ok-assigned.assigned) path
-    (subst (λ ls. IsAssigned (fronts ++ map (entry_list_of seen_assignments) ls) asker.walk.macros.now c.from_plain-path.result asker.index.now.rules c.in_ok-assigned.assigned) c.deref-2.ensures.value c.in_ok-assigned.ensures) in
+    subst (λ p. IsAssigned (fronts ++ map (entry_list_of seen_assignments) asker.walk.lists.items) asker.walk.macros.now p asker.fronts.now.rules c.in_ok-assigned.assigned) path
+    (subst (λ ls. IsAssigned (fronts ++ map (entry_list_of seen_assignments) ls) asker.walk.macros.now c.from_plain-path.result asker.fronts.now.rules c.in_ok-assigned.assigned) c.deref-2.ensures.value c.in_ok-assigned.ensures) in
     ok_gives c.append_states.result _ _
     (λ written. assigned_allowed g.Q.Question.files g.Q.Question.asked g.Q.Question.case g.Q.Question.shows g.Q.Question.allows g.S.AttributeFolders.shows asker c.requires.ready c.args.told.now c.requires.leads c.requires.plain c.args.is_folder c.requires.folder c.requires.gone
     c.in_ok-assigned.assigned its c.args.text.now.items c.append_states.new.text.items written)

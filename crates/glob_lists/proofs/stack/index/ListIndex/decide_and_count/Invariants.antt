@@ -1,5 +1,0 @@
--- The counts are kept in the ledger that the blank one becomes.
-use Rattle.glob_lists.proofs.stack.index.ListIndex.decide_and_count.Given as goal
-
-abbrev pub ghosts-decide_and_count_with_new_counts : goal.ghosts-decide_and_count_with_new_counts
-ghosts-decide_and_count_with_new_counts g a = record { name = a.blank.name; parts = a.blank.parts }

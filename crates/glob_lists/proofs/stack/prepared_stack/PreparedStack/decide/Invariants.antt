@@ -1,0 +1,5 @@
+-- The counts are kept in the ledger that the blank one becomes.
+use Rattle.glob_lists.proofs.stack.prepared_stack.PreparedStack.decide.Given as goal
+
+abbrev pub ghosts-decide_with_new_counts : goal.ghosts-decide_with_new_counts
+ghosts-decide_with_new_counts g a = record { name = a.blank.name; parts = a.blank.parts }
