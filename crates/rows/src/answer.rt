@@ -6,59 +6,71 @@ use crate::row::Field;
 use std::alloc::{AllocError, Global};
 use std::fmt::Display;
 
-/// Fields that are the answer.
-pub(crate) type Answer = Vec<Field>;
+/// The fields that answer a row, added one by one: who adds one has no other in hand.
+#[derive(Drop)]
+pub(crate) struct Answer {
+    pub(crate) alloc: Global,
+    fields: Vec<Field>,
+}
 
-/// A field of bytes, where there are some.
-pub(crate) fn field(alloc: Global, bytes: Option<&[u8]>) -> Result<Field, AllocError> {
-    match bytes {
-        Some(bytes) => Ok(Some(Vec::from_slice(alloc, bytes)?)),
-        None => Ok(None),
+impl Answer {
+    /// No field yet.
+    pub(crate) fn none(alloc: Global) -> Answer {
+        Answer {
+            alloc,
+            fields: Vec::new(alloc),
+        }
     }
-}
 
-/// What is shown of a value.
-pub(crate) fn shown<T: Display>(alloc: Global, value: &T) -> Result<Field, AllocError> {
-    Ok(Some(format!(in alloc; "{value}")?.into_bytes()))
-}
-
-/// A number, where there is one.
-pub(crate) fn number(alloc: Global, number: Option<usize>) -> Result<Field, AllocError> {
-    match number {
-        Some(number) => shown(alloc, &number),
-        None => Ok(None),
+    /// The fields.
+    pub(crate) fn fields(&self) -> &[Field] {
+        &self.fields
     }
-}
 
-/// `yes` or `no`.
-pub(crate) fn told(alloc: Global, is_so: bool) -> Result<Field, AllocError> {
-    field(alloc, Some(if is_so { b"yes" } else { b"no" }))
-}
+    /// Adds a field of these bytes.
+    pub(crate) fn push(&mut self, bytes: Vec<u8>) -> Result<(), AllocError> {
+        self.fields.push(Some(bytes))?;
+        Ok(())
+    }
 
-/// An answer of one field.
-pub(crate) fn one(alloc: Global, field: Field) -> Result<Answer, AllocError> {
-    let mut answer = Vec::new(alloc);
-    answer.push(field)?;
-    Ok(answer)
-}
+    /// Adds a field without bytes.
+    pub(crate) fn skip(&mut self) -> Result<(), AllocError> {
+        self.fields.push(None)?;
+        Ok(())
+    }
 
-/// An answer of two fields.
-pub(crate) fn two(alloc: Global, first: Field, second: Field) -> Result<Answer, AllocError> {
-    let mut answer = one(alloc, first)?;
-    answer.push(second)?;
-    Ok(answer)
-}
+    /// Adds a field of a copy of bytes.
+    pub(crate) fn copy(&mut self, bytes: &[u8]) -> Result<(), AllocError> {
+        let bytes = Vec::from_slice(self.alloc, bytes)?;
+        self.push(bytes)
+    }
 
-/// An answer of three fields.
-pub(crate) fn three(
-    alloc: Global,
-    first: Field,
-    second: Field,
-    third: Field,
-) -> Result<Answer, AllocError> {
-    let mut answer = two(alloc, first, second)?;
-    answer.push(third)?;
-    Ok(answer)
+    /// Adds a field of a copy of bytes, where there are some.
+    pub(crate) fn copy_some(&mut self, bytes: Option<&[u8]>) -> Result<(), AllocError> {
+        match bytes {
+            Some(bytes) => self.copy(bytes),
+            None => self.skip(),
+        }
+    }
+
+    /// Adds a field of what is shown of a value.
+    pub(crate) fn show<T: Display>(&mut self, value: &T) -> Result<(), AllocError> {
+        let text = format!(in self.alloc; "{value}")?;
+        self.push(text.into_bytes())
+    }
+
+    /// Adds a field of a number, where there is one.
+    pub(crate) fn number(&mut self, number: Option<usize>) -> Result<(), AllocError> {
+        match number {
+            Some(number) => self.show(&number),
+            None => self.skip(),
+        }
+    }
+
+    /// Adds a field, `yes` or `no`.
+    pub(crate) fn tell(&mut self, is_so: bool) -> Result<(), AllocError> {
+        self.copy(if is_so { b"yes" } else { b"no" })
+    }
 }
 
 /// Room for what most rows answer: so a refusal of memory is told by the call itself, and not as a failed write.

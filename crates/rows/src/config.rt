@@ -1,6 +1,6 @@
 //! Rows of the sources of a configuration: which files and words are read, or what is wrong behind them.
 
-use crate::answer::{Answer, two};
+use crate::answer::Answer;
 use crate::row::Row;
 use anyhow::Result;
 use git_config::split_word;
@@ -14,21 +14,26 @@ use std::alloc::{AllocError, Global};
 type Variable<'a> = (&'a [u8], &'a [u8]);
 
 /// Which files and words are read.
-pub(crate) fn config_sources(alloc: Global, row: &Row) -> Result<Answer> {
+pub(crate) fn config_sources(row: &Row, answer: &mut Answer) -> Result<()> {
+    let ConfigSources { list, fault } = sources_in(answer.alloc, row)?;
+    match fault {
+        Some(fault) => {
+            answer.skip()?;
+            Ok(answer.push(fault_text(answer.alloc, fault)?)?)
+        }
+        None => {
+            answer.push(list_text(answer.alloc, &list)?)?;
+            Ok(answer.skip()?)
+        }
+    }
+}
+
+/// The sources by the variables, the two paths and the words of a row.
+fn sources_in(alloc: Global, row: &Row) -> Result<ConfigSources> {
     let mut variables = Variables::none(alloc);
     set_variables(alloc, &mut variables, &variables_of(alloc, row.bytes(0))?)?;
     let words = words_of(alloc, row.bytes(3))?;
-    let ConfigSources { list, fault } = sources_of(
-        alloc,
-        &variables,
-        row.option(1),
-        row.option(2),
-        &words,
-    )?;
-    match fault {
-        Some(fault) => Ok(two(alloc, None, Some(fault_text(alloc, fault)?))?),
-        None => Ok(two(alloc, Some(list_text(alloc, &list)?), None)?),
-    }
+    Ok(sources_of(alloc, &variables, row.option(1), row.option(2), &words)?)
 }
 
 /// The variables of lines.

@@ -62,58 +62,58 @@ const SUBJECTS: &[&str] = &[
 ];
 
 /// What the libraries answer to a row of a subject. (The proof of a long `match` costs more than those of its parts.)
-fn ask(alloc: Global, subject: &str, row: &Row) -> Result<Answer> {
+fn ask(subject: &str, row: &Row, answer: &mut Answer) -> Result<()> {
     match subject {
-        "matching" => matching::matching(alloc, row),
-        "starts" => matching::starts(alloc, row),
-        "attempts" => matching::attempts(alloc, row),
-        "answered" => matching::answered(alloc, row),
-        "reading" => patterns::reading(alloc, row),
-        "git_reading" => patterns::git_reading(alloc, row),
-        "wildcards" => patterns::wildcards(alloc, row),
-        "parts" => patterns::parts(alloc, row),
-        "shown" => patterns::shown_line(alloc, row),
-        "values" => patterns::values(alloc, row),
-        "basenames" => patterns::basenames(alloc, row),
-        "repository_paths" => patterns::repository_paths(alloc, row),
-        "git_paths" => patterns::git_paths(alloc, row),
-        _ => ask_lists(alloc, subject, row),
+        "matching" => matching::matching(row, answer),
+        "starts" => matching::starts(row, answer),
+        "attempts" => matching::attempts(row, answer),
+        "answered" => matching::answered(row, answer),
+        "reading" => patterns::reading(row, answer),
+        "git_reading" => patterns::git_reading(row, answer),
+        "wildcards" => patterns::wildcards(row, answer),
+        "parts" => patterns::parts(row, answer),
+        "shown" => patterns::shown_line(row, answer),
+        "values" => patterns::values(row, answer),
+        "basenames" => patterns::basenames(row, answer),
+        "repository_paths" => patterns::repository_paths(row, answer),
+        "git_paths" => patterns::git_paths(row, answer),
+        _ => ask_lists(subject, row, answer),
     }
 }
 
 /// The same of lines, lists and what follows.
-fn ask_lists(alloc: Global, subject: &str, row: &Row) -> Result<Answer> {
+fn ask_lists(subject: &str, row: &Row, answer: &mut Answer) -> Result<()> {
     match subject {
-        "file_parts" => lists::file_parts(alloc, row),
-        "bases" => lists::bases(alloc, row),
-        "stripping" => lists::stripping(alloc, row),
-        "listed" => lists::listed(alloc, row),
-        "decided" => lists::decided(alloc, row),
-        "folders" => lists::folders(alloc, row),
-        "ignore_files" => lines::files(alloc, row, &IgnoreLines),
-        "git_files" => lines::files(alloc, row, &GitIgnoreLines),
-        "ignore_lines" => lines::line(alloc, next_ignore_line(row.bytes(0))),
-        "git_lines" => lines::line(alloc, next_git_line(row.bytes(0))),
-        "marks" => lines::marks(alloc, row),
-        "labels" => lines::labels(alloc, row),
-        _ => ask_files(alloc, subject, row),
+        "file_parts" => lists::file_parts(row, answer),
+        "bases" => lists::bases(row, answer),
+        "stripping" => lists::stripping(row, answer),
+        "listed" => lists::listed(row, answer),
+        "decided" => lists::decided(row, answer),
+        "folders" => lists::folders(row, answer),
+        "ignore_files" => lines::files(row, &IgnoreLines, answer),
+        "git_files" => lines::files(row, &GitIgnoreLines, answer),
+        "ignore_lines" => lines::line(next_ignore_line(row.bytes(0)), answer),
+        "git_lines" => lines::line(next_git_line(row.bytes(0)), answer),
+        "marks" => lines::marks(row, answer),
+        "labels" => lines::labels(row, answer),
+        _ => ask_files(subject, row, answer),
     }
 }
 
 /// The same of attributes, records, the index and configuration.
-fn ask_files(alloc: Global, subject: &str, row: &Row) -> Result<Answer> {
+fn ask_files(subject: &str, row: &Row, answer: &mut Answer) -> Result<()> {
     match subject {
-        "pathspecs" => others::spelt_words(alloc, row),
-        "attribute_names" => attributes::attribute_names(alloc, row),
-        "attribute_folders" => attributes::attribute_folders(alloc, row),
-        "attributes_kept" => attributes::attributes_kept(alloc, row),
-        "names_read" => attributes::names_read(alloc, row),
-        "records" => others::records(alloc, row),
-        "index_files" => index::index_files(alloc, row),
-        "index_paths" => index::index_paths(alloc, row),
-        "folded_paths" => index::folded_paths(alloc, row),
-        "safe_directories" => others::safe_directories(alloc, row),
-        "config_sources" => config::config_sources(alloc, row),
+        "pathspecs" => others::spelt_words(row, answer),
+        "attribute_names" => attributes::attribute_names(row, answer),
+        "attribute_folders" => attributes::attribute_folders(row, answer),
+        "attributes_kept" => attributes::attributes_kept(row, answer),
+        "names_read" => attributes::names_read(row, answer),
+        "records" => others::records(row, answer),
+        "index_files" => index::index_files(row, answer),
+        "index_paths" => index::index_paths(row, answer),
+        "folded_paths" => index::folded_paths(row, answer),
+        "safe_directories" => others::safe_directories(row, answer),
+        "config_sources" => config::config_sources(row, answer),
         _ => bail!("no subject"),
     }
 }
@@ -157,14 +157,14 @@ fn is_right<R: Print + AllocGlobal>(
     number: usize,
 ) -> Result<bool> {
     let row = Row::of_line(rt.alloc(), line)?;
-    let answer = match ask(rt.alloc(), subject, &row) {
-        Ok(answer) => answer,
-        Err(fault) => bail!("{subject}.tsv:{number}: {fault}"),
-    };
-    if row.ends_with(&answer) {
+    let mut answer = Answer::none(rt.alloc());
+    if let Err(fault) = ask(subject, &row, &mut answer) {
+        bail!("{subject}.tsv:{number}: {fault}");
+    }
+    if row.ends_with(answer.fields()) {
         return Ok(true);
     }
-    let given = text_of(rt.alloc(), &answer)?;
+    let given = text_of(rt.alloc(), answer.fields())?;
     println!(rt; "{subject}.tsv:{number}: answered{given}")?;
     Ok(false)
 }

@@ -1,6 +1,7 @@
 //! Rows of matching: by each engine, by the engine of lines, and by attempts of the recursive one.
 
-use crate::answer::{Answer, one, room, told};
+use crate::answer::{Answer, room};
+use crate::attributes::push_number;
 use crate::row::Row;
 use anyhow::{Result, bail};
 use gix_glob::search::Watched;
@@ -25,17 +26,17 @@ fn stars(pattern: &[u8]) -> usize {
 }
 
 /// Whether a pattern matches a value in a mode. Both engines and that of lines have to agree.
-pub(crate) fn matching(alloc: Global, row: &Row) -> Result<Answer> {
+pub(crate) fn matching(row: &Row, answer: &mut Answer) -> Result<()> {
     let (mode, pattern, value) = (row.mode(0), row.bytes(1), row.bytes(2));
     let is_matched = wildmatch(pattern, value, mode);
     let is_found = recursive(pattern, value, mode);
     if is_found != is_matched && (is_found || stars(pattern) <= MOST_STARS) {
         bail!("the engines differ");
     }
-    if !value.contains(&b'\n') && line_answer(alloc, pattern, mode, value)? != is_matched {
+    if !value.contains(&b'\n') && line_answer(answer.alloc, pattern, mode, value)? != is_matched {
         bail!("the engine of lines differs");
     }
-    Ok(one(alloc, told(alloc, is_matched)?)?)
+    Ok(answer.tell(is_matched)?)
 }
 
 /// What the engine of lines answers for a value as its one line.
@@ -50,9 +51,9 @@ fn line_answer(alloc: Global, pattern: &[u8], mode: Mode, value: &[u8]) -> Resul
 }
 
 /// What is written for the lines of values.
-pub(crate) fn answered(alloc: Global, row: &Row) -> Result<Answer> {
-    let text = wild(alloc, row.bytes(1), row.mode(0), row.bytes(2))?;
-    Ok(one(alloc, Some(text))?)
+pub(crate) fn answered(row: &Row, answer: &mut Answer) -> Result<()> {
+    let text = wild(answer.alloc, row.bytes(1), row.mode(0), row.bytes(2))?;
+    Ok(answer.push(text)?)
 }
 
 /// What the engine of lines writes.
@@ -63,20 +64,19 @@ fn wild(alloc: Global, pattern: &[u8], mode: Mode, values: &[u8]) -> Result<Vec<
 }
 
 /// The places of a pattern from which an attempt may begin, with a space between each two.
-pub(crate) fn starts(alloc: Global, row: &Row) -> Result<Answer> {
+pub(crate) fn starts(row: &Row, answer: &mut Answer) -> Result<()> {
     let (mode, pattern) = (row.mode(0), row.bytes(1));
-    let mut text = String::new(alloc);
+    let mut text = String::new(answer.alloc);
     for place in 0..=pattern.len() {
         if is_start(pattern, place, mode) {
-            let space = if text.is_empty() { "" } else { " " };
-            text.push_str(format!(in alloc; "{space}{place}")?.as_str())?;
+            push_number(answer.alloc, &mut text, place)?;
         }
     }
-    Ok(one(alloc, Some(text.into_bytes()))?)
+    Ok(answer.push(text.into_bytes())?)
 }
 
 /// What an attempt answers from a place of a pattern and one of a value, at a depth.
-pub(crate) fn attempts(alloc: Global, row: &Row) -> Result<Answer> {
+pub(crate) fn attempts(row: &Row, answer: &mut Answer) -> Result<()> {
     let (mode, pattern, value) = (row.mode(0), row.bytes(1), row.bytes(3));
     let (Some(place), Some(at), Some(depth)) = (row.number(2), row.number(4), row.number(5)) else {
         bail!("no places");
@@ -84,7 +84,7 @@ pub(crate) fn attempts(alloc: Global, row: &Row) -> Result<Answer> {
     if !is_start(pattern, place, mode) || at > value.len() || depth > 64 {
         bail!("no place where an attempt may begin");
     }
-    let answer = attempt(pattern, place, value, at, mode, depth);
-    let text = format!(in alloc; "{answer:?}")?;
-    Ok(one(alloc, Some(text.into_bytes()))?)
+    let found = attempt(pattern, place, value, at, mode, depth);
+    let text = format!(in answer.alloc; "{found:?}")?;
+    Ok(answer.push(text.into_bytes())?)
 }

@@ -1,6 +1,6 @@
 //! Rows of records, of what words of commands spell, and of folders that are safe.
 
-use crate::answer::{Answer, field, one, room, told, two};
+use crate::answer::{Answer, room};
 use crate::row::Row;
 use anyhow::Result;
 use byte_streams::{Answerer, RecordStream};
@@ -33,29 +33,39 @@ impl Answerer for Brackets {
 }
 
 /// Which records bytes are, each in brackets.
-pub(crate) fn records(alloc: Global, row: &Row) -> Result<Answer> {
+pub(crate) fn records(row: &Row, answer: &mut Answer) -> Result<()> {
+    let alloc = answer.alloc;
     let end = if row.is(0, b"nul") { 0 } else { b'\n' };
     let (mut reader, mut writer) = (Watched::new(row.bytes(1)), Watched::new(room(alloc)?));
     (RecordStream { alloc, end }).run(&mut reader, &mut writer, &mut Brackets)?;
-    Ok(one(alloc, Some(writer.into_inner()))?)
+    Ok(answer.push(writer.into_inner())?)
 }
 
 /// Whether a word spells a path that is told from the top, and the path; nothing where it spells none.
-pub(crate) fn spelt_words(alloc: Global, row: &Row) -> Result<Answer> {
+pub(crate) fn spelt_words(row: &Row, answer: &mut Answer) -> Result<()> {
     match Pathspec::spelt_by(row.bytes(0)) {
         Some(spelt) => {
-            let path = field(alloc, Some(spelt.path))?;
-            Ok(two(alloc, told(alloc, spelt.is_from_top)?, path)?)
+            answer.tell(spelt.is_from_top)?;
+            Ok(answer.copy(spelt.path)?)
         }
-        None => Ok(two(alloc, None, None)?),
+        None => {
+            answer.skip()?;
+            Ok(answer.skip()?)
+        }
     }
 }
 
 /// Whether values of `safe.directory`, a line each, name a path.
-pub(crate) fn safe_directories(alloc: Global, row: &Row) -> Result<Answer> {
-    let mut values = Vec::new(alloc);
-    for line in row.bytes(1).split(|byte| *byte == b'\n') {
-        values.push(Vec::from_slice(alloc, line)?)?;
+pub(crate) fn safe_directories(row: &Row, answer: &mut Answer) -> Result<()> {
+    let is_trusted = trusts(&lines_of(answer.alloc, row.bytes(1))?, row.bytes(0));
+    Ok(answer.tell(is_trusted)?)
+}
+
+/// The lines of a text.
+fn lines_of(alloc: Global, text: &[u8]) -> Result<Vec<Vec<u8>>, AllocError> {
+    let mut lines = Vec::new(alloc);
+    for line in text.split(|byte| *byte == b'\n') {
+        lines.push(Vec::from_slice(alloc, line)?)?;
     }
-    Ok(one(alloc, told(alloc, trusts(&values, row.bytes(0)))?)?)
+    Ok(lines)
 }

@@ -4,7 +4,7 @@ ghost use Rattle.std.specs.Option.{ForSome};
 ghost use Rattle.gix_glob.specs.Bytes.{HasByte, slash};
 ghost use Rattle.gix_glob.specs.RepositoryPaths.{IsAfterLastSlash};
 
-use crate::answer::{Answer, field, number, one, shown, three, told, two};
+use crate::answer::Answer;
 use crate::row::Row;
 use anyhow::{Result, bail};
 use bitflags::Flags;
@@ -13,16 +13,18 @@ use gix_glob::pattern::{Mode, Pattern, PatternView, basename_start};
 use std::alloc::{AllocError, Global};
 
 /// What is read of a line, or of a text in which a sign at the front has no meaning.
-pub(crate) fn reading(alloc: Global, row: &Row) -> Result<Answer> {
+pub(crate) fn reading(row: &Row, answer: &mut Answer) -> Result<()> {
     let (line, is_line) = (row.bytes(1), row.is(0, b"line"));
-    match (
-        parse::pattern(line, is_line),
-        pattern_read(alloc, line, is_line)?,
-    ) {
-        (None, None) => Ok(three(alloc, None, None, None)?),
-        (Some(read), Some(pattern)) if is_reading(pattern.view(), read) => parts_read(alloc, read),
-        _ => bail!("both readings differ"),
+    let read = parse::pattern(line, is_line);
+    let is_same = match (read, &pattern_read(answer.alloc, line, is_line)?) {
+        (None, None) => true,
+        (Some(read), Some(pattern)) => is_reading(pattern.view(), read),
+        _ => false,
+    };
+    if !is_same {
+        bail!("both readings differ");
     }
+    Ok(put_reading(read, answer)?)
 }
 
 /// The pattern of a line or of a text.
@@ -42,26 +44,27 @@ fn is_reading(view: PatternView<'_>, (text, mode, wildcard): Reading<'_>) -> boo
     view.text == text && view.mode == mode && view.first_wildcard_pos == wildcard
 }
 
-/// The fields of a reading.
-fn parts_read(alloc: Global, (text, mode, wildcard): Reading<'_>) -> Result<Answer> {
-    let bits = shown(alloc, &mode.bits())?;
-    Ok(three(
-        alloc,
-        field(alloc, Some(text))?,
-        bits,
-        number(alloc, wildcard)?,
-    )?)
+/// The fields of a reading, or of none.
+fn put_reading(read: Option<Reading<'_>>, answer: &mut Answer) -> Result<(), AllocError> {
+    let Some((text, mode, wildcard)) = read else {
+        answer.skip()?;
+        answer.skip()?;
+        return answer.skip();
+    };
+    answer.copy(text)?;
+    answer.show(&mode.bits())?;
+    answer.number(wildcard)
 }
 
 /// What is read of a line as Git reads it.
-pub(crate) fn git_reading(alloc: Global, row: &Row) -> Result<Answer> {
+pub(crate) fn git_reading(row: &Row, answer: &mut Answer) -> Result<()> {
     let line = row.bytes(0);
     let read = parse::git_pattern(line);
-    let pattern = Pattern::from_git_line(alloc, line)?;
-    if !is_reading(pattern.view(), read) || !is_reading(PatternView::from_git_line(line), read) {
+    let is_same = is_reading(Pattern::from_git_line(answer.alloc, line)?.view(), read);
+    if !is_same || !is_reading(PatternView::from_git_line(line), read) {
         bail!("both readings differ");
     }
-    parts_read(alloc, read)
+    Ok(put_reading(Some(read), answer)?)
 }
 
 /// The pattern of a line.
@@ -73,40 +76,40 @@ fn pattern_of(alloc: Global, line: &[u8]) -> Result<Pattern> {
 }
 
 /// Whether the pattern of a line has a wildcard, and where its first special byte stands.
-pub(crate) fn wildcards(alloc: Global, row: &Row) -> Result<Answer> {
-    let pattern = pattern_of(alloc, row.bytes(0))?;
-    let place = number(alloc, pattern.first_wildcard_pos())?;
-    Ok(two(alloc, told(alloc, pattern.has_wildcard())?, place)?)
+pub(crate) fn wildcards(row: &Row, answer: &mut Answer) -> Result<()> {
+    let pattern = pattern_of(answer.alloc, row.bytes(0))?;
+    answer.tell(pattern.has_wildcard())?;
+    Ok(answer.number(pattern.first_wildcard_pos())?)
 }
 
 /// Whether parts make a pattern.
-pub(crate) fn parts(alloc: Global, row: &Row) -> Result<Answer> {
+pub(crate) fn parts(row: &Row, answer: &mut Answer) -> Result<()> {
     let mode = Mode::from_bits_retain(row.text(1).unwrap_or("").parse::<u32>()?);
-    let text = Vec::from_slice(alloc, row.bytes(0))?;
+    let text = Vec::from_slice(answer.alloc, row.bytes(0))?;
     let is_one = Pattern::from_parts(text, mode, row.number(2)).is_ok();
-    Ok(one(alloc, told(alloc, is_one)?)?)
+    Ok(answer.tell(is_one)?)
 }
 
 /// How the pattern of a line is shown.
-pub(crate) fn shown_line(alloc: Global, row: &Row) -> Result<Answer> {
-    let pattern = pattern_of(alloc, row.bytes(0))?;
-    Ok(one(alloc, shown(alloc, &pattern)?)?)
+pub(crate) fn shown_line(row: &Row, answer: &mut Answer) -> Result<()> {
+    let pattern = pattern_of(answer.alloc, row.bytes(0))?;
+    Ok(answer.show(&pattern)?)
 }
 
 /// Whether the pattern of a line matches a value. Its view has to agree.
-pub(crate) fn values(alloc: Global, row: &Row) -> Result<Answer> {
+pub(crate) fn values(row: &Row, answer: &mut Answer) -> Result<()> {
     let (mode, line, value) = (row.mode(0), row.bytes(1), row.bytes(2));
-    let is_matched = pattern_of(alloc, line)?.matches(value, mode);
+    let is_matched = pattern_of(answer.alloc, line)?.matches(value, mode);
     match PatternView::from_bytes(line) {
         Some(view) if view.matches(value, mode) == is_matched => {}
         _ => bail!("the pattern and its view differ"),
     }
-    Ok(one(alloc, told(alloc, is_matched)?)?)
+    Ok(answer.tell(is_matched)?)
 }
 
 /// Where the last part of a path begins.
-pub(crate) fn basenames(alloc: Global, row: &Row) -> Result<Answer> {
-    Ok(one(alloc, number(alloc, basename_start(row.bytes(0)))?)?)
+pub(crate) fn basenames(row: &Row, answer: &mut Answer) -> Result<()> {
+    Ok(answer.number(basename_start(row.bytes(0)))?)
 }
 
 /// Whether a path has no leading slash.
@@ -140,12 +143,13 @@ fn kind(row: &Row, place: usize) -> Option<bool> {
 }
 
 /// Whether the pattern of a line matches the path of a repository.
-pub(crate) fn repository_paths(alloc: Global, row: &Row) -> Result<Answer> {
-    let (pattern, path) = (pattern_of(alloc, row.bytes(2))?, row.bytes(3));
+pub(crate) fn repository_paths(row: &Row, answer: &mut Answer) -> Result<()> {
+    let path = row.bytes(3);
     if !is_relative(path) {
         bail!("a path with a slash in front");
     }
     let start = told_start(path, row.number(4))?;
+    let pattern = pattern_of(answer.alloc, row.bytes(2))?;
     let is_matched = pattern.matches_repo_relative_path(
         path,
         start,
@@ -153,13 +157,14 @@ pub(crate) fn repository_paths(alloc: Global, row: &Row) -> Result<Answer> {
         row.case(),
         row.mode(1),
     );
-    Ok(one(alloc, told(alloc, is_matched)?)?)
+    Ok(answer.tell(is_matched)?)
 }
 
 /// Whether the pattern of a line matches a path, as Git reads it.
-pub(crate) fn git_paths(alloc: Global, row: &Row) -> Result<Answer> {
-    let (pattern, path) = (Pattern::from_git_line(alloc, row.bytes(1))?, row.bytes(2));
+pub(crate) fn git_paths(row: &Row, answer: &mut Answer) -> Result<()> {
+    let path = row.bytes(2);
     let start = told_start(path, row.number(3))?;
+    let pattern = Pattern::from_git_line(answer.alloc, row.bytes(1))?;
     let is_matched = pattern.matches_path_as_git(path, start, kind(row, 4), row.case());
-    Ok(one(alloc, told(alloc, is_matched)?)?)
+    Ok(answer.tell(is_matched)?)
 }
