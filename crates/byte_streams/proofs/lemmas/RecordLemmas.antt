@@ -49,9 +49,6 @@ module _ (end : ℕ) (bytes left : List ℕ) (records : List (List ℕ)) (begins
 
 -- ---- accounts
 
-pub GrowsBy-none : {X : Type 0} (a : List X → Type 0) → GrowsBy a a []
-GrowsBy-none a held h = subst a (sym (append-nil held)) h
-
 module _ {X : Type 0} (a b c : List X → Type 0) where
   pub GrowsBy-more : (xs ys : List X) → GrowsBy a b xs → GrowsBy b c ys → GrowsBy a c (xs ++ ys)
   GrowsBy-more xs ys p q held h = subst c (append_assoc held xs ys) (q (held ++ xs) (p held h))
@@ -105,9 +102,6 @@ module _ (Before After : List ℕ → List ℕ → Type 0) (stays : StaysAllowed
   }
 
 module _ (Answers : List ℕ → List ℕ → Type 0) (a b : List (List ℕ) → Type 0) where
-  pub answered_none : GrowsBy a b [] → TextOfAnswered Answers a b [] []
-  answered_none none = record { of_records = record { written = []; each = tt; joined = refl }; accounted = none }
-
   -- the account is of no account
   pub answered_anyhow : Weakens (TextOfAnswered Answers a b) (TextOf Answers)
   answered_anyhow = record { weaken = λ records text t. t.of_records }
@@ -124,14 +118,6 @@ one_last IsText [] text some allowed = absurd (some refl)
 one_last IsText (b ∷ bytes) text some allowed = allowed
 
 -- ---- the text of the records before a rest
-
--- no record was answered yet
-pub AnswersBefore-none : (Answers : List ℕ → List ℕ → Type 0) (a : List (List ℕ) → Type 0) (end : ℕ) (bytes : List ℕ) → AnswersBefore (TextOfAnswered Answers a a) end bytes bytes []
-AnswersBefore-none Answers a end bytes = record {
-  records = [];
-  begins = record { joined = refl; each = tt };
-  answered = answered_none Answers a a (GrowsBy-none a);
-}
 
 module _ (First Next Both : List (List ℕ) → List ℕ → Type 0) (joins : Joins First Next Both) (end : ℕ) (bytes left text : List ℕ) (before : AnswersBefore First end bytes left text) where
   -- the record that the rest begins with is answered
