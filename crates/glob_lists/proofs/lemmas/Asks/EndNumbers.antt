@@ -1,14 +1,29 @@
 -- The number of the longest end of a text, which begins with those of the shorter ones.
 use Rattle.std.proofs.Common.{◌≡◌, ⊎_elim, ℕ, zero, suc, ◌+◌, ◌-◌, ◌*◌, ◌/◌, ◌%◌, ◌^◌, ◌<◌, ◌≤◌, List, bit_and, length, refl, sym, ap, subst, ◌∙◌, pow-add, arith}
 use native.Mathlib.Nat.{div-div-eq-div-mul}
+use Rattle.std.specs.Prelude.{slice_index}
 use Rattle.std.specs.Char.{to_ascii_lowercase}
 use Rattle.std.proofs.lemmas.Bool.{cases_eq}
 use Rattle.std.proofs.lemmas.Nat.{and_block, and_le_r}
 use Rattle.glob_lists.specs.Private.Asks.Literals.{AreBytes}
 use Rattle.glob_lists.specs.Private.Asks.Literals.{end_key, from_end, raw_end, without_bytes}
 use Rattle.glob_lists.specs.Private.Asks.Showing.{HasEndKeys}
-use Rattle.glob_lists.proofs.lemmas.Stack.OrderLemmas.{folded_at-short, room, room-le}
 use Rattle.glob_lists.proofs.lemmas.Asks.RawBytes.{no_capital, small_byte}
+
+-- a number of n bytes is less than this
+abbrev pub room : ℕ → ℕ
+room zero = 1
+room (suc n) = room n * 256
+
+room-le : (n k : ℕ) → n ≤ k → room n ≤ room k
+room-le n zero low = subst (λ m. room m ≤ 1) (let is : 0 ≡ n = omega arith in is) (omega arith)
+room-le n (suc k) low = ⊎_elim
+    (λ (same : n ≡ suc k). subst (λ m. room n ≤ room m) same (omega arith))
+    (λ (apart : n ≡ suc k → ⊥). let before = room-le n k (omega arith) in omega arith)
+    (cases_eq n (suc k))
+
+small_letter : (text : List ℕ) (j : ℕ) → AreBytes text → to_ascii_lowercase (slice_index text j) < 256
+small_letter text j bytes = let short = bytes j in grind arith
 
 -- ---- numbers without their last bytes
 
@@ -24,21 +39,21 @@ end_key-short : (text : List ℕ) → AreBytes text → (n : ℕ) → end_key te
 end_key-short text bytes zero = omega arith
 end_key-short text bytes (suc n) =
     let before = end_key-short text bytes n in
-    let here = folded_at-short text (length text - (n + 1)) bytes in
+    let here = small_letter text (length text - (n + 1)) bytes in
     omega arith
 
 one_less : (text : List ℕ) → AreBytes text → (n : ℕ) → n < 8 → end_key text (suc n) / 256 ≡ end_key text n
 one_less text bytes n few =
     let short = end_key-short text bytes n in
     let most : room n ≤ room 7 = room-le n 7 (omega arith) in
-    let here = folded_at-short text (length text - (n + 1)) bytes in
+    let here = small_letter text (length text - (n + 1)) bytes in
     omega arith
 
 last_lower : (text : List ℕ) → AreBytes text → (n : ℕ) → n < 8 → end_key text (suc n) % 256 ≡ to_ascii_lowercase (from_end text n)
 last_lower text bytes n few =
     let short = end_key-short text bytes n in
     let most : room n ≤ room 7 = room-le n 7 (omega arith) in
-    let here = folded_at-short text (length text - (n + 1)) bytes in
+    let here = small_letter text (length text - (n + 1)) bytes in
     omega arith
 
 -- ends of one number have the same bytes, up to case
