@@ -1,5 +1,5 @@
 -- What is seen of the code's values: the same with lists of bytes in place of vectors.
-use Rattle.std.specs.Prelude.{ℕ, List, map, option_map, Vec}
+use Rattle.std.specs.Prelude.{ℕ, List, option_map, Vec}
 use Rattle.std.specs.Vec.{vec_items}
 use Rattle.std.specs.declared.alloc.Global.{Global}
 use Rattle.git_config.specs.declared.files.FoundFile.{FoundFile}
@@ -17,9 +17,6 @@ item_with see (Sets entry) = Sets (entry_with see entry)
 
 abbrev pub seen_entry : Entry (Vec ℕ Global) → Entry (List ℕ)
 seen_entry entry = entry_with vec_items entry
-
-abbrev pub seen_items : List (Item (Vec ℕ Global)) → List (Item (List ℕ))
-seen_items items = map (item_with vec_items) items
 
 abbrev pub found_with : {A B : Type 0} → (A → B) → FoundFile A → FoundFile B
 found_with see found = record { bytes = see found.bytes; real_path = see found.real_path }

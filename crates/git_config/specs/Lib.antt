@@ -5,7 +5,6 @@ pub mod Grammar
 pub mod Includes
 pub mod Items
 pub mod KeyFaults
-pub mod Keys
 pub mod Numbers
 pub mod Paths
 pub mod Private

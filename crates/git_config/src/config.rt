@@ -75,7 +75,8 @@ impl Config {
 }
 
 impl Config {
-    /// The entries of a key, in order. A key is told as [`ConfigFile::entries_of`](crate::ConfigFile::entries_of) takes it.
+    /// The entries of a key, in order. A key is the name of a section in lower case, a full stop, the subsection and a full stop where
+    /// there is one, and the name of an entry in lower case.
     ///
     /// # Errors
     /// Only where memory was refused.

@@ -47,14 +47,6 @@ pub enum ConfigFault {
     },
 }
 
-/// A value that isn't of the kind that is asked for.
-#[derive(Debug, Clone, Copy, PartialEq, Eq, Error)]
-#[error("bad config value at line {line}")]
-pub struct WrongValue {
-    /// The line on which its entry ends, from 1.
-    pub line: usize,
-}
-
 impl From<AllocError> for ConfigFault {
     ghost from_gives = { λ _ fault. fault ≡ Memory };
 

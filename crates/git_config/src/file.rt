@@ -1,10 +1,10 @@
-//! A configuration file.
-ghost use Rattle.std.specs.Prelude.{◌≡◌, ◌⊎◌, ◌<◌, ◌≤◌, ◌+◌, ◌∷◌, [], ℕ, false, length, nat_eq, option_map, IfErr, IfOk, IsSome, MatchResult, None, Some};
+//! The items of a configuration file, one after the other.
+ghost use Rattle.std.specs.Prelude.{◌≡◌, ◌<◌, ◌≤◌, ◌+◌, ◌∷◌, [], ℕ, false, length, nat_eq, option_map, IfOk, IsSome};
 ghost use Rattle.std.specs.List.{starts_with};
 ghost use Rattle.std.specs.Vec.{vec_items};
-ghost use Rattle.git_config.specs.Grammar.{Place, before, between, ended, front, is_blank, is_mark, items_of, read, stop, text_of, turn};
-ghost use Rattle.git_config.specs.Items.{item_with, seen_items};
-ghost use Rattle.git_config.specs.Private.Taking.{FailsBehind, Reads, before_some, turn_mark};
+ghost use Rattle.git_config.specs.Grammar.{Place, before, between, ended, front, is_blank, is_mark, read, stop, text_of, turn};
+ghost use Rattle.git_config.specs.Items.{item_with};
+ghost use Rattle.git_config.specs.Private.Taking.{Reads, before_some, turn_mark};
 ghost use Rattle.git_config.specs.declared.fault.ConfigFault.TheVariants.{Line};
 ghost use Rattle.git_config.specs.declared.fault.Wrong.TheVariants.{Mark};
 
@@ -15,40 +15,6 @@ use crate::head::read_head;
 use crate::item::Item;
 use crate::text::Text;
 use std::alloc::Global;
-
-/// What a configuration file says.
-#[derive(Debug, PartialEq, Eq, Drop)]
-pub struct ConfigFile {
-    /// The items, in order.
-    pub items: Vec<Item<Vec<u8>>>,
-}
-
-impl ConfigFile {
-    /// Reads the bytes of a configuration file.
-    ///
-    /// # Errors
-    /// The first fault of the file, as Git tells it; [`ConfigFault::Memory`] where memory was refused.
-    pub fn from_bytes(alloc: Global, bytes: &[u8]) -> Result<ConfigFile, ConfigFault>
-        ensures items { IfOk result (λ file. items_of bytes.now ≡ (seen_items file.items.items, None)) }
-        ensures fault { IfErr result (λ fault. (fault ≡ ConfigFault.Memory) ⊎ (option_map (λ at. Line at.0 at.1) (items_of bytes.now).1 ≡ Some fault)) }
-    {
-        let items = read_items(alloc, bytes)?;
-        Ok(ConfigFile { items })
-    }
-}
-
-/// The items of a file, in order.
-fn read_items(alloc: Global, bytes: &[u8]) -> Result<Vec<Item<Vec<u8>>>, ConfigFault>
-    ensures { MatchResult result (λ items. items_of bytes.now ≡ (seen_items items.items, None)) (λ fault. FailsBehind fault (items_of bytes.now)) }
-{
-    let mut text = Text::new(bytes);
-    skip_mark(&mut text)?;
-    let mut items = Vec::new(alloc);
-    'items: while let Some(item) = next_item(alloc, &mut text)? {
-        items.push(item)?;
-    }
-    Ok(items)
-}
 
 /// Passes a byte order mark over, where one begins here.
 pub(crate) fn skip_mark(text: &mut Text<'_>) -> Result<(), ConfigFault>

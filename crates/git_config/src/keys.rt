@@ -1,61 +1,13 @@
-//! What a file says of a key.
-ghost use Rattle.std.specs.Prelude.{◌≡◌, ◌==◌, ◌++◌, [], map, position, IfOk, None};
+//! Which entries have a key, and the booleans that they say.
+ghost use Rattle.std.specs.Prelude.{◌≡◌, ◌==◌, ◌++◌, position};
 ghost use Rattle.std.specs.List.{list_any};
 ghost use Rattle.std.specs.Str.{bytes_eq};
 ghost use Rattle.git_config.specs.Grammar.{before_zero};
-ghost use Rattle.git_config.specs.Items.{seen_entry, seen_items};
-ghost use Rattle.git_config.specs.Keys.{entries_of, last_boolean_of};
+ghost use Rattle.git_config.specs.Items.{seen_entry};
 ghost use Rattle.git_config.specs.Private.Values.{value_said};
 
 use crate::booleans::boolean;
-use crate::fault::WrongValue;
-use crate::file::ConfigFile;
-use crate::item::{Entry, Item};
-use std::alloc::{AllocError, Global};
-
-impl ConfigFile {
-    /// The entries of a key, in order. A key is the name of a section in lower case, a full stop, the subsection and a full stop where
-    /// there is one, and the name of an entry in lower case.
-    ///
-    /// # Errors
-    /// Only where memory was refused.
-    pub fn entries_of(&self, alloc: Global, key: &[u8]) -> Result<Vec<&Entry<Vec<u8>>>, AllocError>
-        ensures { IfOk result (λ found. map (λ entry. seen_entry entry.now) found.items ≡ entries_of key.now [] (seen_items self.now.items.items)) }
-    {
-        let mut found = Vec::new(alloc);
-        let mut section: &[u8] = b"";
-        let mut rest = self.items.as_slice();
-        'items: while let Some((item, more)) = rest.split_first() {
-            rest = more;
-            match item {
-                Item::Section(next) => section = next.as_slice(),
-                Item::Sets(entry) => {
-                    if is_key(section, &entry.name, key) {
-                        found.push(entry)?;
-                    }
-                }
-            }
-        }
-        Ok(found)
-    }
-}
-
-/// The boolean of the last of the entries of a key, as [`boolean`] reads it; `None` where there are none. Each is looked at.
-///
-/// # Errors
-/// The first entry that says no boolean, also where a later one does.
-pub fn last_boolean(entries: &[&Entry<Vec<u8>>]) -> Result<Option<bool>, WrongValue>
-    ensures { result ≡ last_boolean_of None (map (λ entry. seen_entry entry.now) entries.now) }
-{
-    let mut last = None;
-    for entry in entries {
-        let Some(said) = boolean_said(entry) else {
-            return Err(WrongValue { line: entry.line });
-        };
-        last = Some(said);
-    }
-    Ok(last)
-}
+use crate::item::Entry;
 
 /// The boolean of an entry.
 pub(crate) fn boolean_said(entry: &Entry<Vec<u8>>) -> Option<bool>

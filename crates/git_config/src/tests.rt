@@ -15,14 +15,16 @@ fn values_are_read_and_written(rt: HostRuntime) -> Result<(), Fail> {
 
 #[test]
 fn the_last_value_of_a_key_counts(rt: HostRuntime) -> Result<(), Fail> {
-    let file = ConfigFile::from_bytes(rt.alloc(), b"[a \"S\"]\nb=yes\nB=off\n[a \"s\"]\nb=maybe")?;
+    let file = b"[a \"S\"]\nb=yes\nB=off\n[a \"s\"]\nb=maybe";
+    let config = Config::of_file(rt.alloc(), b"/f", file)?;
     let (told, value) = split_word(b"A.S.B=");
     assert!(rt; value.is_some());
     let key = canonical_key(rt.alloc(), told)?.ok_or("a key")?;
-    let entries = file.entries_of(rt.alloc(), &key)?;
-    assert!(rt; last_boolean(&entries) == Ok(Some(false)));
-    let entries = file.entries_of(rt.alloc(), b"a.s.b")?;
-    assert!(rt; last_boolean(&entries) == Err(WrongValue { line: 5 }));
+    assert!(rt; config.boolean(&key) == Ok(Some(false)));
+    let wrong = config
+        .boolean(b"a.s.b")
+        .map_err(|setting| setting.entry.line);
+    assert!(rt; wrong == Err(5));
     Ok(())
 }
 

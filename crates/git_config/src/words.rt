@@ -28,7 +28,7 @@ fn first_equals(word: &[u8]) -> Option<usize>
     word.iter().position(|b| *b == b'=')
 }
 
-/// The canonical form of a key that is told in a word, as [`ConfigFile::entries_of`](crate::ConfigFile::entries_of) takes it: what
+/// The canonical form of a key that is told in a word, as [`Config::entries_of`](crate::Config::entries_of) takes it: what
 /// stands before the first full stop and behind the last in lower case. `None` where it is no key: these two have another byte than a
 /// letter, a digit or a hyphen, the second doesn't begin with a letter, a full stop is missing or only at the front, or a line feed
 /// stands between.

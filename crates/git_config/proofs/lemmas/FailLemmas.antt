@@ -1,20 +1,17 @@
 -- What a call says of a whole reading.
-use Rattle.std.proofs.Common.{◌≡◌, ◌⊎◌, inl, inr, ℕ, Bool, true, false, cond, List, [], ◌∷◌, ◌++◌, Option, None, Some, Result, Ok, Err, refl, sym, ap, subst, ◌∙◌}
-use Rattle.std.specs.Prelude.{Vec, option_map}
+use Rattle.std.proofs.Common.{◌≡◌, ℕ, Bool, true, false, cond, List, [], ◌∷◌, Option, None, Some, Result, Ok, Err, sym, ap, subst, ◌∙◌}
+use Rattle.std.specs.Prelude.{Vec}
 use Rattle.std.specs.declared.alloc.Global.{Global}
 use Rattle.git_config.specs.declared.fault.ConfigFault.{ConfigFault}
 use Rattle.git_config.specs.declared.fault.ConfigFault.TheVariants.{Line, Memory}
 use Rattle.git_config.specs.declared.fault.Wrong.{Wrong}
 use Rattle.git_config.specs.declared.fault.Wrong.TheVariants.{Quote}
 use Rattle.git_config.specs.declared.item.Entry.{Entry}
-use Rattle.git_config.specs.declared.item.Item.{Item}
 use Rattle.git_config.specs.declared.item.Item.TheVariants.{Sets}
 use Rattle.git_config.specs.Grammar.{Part, Reading, before, before_zero, between, entry_of, in_value, nothing, read, stop, text_of, turn, value_ended}
 use Rattle.git_config.specs.Items.{seen_entry}
-use Rattle.git_config.specs.Private.Taking.{Fails, FailsBehind, Reads, TakesByte}
+use Rattle.git_config.specs.Private.Taking.{Reads, TakesByte}
 use Rattle.git_config.proofs.lemmas.ReadLemmas.{fails_byte, gives_byte}
-
--- ---- the end of a value
 
 abbrev pub EndsValue : Result (Entry (Vec ℕ Global)) ConfigFault → ℕ → List ℕ → Part → Type 0
 EndsValue r line name part = Reads (λ entry. before (Sets (seen_entry entry)) nothing) r (value_ended line name part)
@@ -59,33 +56,3 @@ pub value_at_feed : {old new : List ℕ} {old_line new_line b : ℕ} (r : Result
 value_at_feed {old} {new} {old_line} {new_line} {b} r whole name part t e is h =
     let rest = read (text_of new) new_line between in
     subst (λ w. GoesOn r rest w) (sym (is ∙ at_feed name part.quoted part.blanks part.bytes t e)) (fed r rest old_line name part.quoted part.blanks part.bytes h)
-
--- ---- items before others
-
-abbrev pub before_all : List (Item (List ℕ)) → Reading → Reading
-before_all [] rest = rest
-before_all (item ∷ items) rest = before item (before_all items rest)
-
--- one more
-pub before_all-push : (items : List (Item (List ℕ))) (item : Item (List ℕ)) (rest : Reading) → before_all (items ++ item ∷ []) rest ≡ before_all items (before item rest)
-before_all-push [] item rest = refl
-before_all-push (first ∷ items) item rest = ap (λ r. before first r) (before_all-push items item rest)
-
--- no other, and a fault
-pub before_all-none : (items : List (Item (List ℕ))) → before_all items nothing ≡ (items, None)
-before_all-none [] = refl
-before_all-none (first ∷ items) = ap (λ r. before first r) (before_all-none items)
-
-pub before_all-stop : (items : List (Item (List ℕ))) (line : ℕ) (what : Wrong) → (before_all items (stop line what)).1 ≡ Some (line, what)
-before_all-stop [] line what = refl
-before_all-stop (first ∷ items) line what = before_all-stop items line what
-
--- a fault of what is left
-pub fault_of_rest : (items : List (Item (List ℕ))) (fault : ConfigFault) (whole rest : Reading) → whole ≡ before_all items rest → Fails fault rest → FailsBehind fault whole
-fault_of_rest items Memory whole rest is h = tt
-fault_of_rest items (Line at what) whole rest is h = ap (λ (r : Reading). r.1) (is ∙ ap (λ r. before_all items r) h) ∙ before_all-stop items at what
-
--- a fault is want of memory, or the whole's
-pub told_fault : (fault : ConfigFault) (whole : Reading) → FailsBehind fault whole → (fault ≡ Memory) ⊎ (option_map (λ at. Line at.0 at.1) whole.1 ≡ Some fault)
-told_fault Memory whole h = inl refl
-told_fault (Line at what) whole h = inr (ap (λ (o : Option (ℕ × Wrong)). option_map (λ at. Line at.0 at.1) o) h)
