@@ -44,5 +44,5 @@ pub use origin::Manner;
 pub use path::{ConfigPath, config_path};
 pub use quoting::quoted;
 pub use setting::{ReadSetting, Setting, SettingFault, WrongSetting};
-pub use surroundings::{Surroundings, UserFolder, folder_of};
+pub use surroundings::{Surroundings, UserFolder, expanded, folder_of};
 pub use words::{canonical_key, split_word};

@@ -49,7 +49,10 @@ pub(crate) fn slice_of(folder: &Option<Vec<u8>>) -> Option<&[u8]>
 }
 
 /// The path that a value says, where the folder is known that it begins with; `home` is the home folder.
-pub(crate) fn expanded(
+///
+/// # Errors
+/// Only where memory was refused.
+pub fn expanded(
     alloc: Global,
     around: &Surroundings,
     home: Option<&[u8]>,

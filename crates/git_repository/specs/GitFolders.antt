@@ -1,6 +1,6 @@
 -- Texts of paths.
-use Rattle.std.specs.Prelude.{ℕ, ◌-◌, Bool, not, ◌&&◌, ◌||◌, ◌==◌, nat_eq, if◌then◌else◌, List, ◌++◌, length, take, codes}
-use Rattle.std.specs.List.{starts_with, suffix_len}
+use Rattle.std.specs.Prelude.{ℕ, Bool, not, ◌&&◌, ◌==◌, nat_eq, if◌then◌else◌, List, ◌++◌, length, codes}
+use Rattle.std.specs.List.{starts_with}
 
 abbrev pub is_absolute : List ℕ → Bool
 is_absolute path = starts_with nat_eq path (codes "/")
@@ -11,10 +11,3 @@ is_relative path = not (length path == 0) && not (is_absolute path)
 -- a path that a folder tells
 abbrev pub told_from : List ℕ → List ℕ → List ℕ
 told_from folder path = if is_absolute path then path else folder ++ (codes "/" ++ path)
-
--- a text without the line feeds and carriage returns at its end
-abbrev pub is_line_end : ℕ → Bool
-is_line_end b = b == 10 || b == 13
-
-abbrev pub without_line_ends : List ℕ → List ℕ
-without_line_ends text = take (length text - suffix_len is_line_end text) text

@@ -1,4 +1,3 @@
-pub mod Blanks
 pub mod GitFolders
 pub mod Safety
 pub mod UserFiles

@@ -3,14 +3,11 @@ use Rattle.std.specs.Prelude.{ℕ, Bool, false, not, ◌&&◌, ◌||◌, ◌==�
 use Rattle.std.specs.List.{list_all}
 use Rattle.std.specs.Str.{bytes_eq}
 
-abbrev pub says_something : List ℕ → Bool
-says_something value = not (length value == 0)
-
 -- a value names a path: it is this path, or `*`
 abbrev pub names : List ℕ → List ℕ → Bool
-names path value = says_something value && (bytes_eq value (codes "*") || bytes_eq value path)
+names path value = not (length value == 0) && (bytes_eq value (codes "*") || bytes_eq value path)
 
 -- one of the values names the path, and no empty value follows it
 abbrev pub trusts : List ℕ → List (List ℕ) → Bool
 trusts path [] = false
-trusts path (value ∷ values) = trusts path values || (names path value && list_all says_something values)
+trusts path (value ∷ values) = trusts path values || (names path value && list_all (λ other. not (length other == 0)) values)

@@ -1,28 +1,20 @@
 //! Texts without the blanks around them.
-ghost use Rattle.std.specs.Prelude.{◌≡◌, ◌-◌, ◌≤◌, length};
-ghost use Rattle.std.specs.List.{prefix_len, suffix_len};
-ghost use Rattle.git_config.specs.Grammar.{is_blank};
-ghost use Rattle.git_repository.specs.Blanks.{without_blanks, without_end};
+ghost use Rattle.std.specs.Prelude.{◌≤◌, length};
 
 use git_config::is_blank;
 
 /// A text without the blanks in front and at its end: spaces, tabs, carriage returns and line feeds.
-pub fn without_blanks(text: &[u8]) -> &[u8]
-    ensures { result.now ≡ without_blanks text.now }
-{
+pub fn without_blanks(text: &[u8]) -> &[u8] {
     without_end(&text[blank_len(text)..])
 }
 
 /// A text without the blanks at its end.
-fn without_end(text: &[u8]) -> &[u8]
-    ensures { result.now ≡ without_end text.now }
-{
+fn without_end(text: &[u8]) -> &[u8] {
     &text[..text_end(text)]
 }
 
 /// How many blanks stand in front of a text.
 fn blank_len(text: &[u8]) -> usize
-    ensures value { result ≡ prefix_len is_blank text.now }
     ensures within { result ≤ length text.now }
 {
     let mut end = 0;
@@ -37,7 +29,6 @@ fn blank_len(text: &[u8]) -> usize
 
 /// Where the blanks at the end of a text begin.
 fn text_end(text: &[u8]) -> usize
-    ensures value { result ≡ length text.now - suffix_len is_blank text.now }
     ensures within { result ≤ length text.now }
 {
     let mut end = text.len();

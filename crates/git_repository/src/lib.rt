@@ -24,7 +24,6 @@ mod setup;
 mod sources;
 mod user_files;
 mod value_faults;
-mod value_paths;
 mod variables;
 
 pub use config_place::ConfigPlace;

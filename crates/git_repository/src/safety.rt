@@ -1,12 +1,11 @@
 //! Which repositories of other users, and which bare ones, may be taken.
-ghost use Rattle.std.specs.Prelude.{◌≡◌, map};
+ghost use Rattle.std.specs.Prelude.{◌≡◌, ◌==◌, length, map, not};
 ghost use Rattle.std.specs.Vec.{vec_items};
-ghost use Rattle.git_repository.specs.Safety.{names, says_something, trusts};
+ghost use Rattle.git_repository.specs.Safety.{names, trusts};
 
 use crate::faults::OpenFault;
 use crate::value_faults::{bytes_of, entry_fault};
-use crate::value_paths::told_path;
-use git_config::{Config, Surroundings};
+use git_config::{Config, Surroundings, expanded};
 use std::alloc::Global;
 
 /// What the settings say of whose repositories may be taken: those of the system's and the user's configuration and of the command
@@ -34,7 +33,7 @@ pub fn trusts(values: &[Vec<u8>], path: &[u8]) -> bool
 
 /// Whether a value isn't empty.
 fn says_something(value: &[u8]) -> bool
-    ensures { result ≡ says_something value.now }
+    ensures { result ≡ not (length value.now == 0) }
 {
     !value.is_empty()
 }
@@ -55,7 +54,7 @@ pub(crate) fn safe_directories<F>(
     let mut paths = Vec::new(alloc);
     for setting in &config.entries_of(alloc, b"safe.directory")? {
         let value = bytes_of(&setting.entry.value);
-        match told_path(alloc, around, value)? {
+        match expanded(alloc, around, around.home.as_deref(), value)? {
             Some(path) => paths.push(path)?,
             None => return Err(OpenFault::NoFolder(Vec::from_slice(alloc, value)?)),
         }

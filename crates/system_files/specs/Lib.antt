@@ -1,2 +1,1 @@
-pub mod Sight
 pub mod User

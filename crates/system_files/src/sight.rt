@@ -2,7 +2,6 @@
 ghost use Rattle.std.specs.Prelude.{◌≡◌, ◌≢◌, ◌↔◌, IsTrue};
 ghost use Rattle.std.specs.Fs.{file_type, IsDir, IsFile};
 ghost use Rattle.system_files.specs.declared.sight.FileKind.TheVariants.{Folder, Regular};
-ghost use Rattle.system_files.specs.Sight.{IsSameFile};
 
 use std::fs::Metadata;
 use std::os::unix::fs::{FileTypeExt, MetadataExt};
@@ -76,7 +75,7 @@ fn other_kind(found: &Metadata) -> FileKind
 
 /// Whether what was seen at two looks is one regular file.
 pub(crate) fn is_same_file(seen: &Sight, again: &Sight) -> bool
-    ensures { IsTrue result ↔ IsSameFile seen.now again.now }
+    ensures { IsTrue result ↔ ((seen.now.kind ≡ Regular) × (again.now.kind ≡ Regular) × (seen.now.device ≡ again.now.device) × (seen.now.number ≡ again.now.number)) }
 {
     matches!(seen.kind, FileKind::Regular)
         && matches!(again.kind, FileKind::Regular)
