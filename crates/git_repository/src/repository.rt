@@ -26,7 +26,7 @@ pub struct Repository {
     pub exclude_name: Option<Vec<u8>>,
     /// The file `info/attributes`.
     pub attributes_file: Vec<u8>,
-    /// The index.
+    /// The index; empty where `GIT_INDEX_FILE` is, so that there is none.
     pub index_file: Vec<u8>,
 }
 
@@ -138,8 +138,8 @@ impl<'a, S: FileSystem + ConfigFiles> Setup<'a, S> {
     fn index_file(&self, git_folder: &[u8], top: Option<&[u8]>) -> Result<Vec<u8>, AllocError> {
         let alloc = self.finder.alloc;
         match (&self.finder.variables.index_file, top) {
-            (Some(told), Some(top)) => told_from(alloc, top, told),
-            (Some(told), None) => Vec::from_slice(alloc, told),
+            (Some(told), Some(top)) if !told.is_empty() => told_from(alloc, top, told),
+            (Some(told), _) => Vec::from_slice(alloc, told),
             (None, _) => joined(alloc, git_folder, b"/index"),
         }
     }

@@ -1,5 +1,5 @@
 -- Where a command stands: by the paths of the top and of the current folder, without the slash at their front, and by the words.
-use Rattle.std.specs.Prelude.{◌≡◌, ℕ, Bool, true, false, not, ◌&&◌, if◌then◌else◌, List, [], ◌∷◌, MatchOption, Option, None, Some, is_some, option_map, string_bytes, codes}
+use Rattle.std.specs.Prelude.{◌≡◌, ℕ, Bool, true, false, not, ◌&&◌, ◌==◌, if◌then◌else◌, length, List, [], ◌∷◌, MatchOption, Option, None, Some, is_some, option_map, string_bytes, codes}
 use Rattle.std.specs.Option.{unwrap_or}
 use Rattle.std.specs.Vec.{vec_items}
 use Rattle.gix_glob.specs.Bytes.{slash}
@@ -45,9 +45,13 @@ abbrev pub from_root : List ℕ → List ℕ
 from_root [] = []
 from_root (b ∷ path) = slash ∷ b ∷ path
 
+-- the path of an index that a folder tells; one without bytes is that of no file
+abbrev pub index_name : List ℕ → List ℕ → List ℕ
+index_name current told = if length told == 0 then [] else told_from current told
+
 -- the index of an opened repository, which is told from the folder that was the current one
 pub record IsIndexOf (current : List ℕ) (opened : Repository) (index : IndexFile) : Type 0 where
-  pub name : string_bytes index.name ≡ told_from current opened.index_file.items
+  pub name : string_bytes index.name ≡ index_name current opened.index_file.items
   pub format : index.format ≡ format_by (last_value (codes "extensions.objectformat") (seen_settings opened.config))
 
 -- What counts for all paths of the work tree of an opened repository: its configuration tells files from the top, and all else is told

@@ -3,7 +3,7 @@ ghost use Rattle.std.specs.Prelude.{◌≡◌, codes, option_map, true, IfOk, Ma
 ghost use Rattle.std.specs.Vec.{vec_items};
 ghost use Rattle.git_repository.specs.Values.{last_value};
 ghost use Rattle.git_repository.specs.Views.{seen_settings};
-ghost use Rattle.globtree.specs.Places.{IsFoundTree, IsIndexOf, IsNamedTree, IsTreeOf, IsUsersFile, listing_excludes};
+ghost use Rattle.globtree.specs.Places.{IsFoundTree, IsIndexOf, IsNamedTree, IsTreeOf, IsUsersFile, index_name, listing_excludes};
 ghost use Rattle.globtree.specs.Running.{quoting_by};
 ghost use Rattle.globtree.specs.Tracked.{format_by};
 
@@ -167,13 +167,24 @@ fn listing_excludes(
 fn index_file_of(alloc: Global, current: &[u8], opened: &Repository) -> Result<IndexFile>
     ensures { IfOk result (IsIndexOf current.now opened.now) }
 {
-    let name = told_from(alloc, current, &opened.index_file)?;
+    let name = index_name(alloc, current, &opened.index_file)?;
     let git_folder = told_from(alloc, current, &opened.git_folder)?;
     Ok(IndexFile {
         name: path_text(alloc, &name)?,
         git_folder: path_text(alloc, &git_folder)?,
         format: format_of(&opened.config),
     })
+}
+
+/// The path of an index that is told from a folder. One without bytes is that of no file.
+fn index_name(alloc: Global, current: &[u8], told: &[u8]) -> Result<Vec<u8>, AllocError>
+    ensures { IfOk result (λ name. name.items ≡ index_name current.now told.now) }
+{
+    if told.is_empty() {
+        Ok(Vec::new(alloc))
+    } else {
+        told_from(alloc, current, told)
+    }
 }
 
 /// The index of a repository, and from where its paths are told.
