@@ -1,7 +1,7 @@
 //! Where the configuration lies that counts in a current folder, in a repository or outside of one, and how Git names its files.
 
 use crate::bytes::copied;
-use crate::faults::{FindFault, OpenFault, Wrong};
+use crate::faults::{FindFault, Hidden, OpenFault, Wrong};
 use crate::file_system::FileSystem;
 use crate::found::Found;
 use crate::naming::file_in;
@@ -22,16 +22,19 @@ pub struct ConfigPlace {
     pub work_tree: Option<Vec<u8>>,
     /// The reference that `HEAD` names, where the branch isn't certain: Git may refuse this reference, or follow it to another.
     pub uncertain: Option<Vec<u8>>,
+    /// What can't be looked at, where there may be a repository and none was found.
+    pub hidden: Option<Hidden>,
 }
 
 impl ConfigPlace {
     /// The place without a repository, from which Git has gone to this top.
-    fn outside(top: Option<Vec<u8>>) -> ConfigPlace {
+    fn outside(top: Option<Vec<u8>>, hidden: Option<Hidden>) -> ConfigPlace {
         ConfigPlace {
             top,
             config: None,
             work_tree: None,
             uncertain: None,
+            hidden,
         }
     }
 }
@@ -49,14 +52,17 @@ impl<'a, S: FileSystem + ConfigFiles> Setup<'a, S> {
         self.read(around, None, self.outer_files()?)?;
         let found = match self.find(around) {
             Ok(found) => found,
-            Err(fault) if is_outside(&fault) => return Ok(ConfigPlace::outside(None)),
+            Err(OpenFault::Find(FindFault::Hidden(hidden))) => {
+                return Ok(ConfigPlace::outside(None, Some(hidden)));
+            }
+            Err(fault) if is_outside(&fault) => return Ok(ConfigPlace::outside(None, None)),
             Err(fault) => return Err(fault),
         };
         match self.place_in(around, &found) {
             // (Git has gone to its top by then)
             Err(OpenFault::Version(_) | OpenFault::Unknown(_) | OpenFault::OnlyVersion1(_)) => {
                 let top = self.above(Some(&found.top));
-                Ok(ConfigPlace::outside(copied(self.finder.alloc, top)?))
+                Ok(ConfigPlace::outside(copied(self.finder.alloc, top)?, None))
             }
             place => place,
         }
@@ -84,6 +90,7 @@ impl<'a, S: FileSystem + ConfigFiles> Setup<'a, S> {
             config: Some(Vec::from_slice(alloc, without_dot(&config))?),
             work_tree,
             uncertain: found.git.uncertain(alloc, source)?,
+            hidden: None,
         })
     }
 

@@ -34,8 +34,21 @@ pub enum Wrong {
     Border,
     /// The folder belongs to another user, and isn't named as safe.
     Owner,
+    /// It isn't known whether the folder belongs to the user, who isn't known, and it isn't named as safe.
+    User,
     /// The bare repository was found by the search, and only one that is named may be taken.
     Bare,
+}
+
+/// A path of which can't be told what stands there, so that a repository may.
+#[derive(Debug, Drop)]
+pub struct Hidden {
+    /// `GIT_DIR`, where the repository is looked for there.
+    pub named: Option<Vec<u8>>,
+    /// The path.
+    pub path: Vec<u8>,
+    /// The system's words, as `Permission denied`.
+    pub reason: Vec<u8>,
 }
 
 /// Why no repository was found.
@@ -45,6 +58,8 @@ pub enum FindFault {
     Memory,
     /// None is in the current folder or above it.
     NotFound,
+    /// The same, or none is where `GIT_DIR` tells one, but one may be.
+    Hidden(Hidden),
     /// Something is wrong with this path, and the search ended there.
     At(Wrong, Vec<u8>),
 }
@@ -171,20 +186,39 @@ impl fmt::Display for FindFault {
     fn fmt<W: fmt::Write>(&self, f: &mut fmt::Formatter<W>) -> fmt::Result {
         match self {
             FindFault::Memory => write!(f, "no memory"),
-            FindFault::NotFound => write!(
-                f,
-                "not a git repository (or any of the parent directories): .git"
-            ),
-            FindFault::At(wrong, path) => {
-                let (front, back) = words_of(*wrong);
-                let path = BStr::new(path);
-                write!(f, "{front}{path}{back}")
-            }
+            FindFault::NotFound => write_not_found(f),
+            FindFault::Hidden(hidden) => match &hidden.named {
+                Some(told) => write_at(f, Wrong::NotNamed, told),
+                None => write_not_found(f),
+            },
+            FindFault::At(wrong, path) => write_at(f, *wrong, path),
         }
     }
 }
 
 impl Error for FindFault {}
+
+impl fmt::Display for Hidden {
+    fn fmt<W: fmt::Write>(&self, f: &mut fmt::Formatter<W>) -> fmt::Result {
+        let (path, reason) = (BStr::new(&self.path), BStr::new(&self.reason));
+        write!(f, "unable to access '{path}': {reason}")
+    }
+}
+
+/// Tells that no repository was found.
+fn write_not_found<W: fmt::Write>(f: &mut fmt::Formatter<W>) -> fmt::Result {
+    write!(
+        f,
+        "not a git repository (or any of the parent directories): .git"
+    )
+}
+
+/// Tells what is wrong with a path.
+fn write_at<W: fmt::Write>(f: &mut fmt::Formatter<W>, wrong: Wrong, path: &[u8]) -> fmt::Result {
+    let (front, back) = words_of(wrong);
+    let path = BStr::new(path);
+    write!(f, "{front}{path}{back}")
+}
 
 /// What is said before a path and behind it.
 fn words_of(wrong: Wrong) -> (&'static str, &'static str) {
@@ -203,6 +237,10 @@ fn words_of(wrong: Wrong) -> (&'static str, &'static str) {
             ")",
         ),
         Wrong::Owner => ("detected dubious ownership in repository at '", "'"),
+        Wrong::User => (
+            "the user isn't known, to whom the repository has to belong at '",
+            "'",
+        ),
         Wrong::Bare => (
             "cannot use bare repository '",
             "' (safe.bareRepository is 'explicit')",

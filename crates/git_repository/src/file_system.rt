@@ -1,5 +1,6 @@
 //! What the search asks of a file system.
 
+use git_config::UserFolder;
 use std::alloc::AllocError;
 
 /// What stands at paths. A path that doesn't begin with a slash is told from the current folder.
@@ -21,6 +22,18 @@ pub trait FileSystem {
 
     /// Whether the folder can be entered, as `access` with `X_OK` answers.
     fn can_enter(&self, path: &[u8]) -> Result<bool, AllocError>;
+
+    /// Whether the file may not be read by the user who asks, as `access` with `R_OK` answers `EACCES`.
+    fn is_shut(&self, path: &[u8]) -> Result<bool, AllocError>;
+
+    /// Why it can't be told what stands there, in the system's words; `None` where it can, be it that nothing does.
+    fn hidden(&self, path: &[u8]) -> Result<Option<Vec<u8>>, AllocError>;
+
+    /// Whether it is known who asks.
+    fn knows_user(&self) -> bool;
+
+    /// The users whose home folders are known.
+    fn users(&self) -> Result<Vec<UserFolder>, AllocError>;
 
     /// Whether what stands there belongs to the user who asks. A link isn't followed.
     fn is_ours(&self, path: &[u8]) -> Result<bool, AllocError>;

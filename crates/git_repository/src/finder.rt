@@ -4,7 +4,7 @@ ghost use Rattle.std.specs.Char.{is_ascii_hexdigit};
 ghost use Rattle.std.specs.List.{prefix_len};
 
 use crate::blanks::without_blanks;
-use crate::faults::{FindFault, Wrong};
+use crate::faults::{FindFault, Hidden, Wrong};
 use crate::file_system::FileSystem;
 use crate::found::{GitFolder, Head};
 use crate::paths::{joined, told_by, told_from, without_line_ends};
@@ -117,15 +117,44 @@ impl<'a, S: FileSystem> Finder<'a, S> {
 
     /// Whether a common folder has `objects` and `refs`.
     fn has_stores(&self, common: &[u8]) -> Result<bool, AllocError> {
-        let objects = match &self.variables.object_directory {
-            Some(told) => Vec::from_slice(self.alloc, told)?,
-            None => joined(self.alloc, common, b"/objects")?,
-        };
-        if !self.source.can_enter(&objects)? {
+        if !self.source.can_enter(&self.objects_of(common)?)? {
             return Ok(false);
         }
         self.source
             .can_enter(&joined(self.alloc, common, b"/refs")?)
+    }
+
+    /// The folder of objects.
+    fn objects_of(&self, common: &[u8]) -> Result<Vec<u8>, AllocError> {
+        match &self.variables.object_directory {
+            Some(told) => Vec::from_slice(self.alloc, told),
+            None => joined(self.alloc, common, b"/objects"),
+        }
+    }
+
+    /// What can't be looked at in a folder that is no git folder, so that it may be one.
+    pub(crate) fn hidden_in(&self, folder: &[u8]) -> Result<Option<Hidden>, FindFault> {
+        let head = joined(self.alloc, folder, b"/HEAD")?;
+        if let Some(reason) = self.source.hidden(&head)? {
+            return Ok(Some(Hidden {
+                named: None,
+                path: head,
+                reason,
+            }));
+        }
+        if self.head_in(folder)?.is_none() {
+            return Ok(None);
+        }
+        let common = self.common_folder(folder)?;
+        let path = self.objects_of(common.as_deref().unwrap_or(folder))?;
+        match self.source.hidden(&joined(self.alloc, &path, b"/.")?)? {
+            Some(reason) => Ok(Some(Hidden {
+                named: None,
+                path,
+                reason,
+            })),
+            None => Ok(None),
+        }
     }
 
     /// The git folder that a file leads to.

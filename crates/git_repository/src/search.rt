@@ -1,12 +1,13 @@
 //! The search for the repository of a current folder: the nearest folder that shows one.
 ghost use Rattle.std.specs.Prelude.{◌<◌, IfSome, length};
 
-use crate::faults::{FindFault, Wrong};
+use crate::faults::{FindFault, Hidden, Wrong};
 use crate::file_system::FileSystem;
 use crate::finder::Finder;
 use crate::found::{Found, FoundBy, GitFolder};
 use crate::paths::{folder_of, joined, name_start};
 use crate::safety::{Safety, trusts};
+use std::alloc::{AllocError, Global};
 
 impl<'a, S: FileSystem> Finder<'a, S> {
     /// The repository of a current folder, which is told from the root, without links and without a slash at its end. Where `GIT_DIR` is
@@ -14,8 +15,9 @@ impl<'a, S: FileSystem> Finder<'a, S> {
     /// folder itself. A folder that shows none of these is passed over, also one with a folder `.git` that is no git folder.
     ///
     /// # Errors
-    /// [`FindFault::NotFound`] where no folder shows a repository, [`FindFault::At`] where the nearest that isn't passed over shows a fault,
-    /// or lies on another file system, and [`FindFault::Memory`] where memory was refused.
+    /// [`FindFault::NotFound`] where no folder shows a repository, [`FindFault::Hidden`] where one of them may and this can't be told,
+    /// [`FindFault::At`] where the nearest that isn't passed over shows a fault, or lies on another file system, and [`FindFault::Memory`]
+    /// where memory was refused.
     pub(crate) fn find(&self, safety: &Safety<'_>, current: &[u8]) -> Result<Found, FindFault> {
         if let Some(told) = &self.variables.git_dir {
             return Ok(Found {
@@ -25,7 +27,8 @@ impl<'a, S: FileSystem> Finder<'a, S> {
             });
         }
         let start = folder_of(current);
-        self.search(safety, start, self.floor_of(start)?)
+        let folders = folders_from(self.alloc, start, self.floor_of(start)?)?;
+        self.search(safety, &folders)
     }
 
     /// The git folder that `GIT_DIR` tells.
@@ -36,37 +39,58 @@ impl<'a, S: FileSystem> Finder<'a, S> {
         if let Some(git) = self.git_folder(told)? {
             return Ok(git);
         }
+        if let Some(mut hidden) = self.hidden_in(told)? {
+            hidden.named = Some(Vec::from_slice(self.alloc, told)?);
+            return Err(FindFault::Hidden(hidden));
+        }
         match self.source.real_path(told)? {
             Some(_real) => Err(self.at(Wrong::NotNamed, told)?),
             None => Err(self.at(Wrong::NamedNowhere, told)?),
         }
     }
 
-    /// The repository that the nearest folder shows, from this one upward. A folder above has so many bytes at least.
-    fn search(&self, safety: &Safety<'_>, start: &[u8], floor: usize) -> Result<Found, FindFault> {
-        let mut len = start.len();
-        'folders: loop {
-            let folder = &start[..len];
-            self.check_border(start, folder)?;
+    /// The repository that the first of these folders shows that shows one.
+    fn search(&self, safety: &Safety<'_>, folders: &[&[u8]]) -> Result<Found, FindFault> {
+        let mut device = None;
+        for folder in folders {
+            self.check_border(&mut device, folder)?;
             if let Some(found) = self.shows(safety, folder)? {
                 return Ok(found);
             }
-            let Some(upper) = upper_len(folder, floor) else {
-                return Err(FindFault::NotFound);
-            };
-            len = upper;
+        }
+        match self.hidden_among(folders)? {
+            Some(hidden) => Err(FindFault::Hidden(hidden)),
+            None => Err(FindFault::NotFound),
         }
     }
 
-    /// Refuses a folder on another file system than that where the search began, unless it goes across.
-    fn check_border(&self, start: &[u8], folder: &[u8]) -> Result<(), FindFault> {
+    /// Refuses a folder on another file system than the first one, whose device is kept, unless the search goes across.
+    fn check_border(&self, device: &mut Option<u64>, folder: &[u8]) -> Result<(), FindFault> {
         if self.variables.across_file_systems {
             return Ok(());
         }
-        if self.source.device(path_of(folder))? != self.source.device(path_of(start))? {
-            return Err(self.at(Wrong::Border, path_of(folder))?);
+        let now = self.source.device(path_of(folder))?;
+        match *device {
+            Some(first) if first != now => Err(self.at(Wrong::Border, path_of(folder))?),
+            _ => {
+                *device = Some(now);
+                Ok(())
+            }
         }
-        Ok(())
+    }
+
+    /// What can't be looked at in folders that show no repository, so that one of them may be there.
+    fn hidden_among(&self, folders: &[&[u8]]) -> Result<Option<Hidden>, FindFault> {
+        for folder in folders {
+            let inner = joined(self.alloc, folder, b"/.git")?;
+            if let Some(hidden) = self.hidden_in(&inner)? {
+                return Ok(Some(hidden));
+            }
+            if let Some(hidden) = self.hidden_in(folder)? {
+                return Ok(Some(hidden));
+            }
+        }
+        Ok(None)
     }
 
     /// The repository that a folder shows; `None` where it is passed over.
@@ -88,8 +112,10 @@ impl<'a, S: FileSystem> Finder<'a, S> {
         };
         if self.owns(by, &inner, &top, &git.path)? || trusts(safety.directories, &top) {
             Ok(Some(Found { by, top, git }))
-        } else {
+        } else if self.source.knows_user() {
             Err(FindFault::At(Wrong::Owner, top))
+        } else {
+            Err(FindFault::At(Wrong::User, top))
         }
     }
 
@@ -113,13 +139,25 @@ fn path_of(folder: &[u8]) -> &[u8] {
     if folder.is_empty() { b"/" } else { folder }
 }
 
-/// The length of the folder above another, where it has so many bytes at least.
-fn upper_len(folder: &[u8], floor: usize) -> Option<usize>
-    ensures { IfSome result (λ len. len < length folder.now) }
+/// A folder, and those above it upward, which have so many bytes at least.
+fn folders_from(alloc: Global, start: &[u8], floor: usize) -> Result<Vec<&[u8]>, AllocError> {
+    let mut folders = Vec::new(alloc);
+    folders.push(start)?;
+    let mut folder = start;
+    'folders: while let Some(upper) = upper_of(folder, floor) {
+        folders.push(upper)?;
+        folder = upper;
+    }
+    Ok(folders)
+}
+
+/// The folder above another, where it has so many bytes at least.
+fn upper_of(folder: &[u8], floor: usize) -> Option<&[u8]>
+    ensures { IfSome result (λ upper. length upper.now < length folder.now) }
 {
     let start = name_start(folder);
     if start == 0 || start - 1 < floor {
         return None;
     }
-    Some(start - 1)
+    Some(&folder[..start - 1])
 }

@@ -43,7 +43,7 @@ impl<'a, S: FileSystem + ConfigFiles> Setup<'a, S> {
             let config = self.read_trusted(around)?;
             found = self.find_by(&[], is_bare_refused(self.finder.alloc, &config)?);
         }
-        if is_refused(&found, Wrong::Owner) {
+        if is_refused(&found, Wrong::Owner) || is_refused(&found, Wrong::User) {
             let config = self.read_trusted(around)?;
             let directories = safe_directories(self.finder.alloc, &config, around)?;
             found = self.find_by(&directories, false);
@@ -81,7 +81,7 @@ impl<'a, S: FileSystem + ConfigFiles> Setup<'a, S> {
         }
         for source in &self.outer_files()?.list {
             match source {
-                ConfigSource::File(path) if is_relative(path) => {
+                ConfigSource::File { path, .. } if is_relative(path) => {
                     return Err(OpenFault::RelativeFile(Vec::from_slice(alloc, path)?));
                 }
                 _ => {}

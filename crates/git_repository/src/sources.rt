@@ -14,7 +14,12 @@ use std::alloc::{AllocError, Global};
 #[derive(Debug, Drop)]
 pub enum ConfigSource {
     /// The file at a path. One that isn't there has no entries.
-    File(Vec<u8>),
+    File {
+        /// The path.
+        path: Vec<u8>,
+        /// Whether it is a user's: Git passes over one that may not be read.
+        is_users: bool,
+    },
     /// A key of the command line or of the environment, as it is told, and its value.
     Word {
         /// The key.
@@ -58,15 +63,20 @@ pub(crate) fn as_sources(
 ) -> Result<Vec<Source<'_>>, AllocError> {
     let mut sources = Vec::new(alloc);
     for source in list {
-        sources.push(match source {
-            ConfigSource::File(path) => Source::File(path),
-            ConfigSource::Word { key, value } => Source::Word {
-                key,
-                value: slice_of(value),
-            },
-        })?;
+        sources.push(as_source(source))?;
     }
     Ok(sources)
+}
+
+/// A source as [`Config::read`](git_config::Config::read) takes it.
+pub(crate) fn as_source(source: &ConfigSource) -> Source<'_> {
+    match source {
+        ConfigSource::File { path, .. } => Source::File(path),
+        ConfigSource::Word { key, value } => Source::Word {
+            key,
+            value: slice_of(value),
+        },
+    }
 }
 
 impl ConfigSources {
@@ -91,8 +101,8 @@ impl ConfigSources {
             add_system(alloc, variables, &mut list)?;
         }
         add_user_files(alloc, variables, &mut list)?;
-        add_file(copied(alloc, repository)?, &mut list)?;
-        add_file(copied(alloc, work_tree)?, &mut list)?;
+        add_file(copied(alloc, repository)?, false, &mut list)?;
+        add_file(copied(alloc, work_tree)?, false, &mut list)?;
         Ok(ConfigSources { list, fault: None })
     }
 
@@ -125,7 +135,7 @@ fn add_system(
     list: &mut Vec<ConfigSource>,
 ) -> Result<(), AllocError> {
     match &variables.system {
-        Some(path) => add_file(Some(normal_path(alloc, path)?), list),
+        Some(path) => add_file(Some(normal_path(alloc, path)?), false, list),
         None => Ok(()),
     }
 }
@@ -137,20 +147,25 @@ fn add_user_files(
     list: &mut Vec<ConfigSource>,
 ) -> Result<(), AllocError> {
     if let Some(path) = &variables.global {
-        return add_file(Some(Vec::from_slice(alloc, path)?), list);
+        return add_file(Some(Vec::from_slice(alloc, path)?), true, list);
     }
     let home = variables.home.as_deref();
     add_file(
         settings_file(alloc, variables.config_home.as_deref(), home, b"config")?,
+        true,
         list,
     )?;
-    add_file(below_home(alloc, home, b"/.gitconfig")?, list)
+    add_file(below_home(alloc, home, b"/.gitconfig")?, true, list)
 }
 
 /// Adds the file at a path, if there is one.
-fn add_file(path: Option<Vec<u8>>, list: &mut Vec<ConfigSource>) -> Result<(), AllocError> {
+fn add_file(
+    path: Option<Vec<u8>>,
+    is_users: bool,
+    list: &mut Vec<ConfigSource>,
+) -> Result<(), AllocError> {
     if let Some(path) = path {
-        list.push(ConfigSource::File(path))?;
+        list.push(ConfigSource::File { path, is_users })?;
     }
     Ok(())
 }

@@ -12,7 +12,7 @@ use std::alloc::Global;
 use std::env;
 use std::rt::{Env, Files};
 use system_files::{DiskFiles, User, read_variables, surroundings};
-use tree_files::path_text;
+use tree_files::{path_text, tell_line};
 use tree_words::{Options, values_of};
 
 /// What the process was told before it looks for a repository, and the files that it sees.
@@ -70,8 +70,8 @@ pub(crate) fn open_here<R: Files + Env>(
 }
 
 /// Reads the configuration that counts in the current folder. Where this lies below the top of the work tree, it goes there first, as
-/// Git does, so that a file has the name that Git has for it.
-pub(crate) fn config_here<R: Files + Env + AllocGlobal>(
+/// Git does, so that a file has the name that Git has for it. Where a repository may be that can't be looked at, this is told.
+pub(crate) fn config_here<R: Files + Env + Eprint + AllocGlobal>(
     rt: &R,
     alloc: Global,
     options: Options<'_>,
@@ -81,6 +81,9 @@ pub(crate) fn config_here<R: Files + Env + AllocGlobal>(
     let mut around = told.around()?;
     let setup = told.setup(current.as_str().as_bytes());
     let place = setup.config_place(&mut around)?;
+    if let Some(hidden) = &place.hidden {
+        tell_line(rt, alloc, format_args!("warning: {hidden}"))?;
+    }
     go_to_place(rt, alloc, &place)?;
     Ok(setup.read_config(&mut around, &place)?)
 }

@@ -15,7 +15,8 @@ use crate::show_config::show_config;
 use crate::show_status::show_status;
 use crate::wrong_words::{tell_no_text, tell_word_fault};
 use byte_streams::Watched;
-use std::alloc::Global;
+use git_repository::{FindFault, OpenFault, ShellWord, Wrong};
+use std::alloc::{AllocError, Global};
 use std::io::{ErrorKind, Read, Write};
 use std::rt::{Clock, Env, Files};
 use tree_files::tell_line;
@@ -108,9 +109,40 @@ pub(crate) fn without_words<R: Eprint>(rt: &R, refused: ErrorKind) -> u8
 fn tell_fault<R: Eprint>(rt: &R, alloc: Global, fault: Fault) -> u8
     ensures { result ≡ 128 }
 {
-    match tell_line(rt, alloc, format_args!("fatal: {fault}")) {
+    match tell_whole(rt, alloc, &fault) {
         Ok(()) => FAULT,
         Err(_refused) => tell_want_of_memory(rt),
+    }
+}
+
+/// Tells a fault in one line, and in more what to do about it.
+fn tell_whole<R: Eprint>(rt: &R, alloc: Global, fault: &Fault) -> Result<(), AllocError> {
+    tell_line(rt, alloc, format_args!("fatal: {fault}"))?;
+    match fault {
+        Fault::Open(OpenFault::Find(fault)) => tell_more(rt, alloc, fault),
+        _ => Ok(()),
+    }
+}
+
+/// Tells how a repository of another user is trusted, or why none was found.
+fn tell_more<R: Eprint>(rt: &R, alloc: Global, fault: &FindFault) -> Result<(), AllocError> {
+    match fault {
+        FindFault::At(Wrong::Owner, path) => {
+            let path = ShellWord(path);
+            tell_line(
+                rt,
+                alloc,
+                format_args!("To add an exception for this directory, call:"),
+            )?;
+            tell_line(rt, alloc, format_args!(""))?;
+            tell_line(
+                rt,
+                alloc,
+                format_args!("\tgit config --global --add safe.directory {path}"),
+            )
+        }
+        FindFault::Hidden(hidden) => tell_line(rt, alloc, format_args!("{hidden}")),
+        _ => Ok(()),
     }
 }
 

@@ -120,7 +120,7 @@ fn list_text(alloc: Global, sources: &[ConfigSource]) -> Result<Vec<u8>, AllocEr
 /// Adds a source.
 fn push_source(text: &mut Vec<u8>, source: &ConfigSource) -> Result<(), AllocError> {
     match source {
-        ConfigSource::File(path) => text.extend_from_slice(path),
+        ConfigSource::File { path, .. } => text.extend_from_slice(path),
         ConfigSource::Word { key, value } => {
             text.push(b' ')?;
             text.extend_from_slice(key)?;

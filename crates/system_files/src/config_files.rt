@@ -167,7 +167,7 @@ fn wrong<F>(alloc: Global, what: WrongFile, path: &[u8]) -> Result<Option<F>, Co
 }
 
 /// The system's words for an error, without its number.
-fn reason_of(alloc: Global, error: &io::Error) -> Result<String, AllocError> {
+pub(crate) fn reason_of(alloc: Global, error: &io::Error) -> Result<String, AllocError> {
     let told = format!(in alloc; "{error}")?;
     String::from_str(alloc, without_number(told.as_str()))
 }

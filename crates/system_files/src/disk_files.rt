@@ -1,17 +1,19 @@
 //! The files of the operating system, and what the search for a repository asks of them.
 
-use crate::config_files::{KeptFile, MOST_BYTES};
+use crate::config_files::{KeptFile, MOST_BYTES, reason_of};
 use crate::reading::{Unread, answered, read_front};
 use crate::real_path::real_path;
 use crate::user::User;
+use crate::users::{USERS, USERS_LIMIT, users_in};
+use git_config::UserFolder;
 use git_repository::FileSystem;
 use std::alloc::{AllocError, Global};
 use std::cell::Cell;
-use std::fs;
 use std::fs::Metadata;
 use std::io::ErrorKind;
 use std::os::unix::fs::MetadataExt;
 use std::rt::Files;
+use std::{fs, io};
 
 /// The files of the operating system. What can't be looked at isn't there. The kit opens a file only by a text, so what has a path that is
 /// no UTF-8 isn't there, either. Of a configuration 10,000 files of 16 MiB in all are given at most, since files that include one another
@@ -110,6 +112,39 @@ impl<'a, R: Files> FileSystem for DiskFiles<'a, R> {
         }
     }
 
+    /// The kit has no `access`: a file may be read where it is opened.
+    fn is_shut(&self, path: &[u8]) -> Result<bool, AllocError> {
+        let Ok(path) = str::from_utf8(path) else {
+            return Ok(false);
+        };
+        match read_front(self.rt, self.alloc, path, 0) {
+            Err(Unread::System(error)) if error.kind() == ErrorKind::OutOfMemory => Err(AllocError),
+            Err(Unread::System(error)) => Ok(error.kind() == ErrorKind::PermissionDenied),
+            _ => Ok(false),
+        }
+    }
+
+    fn hidden(&self, path: &[u8]) -> Result<Option<Vec<u8>>, AllocError> {
+        let Ok(path) = str::from_utf8(path) else {
+            return Ok(None);
+        };
+        match read_front(self.rt, self.alloc, path, 0) {
+            Err(Unread::System(error)) => reason_hidden(self.alloc, &error),
+            _ => Ok(None),
+        }
+    }
+
+    fn knows_user(&self) -> bool {
+        self.user.number.is_some()
+    }
+
+    fn users(&self) -> Result<Vec<UserFolder>, AllocError> {
+        match self.bytes(USERS, USERS_LIMIT)? {
+            Some(text) => users_in(self.alloc, &text),
+            None => Ok(Vec::new(self.alloc)),
+        }
+    }
+
     fn is_ours(&self, path: &[u8]) -> Result<bool, AllocError> {
         let user = self.user;
         Ok(
@@ -125,5 +160,14 @@ impl<'a, R: Files> FileSystem for DiskFiles<'a, R> {
 
     fn real_path(&self, path: &[u8]) -> Result<Option<Vec<u8>>, AllocError> {
         real_path(self.rt, self.alloc, path)
+    }
+}
+
+/// Why a file can't be looked at; `None` where none is there.
+fn reason_hidden(alloc: Global, error: &io::Error) -> Result<Option<Vec<u8>>, AllocError> {
+    match error.kind() {
+        ErrorKind::OutOfMemory => Err(AllocError),
+        ErrorKind::NotFound | ErrorKind::NotADirectory => Ok(None),
+        _ => Ok(Some(reason_of(alloc, error)?.into_bytes())),
     }
 }

@@ -5,13 +5,13 @@ use git_repository::FileSystem;
 use std::alloc::{AllocError, Global};
 
 /// The file that names the users.
-const USERS: &[u8] = b"/etc/passwd";
+pub(crate) const USERS: &[u8] = b"/etc/passwd";
 
 /// So many bytes of it are looked at: 1 MiB.
-const USERS_LIMIT: usize = 1 << 20;
+pub(crate) const USERS_LIMIT: usize = 1 << 20;
 
-/// What paths and conditions of a configuration are told from outside a repository: the folder that `HOME` tells, and those of the users whom
-/// `/etc/passwd` names. Others, which a service may know, aren't told, and of the installation nothing is known.
+/// What paths and conditions of a configuration are told from outside a repository: the folder that `HOME` tells. Those of users are looked
+/// up where one is named, and of the installation nothing is known.
 ///
 /// # Errors
 /// Only where memory was refused.
@@ -24,23 +24,20 @@ pub fn surroundings<F: FileSystem>(
         Some(home) => (Some(Vec::from_slice(alloc, home)?), files.real_path(home)?),
         None => (None, None),
     };
-    let users = match files.bytes(USERS, USERS_LIMIT)? {
-        Some(text) => users_in(alloc, &text)?,
-        None => Vec::new(alloc),
-    };
     Ok(Surroundings {
         home,
         real_home,
         installed: None,
-        users,
+        users: Vec::new(alloc),
         git_folders: Vec::new(alloc),
         branch: None,
         urls: None,
     })
 }
 
-/// The users that a text names, a line each: the first of seven fields is the name, and the sixth the folder.
-fn users_in(alloc: Global, text: &[u8]) -> Result<Vec<UserFolder>, AllocError> {
+/// The users that a text names, a line each: the first of seven fields is the name, and the sixth the folder. Others, which a service may
+/// know, aren't told.
+pub(crate) fn users_in(alloc: Global, text: &[u8]) -> Result<Vec<UserFolder>, AllocError> {
     let mut users = Vec::new(alloc);
     for line in text.split(|b| *b == b'\n') {
         let fields: Vec<&[u8]> = line.split(|b| *b == b':').collect(alloc)?;
