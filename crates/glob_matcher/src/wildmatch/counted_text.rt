@@ -1,13 +1,17 @@
 //! What can read a byte of a match: a text that is read in counted looks.
 //!
 //! This module alone sees the slices of a match, and it hands out none: whoever has a text reads a byte of it in a look that
-//! its ledger counts, or not at all.
-ghost use Rattle.std.specs.Prelude.{◌≡◌, ◌<◌, ◌≤◌, ◌+◌, ◌-◌, ◌*◌, MatchOption, length, slice_index};
+//! its ledger counts, or not at all. A search by `memchr` and the comparison of two fronts read on to the end of a span; they
+//! tell of no byte past the one that ends them, and a look is counted at each place up to there.
+ghost use Rattle.std.specs.Prelude.{◌≡◌, ◌<◌, ◌≤◌, ◌+◌, ◌-◌, ◌*◌, MatchOption, length, slice_index, slice_range};
 ghost use Rattle.glob_matcher.specs.Bytes.{HasByte};
+ghost use Rattle.glob_matcher.specs.Sets.{name_of};
+ghost use Rattle.glob_matcher.specs.declared.wildmatch.items.Class.{Class};
 ghost use Rattle.glob_matcher.specs.Private.Finding.{HasComeTo, IsLiteralFront, places_compared};
 ghost use Rattle.glob_matcher.specs.Private.Takes.{TakesExactly, looks_at};
 
 use super::any_of::AnyOf;
+use super::items::Class;
 use super::spans::literal_front;
 use super::steps::Steps;
 use super::way::Way;
@@ -105,6 +109,19 @@ impl<'a, L: Ledger> CountedText<'a, L> {
                 (from + passed, Some(self.bytes[from + passed]))
             }
         }
+    }
+
+    /// The class that the bytes from one place up to another name, in a look at each.
+    #[inline(always)]
+    pub(super) fn class_named(&self, from: usize, to: usize, counts: &mut Steps<L>) -> Option<Class>
+        requires order { from ≤ to }
+        requires inside { to ≤ length self.now }
+        ensures class { MatchOption result ((class : Class) → ¬ (slice_range self.now from to ≡ name_of class))
+            (λ class. slice_range self.now from to ≡ name_of class) }
+        ensures count { TakesExactly counts.old counts.new 0 (to - from) }
+    {
+        counts.looks(to - from);
+        Class::named(&self.bytes[from..to])
     }
 
     /// How many bytes at the front of a pattern are tokens by themselves, and no slash, and alike in the value, in a step and two

@@ -43,7 +43,7 @@ impl SetAnswer {
 
     /// What is handed over.
     #[inline(always)]
-    fn read(self) -> Option<SetRead>
+    pub(super) fn read(self) -> Option<SetRead>
         ensures { result ≡ set_of self }
     {
         match self {
@@ -71,7 +71,7 @@ impl<'c, 'a, L: Ledger, M: Texts> Engine<'c, 'a, L, M> {
 
 /// Reads a set, out of line.
 #[inline(never)]
-fn read_set<'a, L: Ledger, M: Texts>(
+pub(super) fn read_set<'a, L: Ledger, M: Texts>(
     pattern: CountedText<'a, L>,
     place: usize,
     byte: u8,

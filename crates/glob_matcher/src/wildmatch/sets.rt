@@ -86,6 +86,15 @@ impl Cursor {
     }
 }
 
+/// Whether a byte of a set is a member wherever it stands.
+#[inline(always)]
+fn is_plain(byte: u8) -> bool
+    ensures { IsTrue result ↔ IsPlainByte byte }
+{
+    // most are letters, which lie past the brackets
+    byte > b']' || (byte < b'[' && byte != b'-')
+}
+
 /// What is read of a set so far, for one byte.
 #[derive(Clone, Copy)]
 struct SetPart {
@@ -219,8 +228,7 @@ impl<'c, 'a, L: Ledger, M: Texts> Engine<'c, 'a, L, M> {
         self.pattern_byte(end - 1) == b':'
     }
 
-    /// The class that the bytes from one place up to another name, in a look at each. No class has a name of other than five or
-    /// six bytes, so of another none is looked at.
+    /// The class that the bytes from one place up to another name, in a look at each.
     #[inline(always)]
     fn class_named(&mut self, from: usize, to: usize) -> Option<Class>
         requires order { from ≤ to }
@@ -229,30 +237,8 @@ impl<'c, 'a, L: Ledger, M: Texts> Engine<'c, 'a, L, M> {
             (λ class. slice_range M.pattern from to ≡ name_of class) }
         ensures count { Takes self.old self.new 0 (to - from) }
     {
-        match to - from {
-            5 => {
-                let name = [
-                    self.pattern_byte(from),
-                    self.pattern_byte(from + 1),
-                    self.pattern_byte(from + 2),
-                    self.pattern_byte(from + 3),
-                    self.pattern_byte(from + 4),
-                ];
-                Class::named(&name)
-            }
-            6 => {
-                let name = [
-                    self.pattern_byte(from),
-                    self.pattern_byte(from + 1),
-                    self.pattern_byte(from + 2),
-                    self.pattern_byte(from + 3),
-                    self.pattern_byte(from + 4),
-                    self.pattern_byte(from + 5),
-                ];
-                Class::named(&name)
-            }
-            _ => None,
-        }
+        let texts = &mut self.texts;
+        texts.pattern.class_named(from, to, &mut *texts.counts)
     }
 
     /// The class that begins with the `[:` at this place, or a lone `[` where the first `]` ends no class. `None` where there
@@ -337,15 +323,6 @@ impl<'c, 'a, L: Ledger, M: Texts> Engine<'c, 'a, L, M> {
         }
     }
 
-    /// Whether the `[` at this place is the beginning of `[:`.
-    fn begins_class(&mut self, place: usize) -> bool
-        requires { HasByte M.pattern place open_bracket }
-        ensures answer { IsTrue result ↔ BeginsClass M.pattern place }
-        ensures count { Takes self.old self.new 0 1 }
-    {
-        matches!(self.look_at(place + 1), Some(b':'))
-    }
-
     /// The class that begins with the `[` at this place, or a `[` alone.
     #[inline(always)]
     fn bracket_at(&mut self, low: Option<u8>, place: usize, close: Option<usize>) -> Option<Spelled>
@@ -353,7 +330,7 @@ impl<'c, 'a, L: Ledger, M: Texts> Engine<'c, 'a, L, M> {
         requires known { IsKnown M.pattern place close }
         ensures { IsItemRead 1 self.old self.new M.pattern low place close result }
     {
-        if self.begins_class(place) {
+        if self.has_byte(place + 1, b':') {
             return self.class_at(place, close);
         }
         Some(Spelled {
@@ -474,26 +451,6 @@ impl<'c, 'a, L: Ledger, M: Texts> Engine<'c, 'a, L, M> {
         }
     }
 
-    /// What is read once the next item is, which is this byte by itself.
-    #[inline(always)]
-    fn past_plain_member(&mut self, part: SetPart, member: u8, byte: u8) -> SetPart
-        requires case { folds M.way ≡ false }
-        requires read { IsPartRead M.way M.pattern byte part }
-        requires here { HasByte M.pattern part.cursor.place member }
-        requires plain { IsPlainByte member }
-        ensures read { IsPartRead M.way M.pattern byte result }
-        ensures place { result.place ≡ part.place }
-        ensures onward { part.cursor.place < result.cursor.place }
-        ensures paid { (before : Counts) → IsPartPaid 2 before self.old part → IsPartPaid 3 before self.new result }
-    {
-        let spelled = Spelled {
-            item: Item::Member(member),
-            next: part.cursor.place + 1,
-            close: part.cursor.close,
-        };
-        part.past(spelled, byte, Way::Plain)
-    }
-
     /// What is read once the next item is, if it is a member that is spelled by itself, or a range of two such.
     #[inline(always)]
     fn past_plain_item(&mut self, part: SetPart, byte: u8) -> Option<SetPart>
@@ -508,17 +465,18 @@ impl<'c, 'a, L: Ledger, M: Texts> Engine<'c, 'a, L, M> {
         let Some(next) = self.look_at(part.cursor.place) else {
             return None;
         };
-        // most are letters, which lie past the brackets
-        if next > b']' {
-            return Some(self.past_plain_member(part, next, byte));
+        if is_plain(next) {
+            let member = Spelled {
+                item: Item::Member(next),
+                next: part.cursor.place + 1,
+                close: part.cursor.close,
+            };
+            return Some(part.past(member, byte, Way::Plain));
         }
         if next == b'-' {
             return self.past_plain_range(part, byte);
         }
-        if next >= b'[' {
-            return None;
-        }
-        Some(self.past_plain_member(part, next, byte))
+        None
     }
 
     /// Reads the items of a set up to the first that isn't plain. Most sets have no other items, and a loop
@@ -536,16 +494,6 @@ impl<'c, 'a, L: Ledger, M: Texts> Engine<'c, 'a, L, M> {
             part = next;
         }
         part
-    }
-
-    /// Whether the set closes where its reader stands.
-    #[inline(always)]
-    fn closes_at(&mut self, cursor: Cursor) -> bool
-        ensures answer { IsTrue result ↔ (IsTrue (not cursor.is_first) × HasByte M.pattern cursor.place close_bracket) }
-        ensures count { Takes self.old self.new 0 1 }
-        ensures looked { IsTrue result → self.old.looks < self.new.looks }
-    {
-        !cursor.is_first && matches!(self.look_at(cursor.place), Some(b']'))
     }
 
     /// Reads the rest of a set for this byte, in a way that holds in an item what this match does; `None` where it doesn't close.
@@ -586,12 +534,6 @@ impl<'c, 'a, L: Ledger, M: Texts> Engine<'c, 'a, L, M> {
             return self.rest_of_set(opening, byte, self.way());
         }
         let part = self.plain_part(opening, byte);
-        if self.closes_at(part.cursor) {
-            return Some(SetRead {
-                end: part.cursor.place + 1,
-                holds: part.holds(byte, self.way()),
-            });
-        }
         self.rest_of_set(part, byte, Way::Plain)
     }
 }

@@ -6,8 +6,10 @@ ghost use Rattle.glob_matcher.specs.Private.Reader.{IsSetRead, IsToken, kind_of}
 ghost use Rattle.glob_matcher.specs.Private.Fitting.{Fits};
 ghost use Rattle.glob_matcher.specs.Steps.{IsBlankOf};
 
+use super::counted_text::CountedText;
 use super::counted_texts::CountedTexts;
 use super::engine::Engine;
+use super::set_apart::read_set;
 use super::sets::SetRead;
 use super::steps::Steps;
 use super::texts::{Texts, text_is_short};
@@ -57,54 +59,22 @@ fn token_over<'c, 'a, L: Ledger, M: Texts>(
     (token, engine.into_counts())
 }
 
-/// What is asked of a set: whether the one whose bracket stands at this place holds this byte.
-#[derive(Copy, Clone)]
-struct AskedSet<'a> {
-    pattern: &'a [u8],
-    way: Way,
+/// The set whose bracket stands at this place, read for this byte with new counts; `None` where no set begins.
+#[inline(always)]
+fn set_with_counts<L: Ledger>(
+    pattern: &[u8],
     place: usize,
     byte: u8,
-}
-
-impl<'a> AskedSet<'a> {
-    /// What is read of the set for the byte; `None` where no set begins.
-    fn read(self) -> Option<SetRead>
-        requires { HasByte self.pattern.now self.place open_bracket }
-        ensures { IsSetRead self.entry.way self.entry.pattern.now self.entry.place self.entry.byte result }
-    {
-        self.read_with_counts::<Brand>(Blank::new(2))
-    }
-
-    /// The same, with new counts.
-    #[inline(always)]
-    fn read_with_counts<L: Ledger>(self, blank: Blank) -> Option<SetRead>
-        requires blank { IsBlankOf L.name L.parts blank }
-        requires bracket { HasByte self.pattern.now self.place open_bracket }
-        ensures { IsSetRead self.entry.way self.entry.pattern.now self.entry.place self.entry.byte result }
-    {
-        text_is_short(self.pattern);
-        let mut counts = Steps::new(blank);
-        self.read_over::<L, Brand>(&mut counts).0
-    }
-
-    /// The same, of the pattern in counted looks; and the counts.
-    #[inline(always)]
-    fn read_over<'c, L: Ledger, M: Texts>(
-        self,
-        counts: &'c mut Steps<L>,
-    ) -> (Option<SetRead>, &'c mut Steps<L>)
-        requires pattern { self.pattern.now ≡ M.pattern }
-        requires value { M.value ≡ [] }
-        requires way { self.way ≡ M.way }
-        requires counts { counts.ghost_name ≡ M.counts }
-        requires bracket { HasByte self.pattern.now self.place open_bracket }
-        ensures { IsSetRead self.entry.way self.entry.pattern.now self.entry.place self.entry.byte result.0 }
-    {
-        let texts = CountedTexts::<'c, 'a, L, M>::new(self.pattern, &[], counts);
-        let mut engine = Engine::new(texts, self.way);
-        let set = engine.set_apart(self.place, self.byte);
-        (set, engine.into_counts())
-    }
+    way: Way,
+    blank: Blank,
+) -> Option<SetRead>
+    requires blank { IsBlankOf L.name L.parts blank }
+    requires bracket { HasByte pattern.now place open_bracket }
+    ensures { IsSetRead way pattern.now place byte result }
+{
+    text_is_short(pattern);
+    let counted = CountedText::new(pattern);
+    read_set::<L, Brand>(counted, place, byte, way, &mut Steps::new(blank)).read()
 }
 
 impl TokenKind {
@@ -119,13 +89,7 @@ impl TokenKind {
         if pattern[place] != b'[' {
             return false;
         }
-        let asked = AskedSet {
-            pattern,
-            way,
-            place,
-            byte,
-        };
-        match asked.read() {
+        match set_with_counts::<Brand>(pattern, place, byte, way, Blank::new(2)) {
             Some(set) => set.holds,
             None => false,
         }

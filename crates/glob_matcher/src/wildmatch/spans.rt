@@ -1,6 +1,5 @@
 //! How far a pattern's front is literal and the value's is alike, by spans in which no byte takes a branch.
-ghost use Rattle.std.specs.Prelude.{◌≡◌, ◌≢◌, ◌↔◌, ℕ, ◌+◌, ◌<◌, ◌≤◌, IsTrue, length, slice_index};
-ghost use Rattle.glob_matcher.specs.Bytes.{StandsForItself, slash};
+ghost use Rattle.std.specs.Prelude.{◌↔◌, ℕ, ◌+◌, ◌<◌, ◌≤◌, IsTrue, length, slice_index};
 ghost use Rattle.glob_matcher.specs.Private.Finding.{IsLiteralFront, IsLiterally, PassesLiterally};
 
 use super::needle::stands_within_component;

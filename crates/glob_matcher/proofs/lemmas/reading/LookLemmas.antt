@@ -172,11 +172,6 @@ module _ {way : Way} {text : List ℕ} {b : ℕ} where
         answer = all.2;
       }
 
-pub paid_first : {before after : Counts} {place : ℕ} {negated : Bool} → Takes before after 0 1 → IsPartPaid 3 before after (part_opened place negated)
-paid_first {place = place} {negated} takes =
-    let past = past_bracket place negated in
-    record { steps = omega (arith, takes.steps); looks = omega (arith, takes.looks, past); low = takes.low }
-
 pub paid_next : {spare : ℕ} {before between after : Counts} {part : SetPart} (way : Way) (b : ℕ) (s : Spelled) → IsPartPaid spare before between part
     → IsPaid 0 between after part.cursor.place part.cursor.close s → IsPartPaid spare before after (part_past way b part s)
 paid_next way b s so_far paid = record {
