@@ -1,6 +1,6 @@
 //! The turns of the engine with two marks: the token at a place of the pattern is tested at a place of the value, and after a
-//! literal byte the ones that follow it, up to a slash.
-ghost use Rattle.std.specs.Prelude.{◌≡◌, ◌≢◌, ◌-◌, ◌*◌, ◌<◌, ◌≤◌, false, length, slice_index};
+//! literal byte the ones that follow it, up to a slash at which a mark would be forgotten.
+ghost use Rattle.std.specs.Prelude.{◌≡◌, ◌≢◌, ◌-◌, ◌*◌, ◌<◌, ◌≤◌, IsTrue, None, false, length, slice_index};
 ghost use Rattle.glob_matcher.specs.Bytes.{HasByte, StandsForItself, open_bracket, slash};
 ghost use Rattle.glob_matcher.specs.Tokens.{DirsAt, Free, Local, TokenAt};
 ghost use Rattle.glob_matcher.specs.Private.Reader.{IsToken, is_star};
@@ -9,12 +9,23 @@ ghost use Rattle.glob_matcher.specs.Private.Turns.{IsTurn};
 
 use super::barrier::NoBarrier;
 use super::engine::Engine;
+use super::marks::Mark;
 use super::needle::{ExactByte, stands_for_itself, stands_within_component};
 use super::scan::Scan;
 use super::state::{Crossing, State, Turn};
 use super::texts::Texts;
 use super::tokens::TokenKind;
 use std::sync::ledger::Ledger;
+
+/// Whether a byte is a token by itself, and no slash at which this local mark would be forgotten.
+#[inline(always)]
+fn keeps_mark(byte: u8, local: Option<Mark>) -> bool
+    ensures token { IsTrue result → StandsForItself byte }
+    ensures kept { IsTrue result → byte ≡ slash → local ≡ None }
+    ensures other { StandsForItself byte → byte ≢ slash → IsTrue result }
+{
+    stands_within_component(byte) || (byte == b'/' && local.is_none())
+}
 
 impl<'c, 'a, L: Ledger, M: Texts> Engine<'c, 'a, L, M> {
     /// A turn at a question mark or an escaped byte.
@@ -178,7 +189,7 @@ impl<'c, 'a, L: Ledger, M: Texts> Engine<'c, 'a, L, M> {
         })
     }
 
-    /// Turns at bytes that are tokens by themselves, up to a slash or another token: the marks stay.
+    /// Turns at bytes that are tokens by themselves, up to another token, or a slash behind a local mark: the marks stay.
     #[inline(always)]
     fn literal_turns(&mut self, state: State) -> Turn
         requires stands { StandsAt M.way M.pattern M.value state }
@@ -191,7 +202,7 @@ impl<'c, 'a, L: Ledger, M: Texts> Engine<'c, 'a, L, M> {
         let mut at = state.at;
         'bytes: while place < self.pattern_len() {
             let byte = self.pattern_byte(place);
-            if !stands_within_component(byte) {
+            if !keeps_mark(byte, state.local) {
                 break;
             }
             if !self.fits_byte(at, byte) {
@@ -204,7 +215,7 @@ impl<'c, 'a, L: Ledger, M: Texts> Engine<'c, 'a, L, M> {
     }
 
     /// The token at this place of the pattern, or the pattern's end, is tested at this place of the value. After a byte that
-    /// is a token by itself, the ones that follow it are tested too, up to a slash.
+    /// is a token by itself, the ones that follow it are tested too, up to a slash behind a local mark.
     #[inline(always)]
     pub fn take_turn(&mut self, state: State) -> Turn
         requires { StandsAt M.way M.pattern M.value state }
