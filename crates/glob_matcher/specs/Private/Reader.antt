@@ -1,5 +1,5 @@
 -- What the reader of a pattern answers: the items of a set and the tokens, each with the place after it.
-use Rattle.std.specs.Prelude.{◌≡◌, ◌≢◌, ◌↔◌, ℕ, ◌+◌, ◌*◌, ◌<◌, ◌≤◌, Bool, true, false, not, ◌&&◌, ◌||◌, ◌==◌, IsTrue, List, [], length, Option, None, MatchOption, if◌then◌else◌}
+use Rattle.std.specs.Prelude.{◌≡◌, ◌↔◌, ℕ, ◌+◌, ◌*◌, ◌<◌, ◌≤◌, Bool, true, false, not, ◌&&◌, ◌||◌, ◌==◌, IsTrue, List, [], length, Option, None, MatchOption, if◌then◌else◌}
 use Rattle.glob_matcher.specs.declared.wildmatch.items.Item.{Item}
 use Rattle.glob_matcher.specs.declared.wildmatch.sets.Cursor.{Cursor}
 use Rattle.glob_matcher.specs.declared.wildmatch.sets.SetPart.{SetPart}
@@ -11,8 +11,8 @@ use Rattle.glob_matcher.specs.declared.wildmatch.way.Way.{Way}
 use Rattle.glob_matcher.specs.declared.wildmatch.tokens.TokenKind.{TokenKind}
 use Rattle.glob_matcher.specs.declared.wildmatch.tokens.TokenKind.TheVariants as kind
 use Rattle.std.specs.List.{list_any}
-use Rattle.glob_matcher.specs.Bytes.{HasByte, is_path, open_bracket, backslash, slash}
-use Rattle.glob_matcher.specs.Private.Spelling.{close_bracket, dash, IsSign}
+use Rattle.glob_matcher.specs.Bytes.{HasByte, is_path, open_bracket, slash}
+use Rattle.glob_matcher.specs.Private.Spelling.{close_bracket, IsSign}
 use Rattle.glob_matcher.specs.Sets.{ItemsAt, Set, SetAt, item_holds, member_of, set_holds}
 use Rattle.glob_matcher.specs.Steps.{Counts}
 use Rattle.glob_matcher.specs.Private.Looks.{IsKnown, IsSpelled}
@@ -84,13 +84,6 @@ pub record IsPartRead (way : Way) (text : List ℕ) (b : ℕ) (part : SetPart) :
   pub past : part.place < part.cursor.place
   pub inside : part.cursor.place ≤ length text
   pub known : IsKnown text part.cursor.place part.cursor.close
-
--- a byte of a set that is no bracket, backslash or `-`
-pub record IsPlainByte (b : ℕ) : Type 0 where
-  pub no_bracket : b ≢ open_bracket
-  pub no_close : b ≢ close_bracket
-  pub no_escape : b ≢ backslash
-  pub no_dash : b ≢ dash
 
 -- what the code keeps of a token: of a set its place alone
 abbrev pub kind_of : Token → TokenKind

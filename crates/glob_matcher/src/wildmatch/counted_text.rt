@@ -1,8 +1,7 @@
 //! What can read a byte of a match: a text that is read in counted looks.
 //!
-//! This module alone sees the slices of a match, and it hands out none: whoever has a text reads a byte of it in a look that
-//! its ledger counts, or not at all. A search by `memchr` and the comparison of two fronts read on to the end of a span; they
-//! tell of no byte past the one that ends them, and a look is counted at each place up to there.
+//! This module alone sees the slices of a match, and it hands out none: whoever has a text is told of a byte in a look that its
+//! ledger counts, or not at all. A search and a comparison of fronts read on without a look, to the end of their last span.
 ghost use Rattle.std.specs.Prelude.{◌≡◌, ◌<◌, ◌≤◌, ◌+◌, ◌-◌, ◌*◌, MatchOption, length, slice_index, slice_range};
 ghost use Rattle.glob_matcher.specs.Bytes.{HasByte};
 ghost use Rattle.glob_matcher.specs.Sets.{name_of};

@@ -11,7 +11,7 @@ ghost use Rattle.glob_matcher.specs.Steps.{Counts};
 ghost use Rattle.glob_matcher.specs.Sets.{BeginsRange, BeginsClass, IsFirstFrom, IsUpperEnd, item_holds, name_of};
 ghost use Rattle.glob_matcher.specs.Private.Takes.{Takes, TakesExactly, looks_at};
 ghost use Rattle.glob_matcher.specs.Private.Looks.{LookedAtEach, LookedOver, IsItemRead, IsKnown, IsPaidFor, IsPartPaid, read_end, search_front};
-ghost use Rattle.glob_matcher.specs.Private.Reader.{IsNextItem, IsPartRead, IsPlainByte, IsSetRead, after_item, first_item, part_holds, part_opened, part_past};
+ghost use Rattle.glob_matcher.specs.Private.Reader.{IsNextItem, IsPartRead, IsSetRead, after_item, first_item, part_holds, part_opened, part_past};
 
 use super::engine::Engine;
 use super::items::{Class, Item};
@@ -84,15 +84,6 @@ impl Cursor {
     {
         !self.is_first && byte == b']'
     }
-}
-
-/// Whether a byte of a set is a member wherever it stands.
-#[inline(always)]
-fn is_plain(byte: u8) -> bool
-    ensures { IsTrue result ↔ IsPlainByte byte }
-{
-    // most are letters, which lie past the brackets
-    byte > b']' || (byte < b'[' && byte != b'-')
 }
 
 /// What is read of a set so far, for one byte.
@@ -465,22 +456,26 @@ impl<'c, 'a, L: Ledger, M: Texts> Engine<'c, 'a, L, M> {
         let Some(next) = self.look_at(part.cursor.place) else {
             return None;
         };
-        if is_plain(next) {
-            let member = Spelled {
-                item: Item::Member(next),
-                next: part.cursor.place + 1,
-                close: part.cursor.close,
-            };
-            return Some(part.past(member, byte, Way::Plain));
+        let member = Spelled {
+            item: Item::Member(next),
+            next: part.cursor.place + 1,
+            close: part.cursor.close,
+        };
+        let with_member = part.past(member, byte, Way::Plain);
+        // most are letters, which lie past the brackets
+        if next > b']' {
+            return Some(with_member);
         }
         if next == b'-' {
             return self.past_plain_range(part, byte);
         }
-        None
+        if next >= b'[' {
+            return None;
+        }
+        Some(with_member)
     }
 
-    /// Reads the items of a set up to the first that isn't plain. Most sets have no other items, and a loop
-    /// that reads no others is short.
+    /// Reads the items of a set up to the first that isn't plain. Most sets have no others, and a loop without them is short.
     #[inline(always)]
     fn plain_part(&mut self, first: SetPart, byte: u8) -> SetPart
         requires case { folds M.way ≡ false }
@@ -510,10 +505,9 @@ impl<'c, 'a, L: Ledger, M: Texts> Engine<'c, 'a, L, M> {
             match self.next_item(part.cursor) {
                 NextItem::Item(spelled) => part = part.past(spelled, byte, way),
                 NextItem::Close => {
-                    let holds = part.holds(byte, self.way());
                     return Some(SetRead {
                         end: part.cursor.place + 1,
-                        holds,
+                        holds: part.holds(byte, self.way()),
                     });
                 }
                 NextItem::Broken => return None,
@@ -534,6 +528,13 @@ impl<'c, 'a, L: Ledger, M: Texts> Engine<'c, 'a, L, M> {
             return self.rest_of_set(opening, byte, self.way());
         }
         let part = self.plain_part(opening, byte);
+        let closes = self.has_byte(part.cursor.place, b']');
+        if closes && !part.cursor.is_first {
+            return Some(SetRead {
+                end: part.cursor.place + 1,
+                holds: part.holds(byte, self.way()),
+            });
+        }
         self.rest_of_set(part, byte, Way::Plain)
     }
 }

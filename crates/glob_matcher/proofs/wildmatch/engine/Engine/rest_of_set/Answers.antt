@@ -34,8 +34,8 @@ pub returns-in-Close-clause-read : goal.returns-in-Close-clause-read
 returns-in-Close-clause-read g c =
     let so_far = c.items.invariant in
     let closed = c.in-Close.ensures.item in
-    let held = c.holds-holds.ensures ∙ ap (λ (w : Way). part_holds w c.args.byte c.items.part) c.way.ensures in
-    subst (λ (n : ℕ). IsSetThatHolds g.M.Texts.way g.M.Texts.pattern n c.args.byte (c.items.part.cursor.place + 1) c.holds-holds.result) so_far.place
+    let held = c.holds.ensures ∙ ap (λ (w : Way). part_holds w c.args.byte c.items.part) c.way.ensures in
+    subst (λ (n : ℕ). IsSetThatHolds g.M.Texts.way g.M.Texts.pattern n c.args.byte (c.items.part.cursor.place + 1) c.holds.result) so_far.place
     (subst (λ (h : Bool). IsSetThatHolds g.M.Texts.way g.M.Texts.pattern c.items.part.place c.args.byte (c.items.part.cursor.place + 1) h) (sym held)
     (part_read so_far.read closed.0 closed.1))
 

@@ -1,10 +1,10 @@
-use Rattle.std.proofs.Common.{◌≡◌, ◌∙◌, ℕ, false, ap, subst, arith, rules}
+use Rattle.std.proofs.Common.{◌≡◌, ◌∙◌, ℕ, ◌+◌, Bool, false, ap, refl, subst, sym, arith, rules}
 use Rattle.glob_matcher.specs.Bytes.{folds}
 use Rattle.glob_matcher.specs.declared.wildmatch.way.Way.{Way}
 use Rattle.glob_matcher.specs.Sets.{item_holds}
 use Rattle.glob_matcher.specs.Private.Looks.{LookedOver, read_end}
-use Rattle.glob_matcher.specs.Private.Reader.{IsSetRead}
-use Rattle.glob_matcher.proofs.lemmas.reading.LookLemmas.{if_some_map, item_of_plain, paid_less}
+use Rattle.glob_matcher.specs.Private.Reader.{IsSetRead, IsSetThatHolds, part_holds}
+use Rattle.glob_matcher.proofs.lemmas.reading.LookLemmas.{if_some_map, item_of_plain, paid_less, part_read, search_front_here}
 use Rattle.glob_matcher.proofs.wildmatch.engine.Engine.set_at.Goals as goal
 
 pub rest_of_set-requires-clause-read : goal.rest_of_set-requires-clause-read
@@ -38,6 +38,29 @@ rest_of_set-requires-2-clause-alike g c =
     let off : folds g.M.Texts.way ≡ false = search rules in
     λ item. item_of_plain g.M.Texts.way off c.args.byte item
 
+pub returns-then-not-part-clause-read : goal.returns-then-not-part-clause-read
+returns-then-not-part-clause-read g c =
+    let part = c.plain_part-part.result in
+    let closed = c.if-closes.ensures.answer.0 refl in
+    let held = c.holds.ensures ∙ ap (λ (w : Way). part_holds w c.args.byte part) c.way-then-not-part.ensures in
+    subst (λ (n : ℕ). IsSetThatHolds g.M.Texts.way g.M.Texts.pattern n c.args.byte (part.cursor.place + 1) c.holds.result)
+    (c.plain_part-part.ensures.place ∙ c.set_opening-opening.ensures.place)
+    (subst (λ (h : Bool). IsSetThatHolds g.M.Texts.way g.M.Texts.pattern part.place c.args.byte (part.cursor.place + 1) h) (sym held)
+    (part_read c.plain_part-part.ensures.read (c.if-not-part.true, closed, refl) closed.inside))
+
+pub returns-then-not-part-clause-count : goal.returns-then-not-part-clause-count
+returns-then-not-part-clause-count g c =
+    let part = c.plain_part-part.result in
+    let paid =
+    paid_less {spare = 0} (c.plain_part-part.ensures.count c.args.self.now c.set_opening-opening.ensures.count) c.has_byte-closes.ensures.count in
+    let closed = c.if-closes.ensures.answer.0 refl in
+    let ahead = search_front_here g.M.Texts.pattern part.cursor.place part.cursor.close c.plain_part-part.ensures.read.known closed in
+    record {
+      steps = paid.steps;
+      looks = omega (arith, paid.looks, ahead, c.plain_part-part.ensures.place, c.set_opening-opening.ensures.place);
+      low = paid.low;
+    }
+
 pub returns-clause-read : goal.returns-clause-read
 returns-clause-read g c =
     subst (λ (n : ℕ). IsSetRead g.M.Texts.way g.M.Texts.pattern n c.args.byte c.rest_of_set-2.result)
@@ -45,12 +68,18 @@ returns-clause-read g c =
 
 pub returns-clause-count : goal.returns-clause-count
 returns-clause-count g c =
-    let paid = paid_less {spare = 0} {n = 1} (c.plain_part-part.ensures.count c.args.self.now c.set_opening-opening.ensures.count)
-    (record { steps = omega arith; looks = omega arith; low = omega arith }) in
+    let paid =
+    paid_less {spare = 0} (c.plain_part-part.ensures.count c.args.self.now c.set_opening-opening.ensures.count) c.has_byte-closes.ensures.count in
     subst (λ (n : ℕ). LookedOver 4 c.args.self.now c.rest_of_set-2.new.self n (read_end g.M.Texts.pattern c.rest_of_set-2.result))
     (c.plain_part-part.ensures.place ∙ c.set_opening-opening.ensures.place) (c.rest_of_set-2.ensures.count c.args.self.now paid)
 
+pub returns-then-not-part-clause-looked : goal.returns-then-not-part-clause-looked
+returns-then-not-part-clause-looked g c =
+    let paid = c.plain_part-part.ensures.count c.args.self.now c.set_opening-opening.ensures.count in
+    omega (arith, paid.low, c.if-closes.ensures.looked refl)
+
 pub returns-clause-looked : goal.returns-clause-looked
 returns-clause-looked g c =
-    let paid = c.plain_part-part.ensures.count c.args.self.now c.set_opening-opening.ensures.count in
+    let paid =
+    paid_less {spare = 0} (c.plain_part-part.ensures.count c.args.self.now c.set_opening-opening.ensures.count) c.has_byte-closes.ensures.count in
     if_some_map c.rest_of_set-2.result (λ set more. omega (arith, paid.low, more)) c.rest_of_set-2.ensures.looked
