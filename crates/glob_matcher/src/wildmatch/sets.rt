@@ -280,13 +280,20 @@ impl<'c, 'a, L: Ledger, M: Texts> Engine<'c, 'a, L, M> {
         }
     }
 
-    /// The range whose `-` stands at this place.
+    /// The range that begins with the `-` at this place, or a `-` alone.
     #[inline(always)]
-    fn range_at(&mut self, from: u8, place: usize, close: Option<usize>) -> Option<Spelled>
-        requires begins { BeginsRange M.pattern (Some from) place }
+    fn dash_at(&mut self, low: Option<u8>, place: usize, close: Option<usize>) -> Option<Spelled>
+        requires here { HasByte M.pattern place dash }
         requires known { IsKnown M.pattern place close }
-        ensures { IsItemRead 2 self.old self.new M.pattern (Some from) place close result }
+        ensures { IsItemRead 1 self.old self.new M.pattern low place close result }
     {
+        let Some(from) = self.range_from(low, place) else {
+            return Some(Spelled {
+                item: Item::Member(b'-'),
+                next: place + 1,
+                close,
+            });
+        };
         let Some((high, next)) = self.upper_end(place + 1) else {
             return None;
         };
@@ -295,23 +302,6 @@ impl<'c, 'a, L: Ledger, M: Texts> Engine<'c, 'a, L, M> {
             next,
             close,
         })
-    }
-
-    /// The range that begins with the `-` at this place, or a `-` alone.
-    #[inline(always)]
-    fn dash_at(&mut self, low: Option<u8>, place: usize, close: Option<usize>) -> Option<Spelled>
-        requires here { HasByte M.pattern place dash }
-        requires known { IsKnown M.pattern place close }
-        ensures { IsItemRead 1 self.old self.new M.pattern low place close result }
-    {
-        match self.range_from(low, place) {
-            Some(from) => self.range_at(from, place, close),
-            None => Some(Spelled {
-                item: Item::Member(b'-'),
-                next: place + 1,
-                close,
-            }),
-        }
     }
 
     /// The class that begins with the `[` at this place, or a `[` alone.
@@ -491,6 +481,16 @@ impl<'c, 'a, L: Ledger, M: Texts> Engine<'c, 'a, L, M> {
         part
     }
 
+    /// Whether the set closes where its reader stands.
+    #[inline(always)]
+    fn closes_at(&mut self, cursor: Cursor) -> bool
+        ensures answer { IsTrue result ↔ (IsTrue (not cursor.is_first) × HasByte M.pattern cursor.place close_bracket) }
+        ensures count { Takes self.old self.new 0 1 }
+        ensures looked { IsTrue result → self.old.looks < self.new.looks }
+    {
+        !cursor.is_first && matches!(self.look_at(cursor.place), Some(b']'))
+    }
+
     /// Reads the rest of a set for this byte, in a way that holds in an item what this match does; `None` where it doesn't close.
     #[inline(always)]
     fn rest_of_set(&mut self, first: SetPart, byte: u8, way: Way) -> Option<SetRead>
@@ -528,8 +528,7 @@ impl<'c, 'a, L: Ledger, M: Texts> Engine<'c, 'a, L, M> {
             return self.rest_of_set(opening, byte, self.way());
         }
         let part = self.plain_part(opening, byte);
-        let closes = self.has_byte(part.cursor.place, b']');
-        if closes && !part.cursor.is_first {
+        if self.closes_at(part.cursor) {
             return Some(SetRead {
                 end: part.cursor.place + 1,
                 holds: part.holds(byte, self.way()),

@@ -80,7 +80,6 @@ impl<'c, 'a, L: Ledger, M: Texts> Engine<'c, 'a, L, M> {
     pub(super) fn has_byte(&mut self, place: usize, byte: u8) -> bool
         ensures answer { IsTrue result ↔ HasByte M.pattern place byte }
         ensures count { Takes self.old self.new 0 1 }
-        ensures looked { IsTrue result → self.old.looks < self.new.looks }
     {
         self.look_at(place) == Some(byte)
     }

@@ -10,7 +10,7 @@ ghost use Rattle.glob_matcher.specs.Private.Turns.{IsTurn};
 use super::barrier::NoBarrier;
 use super::engine::Engine;
 use super::marks::Mark;
-use super::needle::{ExactByte, stands_for_itself, stands_within_component};
+use super::needle::{ExactByte, stands_for_itself};
 use super::scan::Scan;
 use super::state::{Crossing, State, Turn};
 use super::texts::Texts;
@@ -24,7 +24,7 @@ fn keeps_mark(byte: u8, local: Option<Mark>) -> bool
     ensures kept { IsTrue result → byte ≡ slash → local ≡ None }
     ensures other { StandsForItself byte → byte ≢ slash → IsTrue result }
 {
-    stands_within_component(byte) || (byte == b'/' && local.is_none())
+    byte > b'\\' || (stands_for_itself(byte) && (byte != b'/' || local.is_none()))
 }
 
 impl<'c, 'a, L: Ledger, M: Texts> Engine<'c, 'a, L, M> {

@@ -38,23 +38,23 @@ rest_of_set-requires-2-clause-alike g c =
     let off : folds g.M.Texts.way ≡ false = search rules in
     λ item. item_of_plain g.M.Texts.way off c.args.byte item
 
-pub returns-then-not-part-clause-read : goal.returns-then-not-part-clause-read
-returns-then-not-part-clause-read g c =
+pub returns-then-closes_at-clause-read : goal.returns-then-closes_at-clause-read
+returns-then-closes_at-clause-read g c =
     let part = c.plain_part-part.result in
-    let closed = c.if-closes.ensures.answer.0 refl in
-    let held = c.holds.ensures ∙ ap (λ (w : Way). part_holds w c.args.byte part) c.way-then-not-part.ensures in
+    let closed = c.if-closes_at.ensures.answer.0 refl in
+    let held = c.holds.ensures ∙ ap (λ (w : Way). part_holds w c.args.byte part) c.way-then-closes_at.ensures in
     subst (λ (n : ℕ). IsSetThatHolds g.M.Texts.way g.M.Texts.pattern n c.args.byte (part.cursor.place + 1) c.holds.result)
     (c.plain_part-part.ensures.place ∙ c.set_opening-opening.ensures.place)
     (subst (λ (h : Bool). IsSetThatHolds g.M.Texts.way g.M.Texts.pattern part.place c.args.byte (part.cursor.place + 1) h) (sym held)
-    (part_read c.plain_part-part.ensures.read (c.if-not-part.true, closed, refl) closed.inside))
+    (part_read c.plain_part-part.ensures.read (closed.0, closed.1, refl) closed.1.inside))
 
-pub returns-then-not-part-clause-count : goal.returns-then-not-part-clause-count
-returns-then-not-part-clause-count g c =
+pub returns-then-closes_at-clause-count : goal.returns-then-closes_at-clause-count
+returns-then-closes_at-clause-count g c =
     let part = c.plain_part-part.result in
     let paid =
-    paid_less {spare = 0} (c.plain_part-part.ensures.count c.args.self.now c.set_opening-opening.ensures.count) c.has_byte-closes.ensures.count in
-    let closed = c.if-closes.ensures.answer.0 refl in
-    let ahead = search_front_here g.M.Texts.pattern part.cursor.place part.cursor.close c.plain_part-part.ensures.read.known closed in
+    paid_less {spare = 0} (c.plain_part-part.ensures.count c.args.self.now c.set_opening-opening.ensures.count) c.closes_at.ensures.count in
+    let closed = c.if-closes_at.ensures.answer.0 refl in
+    let ahead = search_front_here g.M.Texts.pattern part.cursor.place part.cursor.close c.plain_part-part.ensures.read.known closed.1 in
     record {
       steps = paid.steps;
       looks = omega (arith, paid.looks, ahead, c.plain_part-part.ensures.place, c.set_opening-opening.ensures.place);
@@ -69,17 +69,17 @@ returns-clause-read g c =
 pub returns-clause-count : goal.returns-clause-count
 returns-clause-count g c =
     let paid =
-    paid_less {spare = 0} (c.plain_part-part.ensures.count c.args.self.now c.set_opening-opening.ensures.count) c.has_byte-closes.ensures.count in
+    paid_less {spare = 0} (c.plain_part-part.ensures.count c.args.self.now c.set_opening-opening.ensures.count) c.closes_at.ensures.count in
     subst (λ (n : ℕ). LookedOver 4 c.args.self.now c.rest_of_set-2.new.self n (read_end g.M.Texts.pattern c.rest_of_set-2.result))
     (c.plain_part-part.ensures.place ∙ c.set_opening-opening.ensures.place) (c.rest_of_set-2.ensures.count c.args.self.now paid)
 
-pub returns-then-not-part-clause-looked : goal.returns-then-not-part-clause-looked
-returns-then-not-part-clause-looked g c =
+pub returns-then-closes_at-clause-looked : goal.returns-then-closes_at-clause-looked
+returns-then-closes_at-clause-looked g c =
     let paid = c.plain_part-part.ensures.count c.args.self.now c.set_opening-opening.ensures.count in
-    omega (arith, paid.low, c.if-closes.ensures.looked refl)
+    omega (arith, paid.low, c.if-closes_at.ensures.looked refl)
 
 pub returns-clause-looked : goal.returns-clause-looked
 returns-clause-looked g c =
     let paid =
-    paid_less {spare = 0} (c.plain_part-part.ensures.count c.args.self.now c.set_opening-opening.ensures.count) c.has_byte-closes.ensures.count in
+    paid_less {spare = 0} (c.plain_part-part.ensures.count c.args.self.now c.set_opening-opening.ensures.count) c.closes_at.ensures.count in
     if_some_map c.rest_of_set-2.result (λ set more. omega (arith, paid.low, more)) c.rest_of_set-2.ensures.looked
