@@ -128,7 +128,7 @@ impl<'c, 'a, L: Ledger, M: Texts> Engine<'c, 'a, L, M> {
         ensures { IsScan M.value (N.suits needle) B.stops mark result self.old self.new }
     {
         let mut reached = mark;
-        'bytes: while self.has_left(reached, 1) {
+        'bytes: while reached.at() < self.texts.value_len() {
             match self.try_place(reached, needle, barrier) {
                 Scan::Undecided(moved) => reached = moved,
                 ended => return ended,
