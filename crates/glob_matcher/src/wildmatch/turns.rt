@@ -24,6 +24,7 @@ fn keeps_mark(byte: u8, local: Option<Mark>) -> bool
     ensures kept { IsTrue result → byte ≡ slash → local ≡ None }
     ensures other { StandsForItself byte → byte ≢ slash → IsTrue result }
 {
+    // most bytes are small letters, which come after all that are special
     byte > b'\\' || (stands_for_itself(byte) && (byte != b'/' || local.is_none()))
 }
 
