@@ -76,6 +76,9 @@ pub fn joined(
     if told != UNTOLD && usize::from(told) != len {
         return Err(IndexFault::Path);
     }
+    if kept.is_empty() {
+        return Ok(Vec::from_slice(alloc, added)?);
+    }
     let mut path = Vec::with_capacity(alloc, len)?;
     path.extend_from_slice(kept)?;
     path.extend_from_slice(added)?;
