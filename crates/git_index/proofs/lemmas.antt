@@ -18,6 +18,7 @@ pub mod Numbers
 pub mod Order
 pub mod PassedOver
 pub mod Paths
+pub mod Places
 pub mod Search
 pub mod Sorted
 pub mod Sorting

@@ -18,7 +18,7 @@ pub record Tracked : Type 0 where
   pub intent_to_add : Bool
 
 abbrev pub tracked : Entry → Tracked
-tracked e = record { path = e.path.items; stage = e.stage; kind = e.kind; assume_valid = e.assume_valid; skip_worktree = e.skip_worktree; intent_to_add = e.intent_to_add }
+tracked e = record { path = e.path; stage = e.stage; kind = e.kind; assume_valid = e.assume_valid; skip_worktree = e.skip_worktree; intent_to_add = e.intent_to_add }
 
 -- An entry comes before another: its path does, by bytes; or they have one path, at stages above 0 that don't fall.
 abbrev pub ComesBefore : Tracked → Tracked → Type 0

@@ -1,12 +1,14 @@
 //! The entries of an index file, read one after the other.
-ghost use Rattle.std.specs.Prelude.{◌≡◌, ◌≤◌, [], IfOk, map, length};
+ghost use Rattle.std.specs.Prelude.{◌≡◌, ◌-◌, ◌≤◌, [], IfOk, drop, map, length};
 ghost use Rattle.git_index.specs.Entries.{tracked};
-ghost use Rattle.git_index.specs.Private.Reading.{Gives, entries_at, entry_at, is_set, kind_of, more_at, path_before};
+ghost use Rattle.git_index.specs.Private.Places.{GoesOnBy, placed};
+ghost use Rattle.git_index.specs.Private.Reading.{Gives, entries_at, entry_at, is_set, kind_of, more_at};
 
 use crate::entry::{Entry, Kind};
 use crate::fault::IndexFault;
 use crate::fields::{skip, u16_at, u32_at};
-use crate::paths::{joined, parts_of};
+use crate::paths::{parts_of, push_path};
+use crate::place::{Place, entries_in};
 use std::alloc::Global;
 
 /// The kind that a mode tells.
@@ -47,19 +49,22 @@ fn more_flags(extended: bool, bytes: &[u8]) -> Result<(u16, &[u8]), IndexFault>
     Ok((flags, rest))
 }
 
-/// The entry at the front, behind one with the path `previous`, and what follows it. Its path may have `room` bytes.
+/// The entry at the front, whose path goes behind the text, and what follows it. The path before begins at `previous` in the text and
+/// ends it. The new one may have `room` bytes.
 #[tactic(auto, unfolding(crate::specs::Private::Reading::entry_at))]
 fn entry_of<'a>(
-    alloc: Global,
+    text: &mut Vec<u8>,
     version: u32,
     hash_len: usize,
-    previous: &[u8],
+    previous: usize,
     room: usize,
     bytes: &'a [u8],
-) -> Result<(Entry, &'a [u8]), IndexFault>
-    requires { hash_len ≤ 32 }
-    ensures gives { Gives (λ x. (tracked x.0, x.1.now)) result (entry_at version hash_len previous.now room bytes.now) }
-    ensures fits { IfOk result (λ x. length x.0.path.items ≤ room) }
+) -> Result<(Place, &'a [u8]), IndexFault>
+    requires hash { hash_len ≤ 32 }
+    requires previous { previous ≤ length text.old.items }
+    ensures gives { Gives (λ x. (placed text.new.items x.0, x.1.now)) result (entry_at version hash_len (drop previous text.old.items) room bytes.now) }
+    ensures grown { IfOk result (λ x. GoesOnBy text.old.items text.new.items x.0) }
+    ensures fits { IfOk result (λ x. x.0.end - x.0.start ≤ room) }
 {
     let rest = skip(bytes, 24)?;
     let (mode, rest) = u32_at(rest)?;
@@ -69,27 +74,20 @@ fn entry_of<'a>(
     let extended = has_bit(flags, 14);
     let (more, rest) = more_flags(extended, rest)?;
     let front = 42 + hash_len + if extended { 2 } else { 0 };
-    let (kept, added, rest) = parts_of(version, front, previous, rest)?;
-    let path = joined(alloc, kept, added, flags % 0x1000, room)?;
-    let entry = Entry {
-        path,
+    let start = text.len();
+    let (kept, added, rest) = parts_of(version, front, &text[previous..], rest)?;
+    let kept = kept.len();
+    push_path(text, previous, kept, added, flags % 0x1000, room)?;
+    let place = Place {
+        start,
+        end: text.len(),
         stage: (flags >> 12) as u8 % 4,
         kind,
         assume_valid: has_bit(flags, 15),
         skip_worktree: has_bit(more, 14),
         intent_to_add: has_bit(more, 13),
     };
-    Ok((entry, rest))
-}
-
-/// The path of the last entry, or none of its bytes where there is no entry.
-fn last_path(entries: &[Entry]) -> &[u8]
-    ensures { result.now ≡ path_before (map tracked entries.now) }
-{
-    match entries {
-        [.., last] => &last.path,
-        [] => &[],
-    }
+    Ok((place, rest))
 }
 
 /// So many entries, and what follows them. Their paths may have together `room` bytes.
@@ -104,15 +102,16 @@ pub fn entries_of(
     requires { hash_len ≤ 32 }
     ensures { Gives (λ x. (map tracked x.0.items, x.1.now)) result (entries_at version hash_len count [] room bytes.now) }
 {
-    let mut entries: Vec<Entry> = Vec::new(alloc);
-    let mut room = room;
-    let mut rest = bytes;
+    let mut text = Vec::new(alloc);
+    let mut places: Vec<Place> = Vec::new(alloc);
+    let (mut previous, mut room, mut rest) = (0, room, bytes);
     for _ in 0..count {
-        let previous = last_path(&entries);
-        let (entry, behind) = entry_of(alloc, version, hash_len, previous, room, rest)?;
-        room -= entry.path.len();
-        entries.push(entry)?;
+        let (place, behind) = entry_of(&mut text, version, hash_len, previous, room, rest)?;
+        previous = place.start;
+        room -= place.end - place.start;
+        places.push(place)?;
         rest = behind;
     }
+    let entries = entries_in(alloc, text, &places)?;
     Ok((entries, rest))
 }

@@ -1,4 +1,5 @@
 //! What an index says of a tracked path.
+use crate::entry_path::EntryPath;
 
 /// What lies at a path.
 #[derive(Debug, Clone, Copy, PartialEq, Eq)]
@@ -17,7 +18,7 @@ pub enum Kind {
 #[derive(Debug, Clone, Drop)]
 pub struct Entry {
     /// The path from the top of the work tree, with slashes between its parts.
-    pub path: Vec<u8>,
+    pub path: EntryPath,
     /// 0, or in an unfinished merge 1 for the common ancestor, 2 for ours and 3 for theirs.
     pub stage: u8,
     /// What lies there.

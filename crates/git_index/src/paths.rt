@@ -1,10 +1,11 @@
 //! The paths of entries, whole as versions 2 and 3 have them, or told from the path before as in version 4.
-ghost use Rattle.std.specs.Prelude.{◌≡◌, ◌≤◌, IfOk, length};
+ghost use Rattle.std.specs.Prelude.{◌≡◌, ◌⊎◌, ◌+◌, ◌≤◌, ◌++◌, IfOk, List, MatchResult, Ok, Err, ℕ, drop, length, take};
+ghost use Rattle.git_index.specs.declared.fault.IndexFault.TheVariants.{Memory};
 ghost use Rattle.git_index.specs.Private.Reading.{Gives, joined_of, padded_at, parts_at, shared_at};
 
 use crate::fault::IndexFault;
 use crate::fields::{is_zero, shared_number, skip, text_at};
-use std::alloc::Global;
+use std::alloc::AllocError;
 
 /// The length in an entry's flags that tells none.
 const UNTOLD: u16 = 4095;
@@ -31,7 +32,8 @@ fn shared<'a, 'b>(
     previous: &'a [u8],
     bytes: &'b [u8],
 ) -> Result<(&'a [u8], &'b [u8], &'b [u8]), IndexFault>
-    ensures { Gives (λ x. ((x.0.now, x.1.now), x.2.now)) result (shared_at previous.now bytes.now) }
+    ensures gives { Gives (λ x. ((x.0.now, x.1.now), x.2.now)) result (shared_at previous.now bytes.now) }
+    ensures front { IfOk result (λ x. (x.0.now ≡ take (length x.0.now) previous.now) × (length x.0.now ≤ length previous.now)) }
 {
     let (taken, rest) = shared_number(bytes, previous.len())?;
     let (added, rest) = text_at(rest)?;
@@ -47,7 +49,8 @@ pub fn parts_of<'a, 'b>(
     bytes: &'b [u8],
 ) -> Result<(&'a [u8], &'b [u8], &'b [u8]), IndexFault>
     requires { front ≤ 76 }
-    ensures { Gives (λ x. ((x.0.now, x.1.now), x.2.now)) result (parts_at version front previous.now bytes.now) }
+    ensures gives { Gives (λ x. ((x.0.now, x.1.now), x.2.now)) result (parts_at version front previous.now bytes.now) }
+    ensures front { IfOk result (λ x. (x.0.now ≡ take (length x.0.now) previous.now) × (length x.0.now ≤ length previous.now)) }
 {
     if version == 4 {
         shared(previous, bytes)
@@ -57,30 +60,42 @@ pub fn parts_of<'a, 'b>(
     }
 }
 
-/// The path of the two parts, if it has the length that the flags tell and there is room for it.
+/// Adds so many bytes from the place on where the path before begins.
+fn push_kept(text: &mut Vec<u8>, previous: usize, kept: usize) -> Result<(), AllocError>
+    requires { previous + kept ≤ length text.old.items }
+    ensures { IfOk result (λ _. text.new.items ≡ text.old.items ++ take kept (drop previous text.old.items)) }
+{
+    // in versions 2 and 3 none is kept
+    if kept > 0 {
+        text.extend_from_within(previous..previous + kept)?;
+    }
+    Ok(())
+}
+
+/// Adds the path of the two parts to the text, if it has the length that the flags tell and there is room for it. The first part lies in
+/// the text already, from the place on where the path before begins.
 #[tactic(auto, unfolding(crate::specs::Private::Reading::joined_of))]
-pub fn joined(
-    alloc: Global,
-    kept: &[u8],
+pub fn push_path(
+    text: &mut Vec<u8>,
+    previous: usize,
+    kept: usize,
     added: &[u8],
     told: u16,
     room: usize,
-) -> Result<Vec<u8>, IndexFault>
-    ensures gives { Gives (λ x. x.items) result (joined_of kept.now added.now told room) }
-    ensures fits { IfOk result (λ x. length x.items ≤ room) }
+) -> Result<(), IndexFault>
+    requires { previous + kept ≤ length text.old.items }
+    ensures { MatchResult result
+        (λ _. (path : List ℕ) × (text.new.items ≡ text.old.items ++ path) × (joined_of (take kept (drop previous text.old.items)) added.now told room ≡ Ok path) × (length path ≤ room))
+        (λ fault. (fault ≡ Memory) ⊎ (joined_of (take kept (drop previous text.old.items)) added.now told room ≡ Err fault)) }
 {
-    if kept.len() > room || added.len() > room - kept.len() {
+    if kept > room || added.len() > room - kept {
         return Err(IndexFault::PathsTooLong);
     }
-    let len = kept.len() + added.len();
+    let len = kept + added.len();
     if told != UNTOLD && usize::from(told) != len {
         return Err(IndexFault::Path);
     }
-    if kept.is_empty() {
-        return Ok(Vec::from_slice(alloc, added)?);
-    }
-    let mut path = Vec::with_capacity(alloc, len)?;
-    path.extend_from_slice(kept)?;
-    path.extend_from_slice(added)?;
-    Ok(path)
+    push_kept(text, previous, kept)?;
+    text.extend_from_slice(added)?;
+    Ok(())
 }

@@ -1,5 +1,5 @@
 //! A split index: what an index file says together with the shared file that it names.
-ghost use Rattle.std.specs.Prelude.{◌≡◌, ◌==◌, ◌≤◌, IsTrue, count_by, length, map, not, vec_len};
+ghost use Rattle.std.specs.Prelude.{◌≡◌, ◌==◌, ◌≤◌, IsTrue, count_by, length, map, not};
 ghost use Rattle.std.specs.List.{list_all};
 ghost use Rattle.git_index.specs.Entries.{tracked};
 ghost use Rattle.git_index.specs.Private.Reading.{Gives, are_replacements, joined_at};
@@ -20,14 +20,14 @@ fn marked(marks: &[bool]) -> usize
 
 /// Whether no entry has a path.
 fn is_unnamed(entries: &[Entry]) -> bool
-    ensures { result ≡ list_all (λ e. vec_len e.path == 0) entries.now }
+    ensures { result ≡ list_all (λ e. length e.path == 0) entries.now }
 {
     entries.iter().all(|entry| entry.path.is_empty())
 }
 
 /// Whether each entry has a path.
 fn is_named(entries: &[Entry]) -> bool
-    ensures { result ≡ list_all (λ e. not (vec_len e.path == 0)) entries.now }
+    ensures { result ≡ list_all (λ e. not (length e.path == 0)) entries.now }
 {
     entries.iter().all(|entry| !entry.path.is_empty())
 }

@@ -1,19 +1,16 @@
 -- Reading entries one after the other, as a loop does.
-use Rattle.std.proofs.Common.{◌≡◌, ℕ, suc, ◌-◌, ◌+◌, ◌≤◌, ◌<◌, List, [], ◌∷◌, ◌++◌, length, get_or, map, Result, Ok, Err, refl, sym, ap, ◌∙◌, append_assoc, arith, inl, inr, ◌⊎◌}
+use Rattle.std.proofs.Common.{◌≡◌, ℕ, suc, ◌-◌, ◌+◌, ◌≤◌, ◌<◌, List, [], ◌∷◌, ◌++◌, length, Result, Ok, Err, refl, sym, ap, ◌∙◌, append_assoc, arith, inl, inr, ◌⊎◌}
 use Rattle.std.proofs.lemmas.List.{append-nil}
-use Rattle.git_index.specs.declared.entry.Entry.{Entry}
 use Rattle.git_index.specs.declared.fault.IndexFault.{IndexFault}
 use Rattle.git_index.specs.declared.fault.IndexFault.TheVariants.{Memory}
-use Rattle.git_index.specs.Entries.{Tracked, tracked}
-use Rattle.git_index.specs.Private.Reading.{◌>>=◌, entry_at, entries_at, path_before}
+use Rattle.git_index.specs.Entries.{Tracked}
+use Rattle.git_index.specs.Private.Reading.{◌>>=◌, entry_at, entries_at}
 
--- the path of the last entry, by its place
-pub path_before-last : (entries : List Entry) (last : Entry) → 1 ≤ length entries → path_before (map tracked entries) ≡ (get_or entries (length entries - 1) last).path.items
-path_before-last [] last some = absurd (omega arith)
-path_before-last (e ∷ []) last some = refl
-path_before-last (e ∷ f ∷ entries) last some =
-    let n : length (e ∷ f ∷ entries) - 1 ≡ suc (length (f ∷ entries) - 1) = omega arith in
-    rw n (path_before-last (f ∷ entries) last (omega arith))
+-- the path of the last entry
+abbrev pub path_before : List Tracked → List ℕ
+path_before [] = []
+path_before (e ∷ []) = e.path
+path_before (e ∷ f ∷ entries) = path_before (f ∷ entries)
 
 pub path_before-push : (entries : List Tracked) (e : Tracked) → path_before (entries ++ e ∷ []) ≡ e.path
 path_before-push [] e = refl

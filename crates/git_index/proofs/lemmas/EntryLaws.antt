@@ -1,8 +1,9 @@
 -- Entries: what is read is spelled so, and what is spelled so is read.
-use Rattle.std.proofs.Common.{◌≡◌, ◌⊎◌, ℕ, zero, suc, ◌+◌, ◌-◌, ◌*◌, ◌/◌, ◌%◌, ◌^◌, ◌<◌, ◌≤◌, Bool, true, false, cond, eqb, List, [], ◌∷◌, ◌++◌, length, take, Result, Ok, refl, sym, ap, subst, ◌∙◌, append_assoc, arith, inl, inr, lit<}
+use Rattle.std.proofs.Common.{◌≡◌, ◌⊎◌, ℕ, zero, suc, ◌+◌, ◌-◌, ◌*◌, ◌/◌, ◌%◌, ◌^◌, ◌<◌, ◌≤◌, Bool, true, false, cond, eqb, List, [], ◌∷◌, ◌++◌, length, drop, take, Result, Ok, refl, sym, ap, subst, ◌∙◌, append_assoc, arith, inl, inr, lit<}
 use Rattle.std.specs.Prelude.{MatchBool, sum_by}
 use Rattle.std.specs.Int.{w16, w32, to_be_bytes}
 use Rattle.std.proofs.lemmas.Bool.{cases_eq}
+use Rattle.std.proofs.lemmas.List.{take_rest}
 use Rattle.std.proofs.lemmas.List.Sums.{sum_by-cons}
 use Rattle.git_index.specs.declared.entry.Kind.{Kind}
 use Rattle.git_index.specs.declared.entry.Kind.TheVariants.{File, Executable, Link, Submodule}
@@ -224,3 +225,26 @@ entries_again version hash previous (e ∷ es) room texts rest fits each fit =
     let first : entry_at version hash previous room (texts ++ rest) ≡ Ok (e, others ++ rest) = ap (entry_at version hash previous room) regrouped ∙ entry_again version hash previous room e text (others ++ rest) text_fits each.3 (omega (arith, cons, fit)) in
     let more = entries_again version hash e.path es (room - length e.path) others rest others_fit each.4 (omega (arith, cons, fit)) in
     rw (first, more) refl
+
+next : {A B : Type 0} (f : A → Result B IndexFault) {r : Result A IndexFault} {x : A} → r ≡ Ok x → (r >>= f) ≡ f x
+next f e = ap (λ s. s >>= f) e
+
+-- what is left to read where all before the path is read, of which some is kept that lies in a text
+pub entry_by : (version hash : ℕ) (text seen : List ℕ) (previous room : ℕ) (bytes a : List ℕ) (mode : ℕ × List ℕ) (b : List ℕ) (flags : ℕ × List ℕ) (kind : Kind) (extended : Bool) (more : ℕ × List ℕ) (len : ℕ) (kept added behind : List ℕ) (path : Result (List ℕ) IndexFault)
+    → seen ≡ text → extended ≡ is_set 14 flags.0 → len ≡ cond extended 2 0
+    → skipped 24 bytes ≡ Ok a → number_at w32 a ≡ Ok mode → skipped (12 + hash) mode.1 ≡ Ok b → number_at w16 b ≡ Ok flags → kind_of mode.0 ≡ Ok kind → more_at extended flags.1 ≡ Ok more
+    → parts_at version (42 + hash + len) (take (length seen - previous) (drop previous seen)) more.1 ≡ Ok ((kept, added), behind) → kept ≡ take (length kept) (take (length seen - previous) (drop previous seen))
+    → joined_of (take (length kept) (drop previous text)) added (flags.0 % 2 ^ 12) room ≡ path
+    → entry_at version hash (drop previous text) room bytes ≡ (path >>= from_path flags.0 kind more.0 behind)
+entry_by version hash text seen previous room bytes a mode b flags kind extended more len kept added behind path seen_is extended_is len_is e0 e1 e2 e3 e4 e5 e6 front e7 =
+    let from = drop previous text in
+    let before : take (length seen - previous) (drop previous seen) ≡ from = take_rest seen previous ∙ ap (λ (w : List ℕ). drop previous w) seen_is in
+    let front_is : 42 + hash + len ≡ front_of hash flags.0 = ap (λ (n : ℕ). 42 + hash + n) (len_is ∙ ap (λ (x : Bool). cond x 2 0) extended_is) in
+    let more_read : more_at (is_set 14 flags.0) flags.1 ≡ Ok more = ap (λ (x : Bool). more_at x flags.1) (sym extended_is) ∙ e5 in
+    let parts : parts_at version (front_of hash flags.0) from more.1 ≡ Ok ((kept, added), behind) =
+    ap (λ (w : List ℕ). parts_at version (front_of hash flags.0) w more.1) (sym before) ∙ ap (λ (n : ℕ). parts_at version n (take (length seen - previous) (drop previous seen)) more.1) (sym front_is) ∙ e6 in
+    let is_kept : kept ≡ take (length kept) from = front ∙ ap (λ (w : List ℕ). take (length kept) w) before in
+    let joined : joined_of kept added (flags.0 % 2 ^ 12) room ≡ path = ap (λ (w : List ℕ). joined_of w added (flags.0 % 2 ^ 12) room) is_kept ∙ e7 in
+    entry_steps version hash from room bytes ∙ next (from_times version hash from room) e0 ∙ next (from_mode version hash from room) e1 ∙ next (from_owner version hash from room mode.0) e2
+    ∙ next (from_flags version hash from room mode.0) e3 ∙ next (from_kind version hash from room flags) e4 ∙ next (from_more version hash from room flags.0 kind) more_read ∙ next (from_parts room flags.0 kind more.0) parts
+    ∙ ap (λ (r : Result (List ℕ) IndexFault). r >>= from_path flags.0 kind more.0 behind) joined

@@ -1,5 +1,5 @@
 -- The entries of two files, joined: what is read is told so, and the other way.
-use Rattle.std.proofs.Common.{◌≡◌, ◌≢◌, ◌⊎◌, ℕ, inl, inr, map, vec_len, ◌<◌, ◌≤◌, Bool, true, false, cond, eqb, leb, ◌&&◌, not, List, [], ◌∷◌, ◌++◌, length, take, drop, Result, Ok, Err, refl, sym, ap, subst, ◌∙◌, arith}
+use Rattle.std.proofs.Common.{◌≡◌, ◌≢◌, ◌⊎◌, ℕ, inl, inr, map, ◌<◌, ◌≤◌, Bool, true, false, cond, eqb, leb, ◌&&◌, not, List, [], ◌∷◌, ◌++◌, length, take, drop, Result, Ok, Err, refl, sym, ap, subst, ◌∙◌, arith}
 use Rattle.std.specs.Prelude.{count_by}
 use Rattle.std.specs.List.{AllByRecursion, list_all}
 use Rattle.std.proofs.lemmas.Bool.{eqb-true, eq-eqb, leb-true, le-leb, lt-leb, false≢true}
@@ -188,13 +188,13 @@ pub all_map : (p : Entry → Bool) (q : Tracked → Bool) → ((e : Entry) → p
 all_map p q same [] = refl
 all_map p q same (e ∷ es) = rw (same e, all_map p q same es) refl
 
-pub unnamed_map : (es : List Entry) → list_all (λ e. eqb (vec_len e.path) 0) es ≡ list_all (λ e. eqb (length e.path) 0) (map tracked es)
-unnamed_map es = all_map (λ (e : Entry). eqb (vec_len e.path) 0) (λ (t : Tracked). eqb (length t.path) 0) (λ e. ap (λ (n : ℕ). eqb n 0) e.path.ok.0) es
+pub unnamed_map : (es : List Entry) → list_all (λ e. eqb (length e.path) 0) es ≡ list_all (λ e. eqb (length e.path) 0) (map tracked es)
+unnamed_map es = all_map (λ (e : Entry). eqb (length e.path) 0) (λ (t : Tracked). eqb (length t.path) 0) (λ e. refl) es
 
-pub named_map : (es : List Entry) → list_all (λ e. not (eqb (vec_len e.path) 0)) es ≡ list_all (λ e. not (eqb (length e.path) 0)) (map tracked es)
-named_map es = all_map (λ (e : Entry). not (eqb (vec_len e.path) 0)) (λ (t : Tracked). not (eqb (length t.path) 0)) (λ e. ap (λ (n : ℕ). not (eqb n 0)) e.path.ok.0) es
+pub named_map : (es : List Entry) → list_all (λ e. not (eqb (length e.path) 0)) es ≡ list_all (λ e. not (eqb (length e.path) 0)) (map tracked es)
+named_map es = all_map (λ (e : Entry). not (eqb (length e.path) 0)) (λ (t : Tracked). not (eqb (length t.path) 0)) (λ e. refl) es
 
-pub are_replacements_by : (own new added : List Entry) (count : ℕ) (a b : Bool) → count ≤ length own → new ≡ take count own → added ≡ drop count own → a ≡ list_all (λ e. eqb (vec_len e.path) 0) new → b ≡ list_all (λ e. not (eqb (vec_len e.path) 0)) added
+pub are_replacements_by : (own new added : List Entry) (count : ℕ) (a b : Bool) → count ≤ length own → new ≡ take count own → added ≡ drop count own → a ≡ list_all (λ e. eqb (length e.path) 0) new → b ≡ list_all (λ e. not (eqb (length e.path) 0)) added
     → are_replacements (map tracked own) count ≡ (a && b)
 unfolding are_replacements
 are_replacements_by own new added count a b few new_is added_is a_is b_is =
@@ -203,9 +203,9 @@ are_replacements_by own new added count a b few new_is added_is a_is b_is =
     let two : b ≡ list_all (λ e. not (eqb (length e.path) 0)) (drop count (map tracked own)) = b_is ∙ named_map added ∙ ap (λ (v : List Entry). list_all (λ e. not (eqb (length e.path) 0)) (map tracked v)) added_is ∙ ap (list_all (λ e. not (eqb (length e.path) 0))) (sym (drop-map tracked count own)) in
     rw (long, ← one, ← two) refl
 
-pub none_follow : (own new added : List Entry) (count : ℕ) (a : Bool) → count ≤ length own → new ≡ take count own → added ≡ drop count own → a ≡ list_all (λ e. eqb (vec_len e.path) 0) new → a ≡ false → are_replacements (map tracked own) count ≡ false
+pub none_follow : (own new added : List Entry) (count : ℕ) (a : Bool) → count ≤ length own → new ≡ take count own → added ≡ drop count own → a ≡ list_all (λ e. eqb (length e.path) 0) new → a ≡ false → are_replacements (map tracked own) count ≡ false
 none_follow own new added count a few new_is added_is a_is unset =
-    are_replacements_by own new added count a (list_all (λ e. not (eqb (vec_len e.path) 0)) added) few new_is added_is a_is refl ∙ rw unset refl
+    are_replacements_by own new added count a (list_all (λ e. not (eqb (length e.path) 0)) added) few new_is added_is a_is refl ∙ rw unset refl
 
 pub too_few : (own : List Entry) (count : ℕ) → length own < count → are_replacements (map tracked own) count ≡ false
 unfolding are_replacements

@@ -99,7 +99,7 @@ place_of [] i lt = absurd (omega arith)
 place_of (f ∷ entries) zero lt = (f, refl, refl)
 place_of (f ∷ entries) (suc i) lt = place_of entries i (omega arith)
 
-pub path_at-get : (entries : List Entry) (i : ℕ) (d : Entry) → i < length entries → path_at (map tracked entries) i ≡ (get_or entries i d).path.items
+pub path_at-get : (entries : List Entry) (i : ℕ) (d : Entry) → i < length entries → path_at (map tracked entries) i ≡ (get_or entries i d).path
 path_at-get [] i d lt = absurd (omega arith)
 path_at-get (f ∷ entries) zero d lt = refl
 path_at-get (f ∷ entries) (suc i) d lt = path_at-get entries i d (omega arith)

@@ -23,7 +23,7 @@ use Rattle.git_index.proofs.lemmas.Folding.{cmp}
 pub length_same : (sorted : List Entry) → length (map bare (map tracked sorted)) ≡ length sorted
 length_same sorted = length-map (map tracked sorted) bare ∙ length-map sorted tracked
 
-pub path_here : (sorted : List Entry) (i : ℕ) (d : Entry) → i < length sorted → path_at (map bare (map tracked sorted)) i ≡ folded (get_or sorted i d).path.items
+pub path_here : (sorted : List Entry) (i : ℕ) (d : Entry) → i < length sorted → path_at (map bare (map tracked sorted)) i ≡ folded (get_or sorted i d).path
 path_here [] i d lt = absurd (omega arith)
 path_here (f ∷ sorted) zero d lt = refl
 path_here (f ∷ sorted) (suc i) d lt = path_here sorted i d (omega arith)

@@ -26,7 +26,7 @@ use denote.Param.Members.{Mut}
 use denote.Ref.{Bor}
 
 abbrev pub key : Entry → List ℕ
-key entry = folded entry.path.items
+key entry = folded entry.path
 
 abbrev pub is_before : Entry → Entry → Bool
 is_before x y = is_lt (cmp (key x) (key y))

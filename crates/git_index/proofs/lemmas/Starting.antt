@@ -13,7 +13,7 @@ one_longer : (entries : List Entry) (i : ℕ) (d : Entry) → i < length entries
 one_longer entries i d low = sym (ap (map tracked) (take_more entries i d low) ∙ map-append tracked (take i entries) (get_or entries i d ∷ []))
 
 -- those among the entries so far, and the next one if it is among them
-pub starting_more : (front : List ℕ) (entries : List Entry) (i : ℕ) (d e : Entry) (b : Bool) → i < length entries → get_or entries i d ≡ e → b ≡ starts_with nat_eq e.path.items front
+pub starting_more : (front : List ℕ) (entries : List Entry) (i : ℕ) (d e : Entry) (b : Bool) → i < length entries → get_or entries i d ≡ e → b ≡ starts_with nat_eq e.path front
     → starting_with front (map tracked (take i entries)) ++ cond b (tracked e ∷ []) [] ≡ starting_with front (map tracked (take (i + 1) entries))
 starting_more front entries i d e b low here is =
     let first = map tracked (take i entries) in

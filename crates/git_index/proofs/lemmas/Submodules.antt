@@ -38,8 +38,8 @@ kind_at entries i e d k lt is kind = ap (λ (x : Entry). x.kind) (is ∙ same_en
 pub other_kind_at : (entries : List Entry) (i : ℕ) (e d : Entry) (k : Kind) → i < length entries → e ≡ get_or entries i e → ((get_or entries i d).kind ≡ k → ⊥) → e.kind ≡ k → ⊥
 other_kind_at entries i e d k lt is other kind = other (sym (ap (λ (x : Entry). x.kind) (is ∙ same_entry entries i e d lt)) ∙ kind)
 
-pub is_found : (entries : List Entry) (path : List ℕ) (i : ℕ) (e : Entry) → i < length entries → e ≡ get_or entries i e → (get_or entries i e).path.items ≡ path → e.kind ≡ Submodule → IsSubmodule (map tracked entries) path
-is_found entries path i e lt is same kind = (i, tracked e, at_itself entries i e lt is, ap (λ (x : Entry). x.path.items) is ∙ same, kind)
+pub is_found : (entries : List Entry) (path : List ℕ) (i : ℕ) (e : Entry) → i < length entries → e ≡ get_or entries i e → (get_or entries i e).path ≡ path → e.kind ≡ Submodule → IsSubmodule (map tracked entries) path
+is_found entries path i e lt is same kind = (i, tracked e, at_itself entries i e lt is, ap (λ (x : Entry). x.path) is ∙ same, kind)
 
 -- ---- a loop's step
 

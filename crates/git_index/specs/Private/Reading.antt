@@ -108,12 +108,6 @@ entry_at version hash previous room bytes = do
   path ← joined_of parts.0.0 parts.0.1 (flags.0 % 2 ^ 12) room
   Ok (record { path = path; stage = flags.0 / 2 ^ 12 % 4; kind = kind; assume_valid = is_set 15 flags.0; skip_worktree = is_set 14 more.0; intent_to_add = is_set 13 more.0 }, parts.1)
 
--- the path of the last entry
-abbrev pub path_before : List Tracked → List ℕ
-path_before [] = []
-path_before (e ∷ []) = e.path
-path_before (e ∷ f ∷ entries) = path_before (f ∷ entries)
-
 unfoldable pub entries_at : ℕ → ℕ → ℕ → List ℕ → ℕ → List ℕ → Result (List Tracked × List ℕ) IndexFault
 entries_at version hash zero previous room bytes = Ok ([], bytes)
 entries_at version hash (suc n) previous room bytes = do

@@ -12,7 +12,7 @@ loop-entry-preserved-in-Continue-branch-2 c =
     let entry = c.in-Some.entry in
     let all = put_in (map tracked c.args.kept.items) (named_in (map tracked c.from_vec-own.result.items)) in
     let so_far = subst (λ (es : List Entry). map tracked c.loop-entry.joined.items ++ put_in (map tracked c.loop-entry.kept.items) (named_in (map tracked es)) ≡ all) c.in-Some.ensures.items c.loop-entry.invariant in
-    let some : eqb (length entry.path.items) 0 ≡ false = ap (λ (n : ℕ). eqb n 0) (sym entry.path.ok.0) ∙ sym c.is_empty.ensures ∙ c.if-not-is_empty.true in
+    let some : eqb (length entry.path) 0 ≡ false = ap (λ (w : List ℕ). eqb (length w) 0) (sym c.deref.ensures.value) ∙ sym c.is_empty.ensures ∙ c.if-not-is_empty.true in
     let pushed : map tracked c.push.new.self.items ≡ map tracked c.move_before.new.joined.items ++ tracked entry ∷ [] = rw c.in_ok-push.ensures.items (map_push tracked c.move_before.new.joined.items entry) in
     rw pushed (put_one (tracked entry) (map tracked c.loop-entry.joined.items) (map tracked c.loop-entry.kept.items) (map tracked c.pop_front.new.self.items) (map tracked c.move_before.new.joined.items) (map tracked c.move_before.new.kept.items) all some
     c.in_ok-move_before.ensures.moved c.in_ok-move_before.ensures.left so_far)
@@ -22,7 +22,7 @@ loop-entry-preserved c =
     let entry = c.in-Some.entry in
     let all = put_in (map tracked c.args.kept.items) (named_in (map tracked c.from_vec-own.result.items)) in
     let so_far = subst (λ (es : List Entry). map tracked c.loop-entry.joined.items ++ put_in (map tracked c.loop-entry.kept.items) (named_in (map tracked es)) ≡ all) c.in-Some.ensures.items c.loop-entry.invariant in
-    let none : eqb (length entry.path.items) 0 ≡ true = ap (λ (n : ℕ). eqb n 0) (sym entry.path.ok.0) ∙ sym c.is_empty.ensures ∙ c.if-not-is_empty.false in
+    let none : eqb (length entry.path) 0 ≡ true = ap (λ (w : List ℕ). eqb (length w) 0) (sym c.deref.ensures.value) ∙ sym c.is_empty.ensures ∙ c.if-not-is_empty.false in
     passed_one (tracked entry) (map tracked c.loop-entry.joined.items) (map tracked c.loop-entry.kept.items) (map tracked c.pop_front.new.self.items) all none so_far
 
 pub returns : goal.returns

@@ -8,10 +8,10 @@ use Rattle.git_index.proofs.order.comes_before.Goals as goal
 
 pub returns-then-first-gt0 : goal.returns-then-first-gt0
 returns-then-first-gt0 c =
-    let alike : slice_cmp nat_cmp c.args.first.now.path.items c.args.second.now.path.items ≡ Equal = cc in
+    let alike : slice_cmp nat_cmp c.args.first.now.path c.args.second.now.path ≡ Equal = cc in
     before_at_one_path (tracked c.args.first.now) (tracked c.args.second.now) alike c.if-first-gt0.true
 
 pub returns-in-Greater : goal.returns-in-Greater
 returns-in-Greater c =
-    let lesser : slice_cmp nat_cmp c.args.first.now.path.items c.args.second.now.path.items ≡ Greater = cc in
+    let lesser : slice_cmp nat_cmp c.args.first.now.path c.args.second.now.path ≡ Greater = cc in
     (λ no. absurd cc, λ h. absurd (not_before_a_lesser (tracked c.args.first.now) (tracked c.args.second.now) lesser h))

@@ -25,7 +25,7 @@ returns-then-is_ne c =
     let path = c.args.path.now in
     let behind = c.first_from-behind.result in
     let found = subst (λ (w : List ℕ). IsFirstFrom (map bare entries) w behind) (folded_zero path) c.first_from-behind.ensures in
-    let at : path_at (map bare entries) (behind - 1) ≡ folded c.deref.result.now = path_here c.args.sorted.now (behind - 1) c.index-sorted-behind.result (omega (arith, found.within, length_same c.args.sorted.now)) ∙ ap (λ (x : Entry). folded x.path.items) (sym c.index-sorted-behind.is) ∙ ap folded (sym c.deref.ensures.value) in
+    let at : path_at (map bare entries) (behind - 1) ≡ folded c.deref.result.now = path_here c.args.sorted.now (behind - 1) c.index-sorted-behind.result (omega (arith, found.within, length_same c.args.sorted.now)) ∙ ap (λ (x : Entry). folded x.path) (sym c.index-sorted-behind.is) ∙ ap folded (sym c.deref.ensures.value) in
     let apart : is_eq (cmp (path_at (map bare entries) (behind - 1)) (folded path)) ≡ false = ap (λ (w : List ℕ). is_eq (cmp w (folded path))) at ∙ tell_apart (cmp (folded c.deref.result.now) (folded path)) (sym (ap is_ne c.compare.ensures) ∙ sym c.is_ne.ensures ∙ c.if-is_ne.true) in
     sym (last_of_none (none_apart entries path behind found c.requires (behind - 1) (omega arith) apart))
 
@@ -36,7 +36,7 @@ returns c =
     let behind = c.first_from-behind.result in
     let found = subst (λ (w : List ℕ). IsFirstFrom (map bare entries) w behind) (folded_zero path) c.first_from-behind.ensures in
     let lt : behind - 1 < length c.args.sorted.now = omega (arith, found.within, length_same c.args.sorted.now) in
-    let at : path_at (map bare entries) (behind - 1) ≡ folded c.deref.result.now = path_here c.args.sorted.now (behind - 1) c.index-sorted-behind.result lt ∙ ap (λ (x : Entry). folded x.path.items) (sym c.index-sorted-behind.is) ∙ ap folded (sym c.deref.ensures.value) in
+    let at : path_at (map bare entries) (behind - 1) ≡ folded c.deref.result.now = path_here c.args.sorted.now (behind - 1) c.index-sorted-behind.result lt ∙ ap (λ (x : Entry). folded x.path) (sym c.index-sorted-behind.is) ∙ ap folded (sym c.deref.ensures.value) in
     let same : is_eq (cmp (path_at (map bare entries) (behind - 1)) (folded path)) ≡ true = ap (λ (w : List ℕ). is_eq (cmp w (folded path))) at ∙ tell_equal (cmp (folded c.deref.result.now) (folded path)) (sym (ap is_ne c.compare.ensures) ∙ sym c.is_ne.ensures ∙ c.if-is_ne.false) in
     let last = last_before entries path behind found (behind - 1) (omega arith) same in
     let here : slice_get entries (behind - 1) ≡ Some (tracked c.index-sorted-behind.result) = entry_here c.args.sorted.now (behind - 1) c.index-sorted-behind.result lt ∙ ap (λ (x : Entry). Some (tracked x)) (sym c.index-sorted-behind.is) in
