@@ -10,6 +10,7 @@ use crate::paths::{joined, without_dot};
 use crate::setup::Setup;
 use crate::sources::config_sources;
 use git_config::{Config, ConfigFiles, Surroundings};
+use std::alloc::{AllocError, Global};
 
 /// Where the configuration lies that counts in a current folder.
 #[derive(Debug, Drop)]
@@ -52,10 +53,10 @@ impl<'a, S: FileSystem + ConfigFiles> Setup<'a, S> {
         self.read(around, None, self.outer_files()?)?;
         let found = match self.find(around) {
             Ok(found) => found,
-            Err(OpenFault::Find(FindFault::Hidden(hidden))) => {
-                return Ok(ConfigPlace::outside(None, Some(hidden)));
+            Err(fault) if is_outside(&fault) => {
+                let hidden = hidden_by(self.finder.alloc, &fault)?;
+                return Ok(ConfigPlace::outside(None, hidden));
             }
-            Err(fault) if is_outside(&fault) => return Ok(ConfigPlace::outside(None, None)),
             Err(fault) => return Err(fault),
         };
         match self.place_in(around, &found) {
@@ -115,10 +116,22 @@ impl<'a, S: FileSystem + ConfigFiles> Setup<'a, S> {
     }
 }
 
+/// What can't be looked at, where this is why there is no repository.
+fn hidden_by<F>(alloc: Global, fault: &OpenFault<F>) -> Result<Option<Hidden>, AllocError> {
+    match fault {
+        OpenFault::Find(FindFault::Hidden(hidden)) => Ok(Some(Hidden {
+            named: copied(alloc, hidden.named.as_deref())?,
+            path: Vec::from_slice(alloc, &hidden.path)?,
+            reason: Vec::from_slice(alloc, &hidden.reason)?,
+        })),
+        _ => Ok(None),
+    }
+}
+
 /// Whether Git, where a command needs no repository, takes this fault for a sign that there is none.
 fn is_outside<F>(fault: &OpenFault<F>) -> bool {
     match fault {
-        OpenFault::Find(FindFault::NotFound) => true,
+        OpenFault::Find(FindFault::NotFound | FindFault::Hidden(_)) => true,
         OpenFault::Find(FindFault::At(wrong, _path)) => matches!(
             wrong,
             Wrong::NotNamed | Wrong::Border | Wrong::Owner | Wrong::Bare
