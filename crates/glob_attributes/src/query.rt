@@ -75,7 +75,13 @@ impl<'a> AttributeQuery<'a> {
         ensures { IfOk result (λ assigned. IsAssignedTo self.now told.now assigned) }
     {
         match RepositoryPath::of_line(told) {
-            Some(path) => PathAttributes::with_prepared(alloc, self.prepared, &[], self.macros, &path),
+            Some(path) => PathAttributes::with_prepared(
+                alloc,
+                self.prepared,
+                &[],
+                self.macros,
+                &path,
+            ),
             None => Ok(PathAttributes::none(alloc)),
         }
     }

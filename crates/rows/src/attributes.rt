@@ -64,11 +64,7 @@ fn names_in(alloc: Global, words: &[u8]) -> Result<Vec<&[u8]>, AllocError> {
 }
 
 /// What is left of the list of a file where the attributes of these names are asked for, with a space between each two.
-fn list_kept(
-    alloc: Global,
-    file: &[u8],
-    names: &[u8],
-) -> Result<List<AttributeLines>, AllocError> {
+fn list_kept(alloc: Global, file: &[u8], names: &[u8]) -> Result<List<AttributeLines>, AllocError> {
     let macros = macros_of(alloc, file)?;
     let mut list = List::empty(alloc);
     list.patterns = AttributeLines::default().bytes_to_patterns(alloc, file, "")?;
@@ -93,11 +89,7 @@ pub(crate) fn attribute_folders(row: &Row, answer: &mut Answer) -> Result<()> {
 }
 
 /// The names that the lines of a file assign which match a path, each behind a space.
-fn names_for(
-    alloc: Global,
-    file: &[u8],
-    path: &RepositoryPath<'_>,
-) -> Result<Vec<u8>, AllocError> {
+fn names_for(alloc: Global, file: &[u8], path: &RepositoryPath<'_>) -> Result<Vec<u8>, AllocError> {
     let mut text = Vec::new(alloc);
     for mapping in &AttributeLines::default().bytes_to_patterns(alloc, file, "")? {
         if path.is_matched_by(mapping.pattern.view(), Rules::by_crate(Case::Sensitive)) {

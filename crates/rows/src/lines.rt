@@ -9,11 +9,7 @@ use glob_lines::{IgnoreLine, LabelLines, without_byte_order_mark};
 use std::alloc::AllocError;
 
 /// The patterns of an ignore file, each as it is shown behind the number of its line.
-pub(crate) fn files<P: search::Pattern>(
-    row: &Row,
-    parser: &P,
-    answer: &mut Answer,
-) -> Result<()> {
+pub(crate) fn files<P: search::Pattern>(row: &Row, parser: &P, answer: &mut Answer) -> Result<()> {
     let mut text = String::new(answer.alloc);
     for mapping in &parser.bytes_to_patterns(answer.alloc, row.bytes(0), "")? {
         let (number, pattern) = (mapping.sequence_number, &mapping.pattern);
