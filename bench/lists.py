@@ -155,7 +155,7 @@ def count_names(o):
 
 
 def hostile_stacks(load, root, count):
-    """Stacks on which an index has most to lose, made below a folder: for each its name, how case counts, its files and its paths."""
+    """Stacks on which prepared lists have most to lose, made below a folder: for each its name, how case counts, its files and its paths."""
 
     def files(folders, patterns):
         made = []
