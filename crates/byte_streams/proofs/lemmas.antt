@@ -1,4 +1,5 @@
 pub mod CutLemmas
+pub mod ProgressLemmas
 pub mod PullLemmas
 pub mod RecordLemmas
 pub mod RunLemmas

@@ -30,7 +30,7 @@ is_endless (Err (Write error)) = false
 is_endless (Err (Answer fault)) = false
 is_endless (Err Endless) = true
 
--- the fault of the answerer, where one is told
+-- why a record got no answer, where that is told
 abbrev pub told_refusal : {X F : Type 0} → Result X (RecordFault F) → List F
 told_refusal (Ok x) = []
 told_refusal (Err Memory) = []

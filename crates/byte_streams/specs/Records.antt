@@ -1,5 +1,5 @@
 -- Records of bytes, each ended by one byte, and what is written for them.
-use Rattle.std.specs.Prelude.{◌≡◌, ◌≢◌, ◌⊎◌, ℕ, List, [], ◌∷◌, ◌++◌, Result, Ok, Err}
+use Rattle.std.specs.Prelude.{◌≡◌, ◌≢◌, ◌⊎◌, ℕ, List, [], ◌∷◌, ◌++◌}
 use Rattle.std.specs.List.{AllByRecursion, AllZip, concat, flat_map}
 
 -- no byte of the text is this one
@@ -39,16 +39,6 @@ pub record TextOf (Answers : List ℕ → List ℕ → Type 0) (records : List (
   pub each : AllZip Answers records written
   pub joined : text ≡ concat written
 
--- What an account holds grew by these and by nothing else: whatever it held before, it holds with these behind it. Of an account
--- that isn't kept, which holds of no list, this says nothing.
-abbrev pub GrowsBy : {X : Type 0} → (List X → Type 0) → (List X → Type 0) → List X → Type 0
-GrowsBy {X} before after more = (held : List X) → before held → after (held ++ more)
-
--- the text is that of these records in order, and the account of all answered records grew by them
-pub record TextOfAnswered (Answers : List ℕ → List ℕ → Type 0) (before after : List (List ℕ) → Type 0) (records : List (List ℕ)) (text : List ℕ) : Type 0 where
-  pub of_records : TextOf Answers records text
-  pub accounted : GrowsBy before after records
-
 -- the text is that of all records of the bytes: `IsText records text` says which text is that of records
 pub record AnswersAll (IsText : List (List ℕ) → List ℕ → Type 0) (end : ℕ) (bytes text : List ℕ) : Type 0 where
   pub records : List (List ℕ)
@@ -72,23 +62,3 @@ AnswersEnded IsText end bytes text = (rest : List ℕ) × HasNo end rest × Answ
 -- the text is that of the first records, or of all
 abbrev pub AnswersSome : (List (List ℕ) → List ℕ → Type 0) → ℕ → List ℕ → List ℕ → Type 0
 AnswersSome IsText end bytes text = AnswersFirst IsText end bytes text ⊎ AnswersAll IsText end bytes text
-
--- what may be written for a record may still be
-abbrev pub StaysAllowed : (List ℕ → List ℕ → Type 0) → (List ℕ → List ℕ → Type 0) → Type 0
-StaysAllowed before after = (each text : List ℕ) → before each text → after each text
-
--- the text grew by something that P allows
-pub record Adds (P : List ℕ → Type 0) (old new : List ℕ) : Type 0 where
-  pub added : List ℕ
-  pub allowed : P added
-  pub grown : new ≡ old ++ added
-
--- the record, where it got an answer
-abbrev pub answered_by : {X F : Type 0} → Result X F → List ℕ → List (List ℕ)
-answered_by (Ok x) bytes = bytes ∷ []
-answered_by (Err fault) bytes = []
-
--- the fault, where there is one
-abbrev pub fault_of : {X F : Type 0} → Result X F → List F
-fault_of (Ok x) = []
-fault_of (Err fault) = fault ∷ []

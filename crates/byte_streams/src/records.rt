@@ -1,11 +1,14 @@
 //! Records of a reader, one after the other: each is read when it is asked for.
-ghost use Rattle.std.specs.Prelude.{◌≡◌, ◌-◌, ◌^◌, ◌≤◌, ◌<◌, ◌++◌, List, ℕ, [], IfOk, IsTrue, OnErr, OnOk, false, length};
+ghost use Rattle.std.specs.Prelude.{◌≡◌, ◌≤◌, ◌<◌, ◌++◌, ◌∷◌, List, ℕ, [], Err, IfOk, IsTrue, OnErr, OnOk, Option, false, length, take};
 ghost use Rattle.std.specs.Io.KnownBytes.{Appends, Consumes, IsAtEnd};
+ghost use Rattle.std.specs.List.{AllByRecursion};
 ghost use Rattle.byte_streams.specs.Watched.{has_failed, inner};
-ghost use Rattle.byte_streams.specs.Transfers.{AppendsFront};
-ghost use Rattle.byte_streams.specs.Records.{HasNo};
+ghost use Rattle.byte_streams.specs.Transfers.{AppendsFront, ReadsWhole, Run};
+ghost use Rattle.byte_streams.specs.Records.{AnswersAll, HasNo};
+ghost use Rattle.byte_streams.specs.Runs.{EndsRun};
 ghost use Rattle.byte_streams.specs.Faults.{is_endless, is_read_fault, is_write_fault, told_refusal};
-ghost use Rattle.byte_streams.specs.Private.Pulling.{Goes, HoldsSome, MovesOut, TakesRest, fuel, held};
+ghost use Rattle.byte_streams.specs.Progress.{Exactly, IsUnderWay, MovesOut, fuel, held};
+ghost use Rattle.byte_streams.specs.Private.Pulling.{Goes, HoldsSome, TakesRest};
 
 use crate::fault::RecordFault;
 use crate::transfer::write_text;
@@ -20,9 +23,11 @@ const PIECE: usize = 16 * 1024;
 /// From how many bytes on texts are written although more records are there.
 const MUCH: usize = 16 * 1024;
 
-/// Records that are read one after the other.
+/// Records that are read one after the other, each when it is asked for.
+///
+/// No call on the reader or the writer may have failed before, and none that fails is tried again, interrupted ones neither.
 #[derive(Drop)]
-pub(crate) struct Records {
+pub struct Records {
     /// The byte that ends each record.
     end: u8,
     /// What the last read gave.
@@ -38,13 +43,9 @@ pub(crate) struct Records {
 }
 
 impl Records {
-    /// No record was read yet.
-    pub(crate) fn new(end: u8) -> Records
-        ensures some { HoldsSome result }
-        ensures none { held result ≡ [] }
-        ensures end { result.end ≡ end }
-        ensures ended { result.is_ended ≡ false }
-        ensures reads { result.reads_left ≡ 2 ^ 64 - 1 }
+    /// Records that this byte ends, mostly a line feed or a NUL. It is no part of them. None was read yet.
+    pub fn new(end: u8) -> Records
+        ensures { (reader writer : Option (List ℕ)) → IsUnderWay end result [] reader reader writer writer [] [] }
     {
         Records {
             end,
@@ -56,10 +57,71 @@ impl Records {
         }
     }
 
-    /// Goes on to the next record, which becomes `bytes`, without its end. It answers whether there is one.
+    /// Goes on to the next record, which becomes `bytes`, without its end. It answers whether there is one: the last one may lack its
+    /// end where it isn't empty. `text` is what is to be written about the records before, and what is left of it isn't written yet.
     ///
     /// It reads only where no whole record is held, and has written and flushed the text before: so who waits for an answer before sending
-    /// the next record gets it.
+    /// the next record gets it. At the end all was written. Memory is taken for the longest record, for the longest text and for some
+    /// 32 KiB, however many records there are.
+    ///
+    /// # Errors
+    /// The first fault, and [`RecordFault::Write`] before another one. The text was written, but after `RecordFault::Write`, where what
+    /// was written may end anywhere in it. After [`RecordFault::Read`] all records were given that ended in what was read.
+    pub fn next<R: Read, W: Write, F>(
+        &mut self,
+        reader: &mut Watched<R>,
+        writer: &mut Watched<W>,
+        text: &mut Vec<u8>,
+        bytes: &mut Vec<u8>,
+    ) -> Result<bool, RecordFault<F>>
+        requires readable { has_failed reader.old ≡ false }
+        requires writable { has_failed writer.old ≡ false }
+        requires under_way { (end : ℕ) × (left old : Option (List ℕ)) × (given : List (List ℕ)) × (all : List ℕ)
+            × IsUnderWay end self.old text.old.items left (R.remaining (inner reader.old)) old (W.contents (inner writer.old)) given all }
+        ensures gives { IfOk result (λ is_given. IsTrue is_given → (end : ℕ) (left old : Option (List ℕ)) (given : List (List ℕ)) (all : List ℕ)
+            → IsUnderWay end self.old text.old.items left (R.remaining (inner reader.old)) old (W.contents (inner writer.old)) given all
+            → IsUnderWay end self.new text.new.items left (R.remaining (inner reader.new)) old (W.contents (inner writer.new)) (given ++ bytes.new.items ∷ []) all) }
+        // At the end all of the input was read, and all of the text was written.
+        ensures finished { IfOk result (λ is_given. is_given ≡ false → (end : ℕ) (left old : Option (List ℕ)) (given : List (List ℕ)) (all : List ℕ)
+            → IsUnderWay end self.old text.old.items left (R.remaining (inner reader.old)) old (W.contents (inner writer.old)) given all
+            → Run (ReadsWhole left (R.remaining (inner reader.new))) (AnswersAll (Exactly given all) end) (Appends old (W.contents (inner writer.new)))) }
+        ensures fails { OnErr result ((end : ℕ) (left old : Option (List ℕ)) (given : List (List ℕ)) (all : List ℕ)
+            → IsUnderWay end self.old text.old.items left (R.remaining (inner reader.old)) old (W.contents (inner writer.old)) given all
+            → EndsRun (λ _. Exactly given all) (Exactly given all) end result left (R.remaining (inner reader.new)) old (W.contents (inner writer.new)) (has_failed reader.new) (has_failed writer.new)) }
+        ensures falls { IfOk result (λ is_given. IsTrue is_given → fuel self.new < fuel self.old) }
+        ensures none { told_refusal result ≡ [] }
+        ensures read { is_read_fault result ≡ has_failed reader.new }
+        ensures write { is_write_fault result ≡ has_failed writer.new }
+    {
+        self.read_next(reader, writer, text, bytes)
+    }
+
+    /// Ends a run by the fault of the record that was given last: the first `answered` bytes of `text` are about those before it, and
+    /// are written.
+    ///
+    /// # Errors
+    /// That fault, as [`RecordFault::Answer`], but [`RecordFault::Write`] before it.
+    pub fn stop<W: Write, F: Drop, T>(
+        &self,
+        writer: &mut Watched<W>,
+        text: &mut Vec<u8>,
+        answered: usize,
+        fault: F,
+    ) -> Result<T, RecordFault<F>>
+        requires { has_failed writer.old ≡ false }
+        ensures ends { (end : ℕ) (left rest old : Option (List ℕ)) (given : List (List ℕ)) (last all : List ℕ)
+            → IsUnderWay end self.now (take answered text.old.items) left rest old (W.contents (inner writer.old)) (given ++ last ∷ []) all
+            → EndsRun (λ _ _ _. ⊥) (Exactly given all) end result left rest old (W.contents (inner writer.new)) false (has_failed writer.new) }
+        ensures fault { AllByRecursion (λ told. told ≡ fault) (told_refusal result) }
+    {
+        text.truncate(answered);
+        match write_text(writer, text) {
+            Ok(()) => Err(RecordFault::Answer(fault)),
+            Err(unwritten) => Err(unwritten),
+        }
+    }
+
+    /// The same, from call to call.
     pub(crate) fn read_next<R: Read, W: Write, F>(
         &mut self,
         reader: &mut Watched<R>,

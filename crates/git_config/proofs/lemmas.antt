@@ -17,4 +17,5 @@ pub mod ReadLemmas
 pub mod ScopeLemmas
 pub mod SettingLemmas
 pub mod SourceLemmas
+pub mod TextLemmas
 pub mod TurnLemmas

@@ -1,12 +1,13 @@
 -- What a configuration of several files and words says: its entries, in order.
 use Rattle.std.specs.Prelude.{◌≡◌, ◌⊎◌, ℕ, zero, suc, ◌+◌, Bool, List, [], ◌∷◌, ◌++◌, filter, option_map, Option, Some, None, Result, Ok, Err, MatchOption, MatchResult, Vec}
+use Rattle.std.specs.Borrow.{Bor}
 use Rattle.std.specs.Option.{option_copied}
 use Rattle.std.specs.Str.{bytes_eq}
 use Rattle.std.specs.Vec.{vec_items}
 use Rattle.std.specs.declared.alloc.Global.{Global}
 use Rattle.std.specs.declared.rc.Rc.{Rc}
-use Rattle.git_config.specs.declared.config.Source.{Source}
-use Rattle.git_config.specs.declared.config.Source.TheVariants.{File, Word}
+use Rattle.git_config.specs.declared.sources.Source.{Source}
+use Rattle.git_config.specs.declared.sources.Source.TheVariants.{File, Word}
 use Rattle.git_config.specs.declared.files.FoundFile.{FoundFile}
 use Rattle.git_config.specs.declared.fault.Wrong.{Wrong}
 use Rattle.git_config.specs.declared.item.Item.{Item}
@@ -24,10 +25,10 @@ use Rattle.git_config.specs.Words.{canonical_of}
 
 -- what is seen of the code's values
 abbrev pub Seen : Type 0
-Seen = Setting (List ℕ) (List ℕ)
+Seen = Setting (List ℕ)
 
-abbrev pub seen_setting : Setting (Rc (Vec ℕ Global) Global) (Vec ℕ Global) → Seen
-seen_setting s = record { file = option_map (λ path. path.value.items) s.file; section = s.section.value.items; entry = entry_with vec_items s.entry }
+abbrev pub seen_setting : Setting (Bor (List ℕ)) → Seen
+seen_setting s = record { file = option_copied s.file; section = s.section.now; entry = entry_with (λ bytes. bytes.now) s.entry }
 
 abbrev pub seen_fault : SettingFault (Rc (Vec ℕ Global) Global) (Vec ℕ Global) → SettingFault (List ℕ) (List ℕ)
 seen_fault fault = record { file = option_map (λ path. path.value.items) fault.file; line = fault.line; what = fault.what; path = option_map vec_items fault.path }

@@ -9,7 +9,8 @@ ghost use Rattle.git_config.specs.Private.Places.{pattern_of, rooted};
 ghost use Rattle.git_config.specs.Private.Scopes.{OnBranch};
 
 use crate::booleans::same_letters;
-use crate::surroundings::{Surroundings, expanded, folder_of, is_absolute, joined, slice_of};
+use crate::surroundings::{Surroundings, expanded, folder_of, is_absolute, slice_of};
+use git_paths::joined;
 use glob_matcher::wildmatch::{Steps, Way, marked_by};
 use std::alloc::{AllocError, Global};
 use std::marker::Brand;

@@ -5,7 +5,8 @@
 pub struct FoundFile<B> {
     /// Its bytes.
     pub bytes: B,
-    /// Its absolute path without links. A condition that begins with `./` is told from its folder.
+    /// Its absolute path without links, from whose folder a condition is told that begins with `./`. In a file that has no condition nothing
+    /// asks for it, so a source may leave it empty.
     pub real_path: B,
 }
 

@@ -1,21 +1,25 @@
 //! Reads a file of a configuration, with the files that it includes where they stand.
-ghost use Rattle.std.specs.Prelude.{◌≡◌, ◌∷◌, [], IfOk, Ok, Some, map, option_map};
+ghost use Rattle.std.specs.Prelude.{◌≡◌, ◌∷◌, [], IfOk, Ok, Some, option_map};
 ghost use Rattle.std.specs.Option.{option_copied};
 ghost use Rattle.std.specs.Vec.{vec_items};
-ghost use Rattle.git_config.specs.Configuration.{FromEntry, FromFile, FromPath, Then, Within, seen_setting};
+ghost use Rattle.git_config.specs.Configuration.{FromEntry, FromFile, FromPath, Then, Within};
 ghost use Rattle.git_config.specs.Includes.{included_path};
 ghost use Rattle.git_config.specs.Items.{found_with};
 ghost use Rattle.git_config.specs.Private.Scopes.{IsScope};
-ghost use Rattle.git_config.specs.Private.Settings.{Adds, Asks, fault_in, path_asked};
+ghost use Rattle.git_config.specs.Private.Sections.{file_seen, seen_in};
+ghost use Rattle.git_config.specs.Private.Settings.{Adds, Asks, Tells, fault_in, path_asked};
 
+use crate::config::Config;
 use crate::fault::ConfigFault;
 use crate::file::{next_item, skip_mark};
 use crate::files::{ConfigFiles, FoundFile};
 use crate::item::{Entry, Item};
 use crate::scope::Scope;
-use crate::setting::{ReadSetting, Setting, SettingFault, WrongSetting, file_of};
-use crate::surroundings::{Surroundings, expanded, folder_of, is_absolute, joined, slice_of};
+use crate::section::{Section, file_of};
+use crate::setting::{SettingFault, WrongSetting};
+use crate::surroundings::{Surroundings, expanded, folder_of, is_absolute, slice_of};
 use crate::text::Text;
+use git_paths::joined;
 use std::alloc::{AllocError, AllocFailed, Global};
 use std::rc::Rc;
 
@@ -79,30 +83,44 @@ impl<'a, F: ConfigFiles> Reader<'a, F> {
         path: Rc<Vec<u8>>,
         found: FoundFile<Vec<u8>>,
         left: usize,
-        out: &mut Vec<ReadSetting>,
+        out: &mut Config,
     ) -> Result<(), ReadFault<F::Fault>>
         ensures { Adds (FromFile (F.shows self.now.files.now) self.now.around.now (Within (F.shows self.now.files.now) self.now.around.now left) path.value.items (found_with vec_items found))
-            (map seen_setting out.old.items) (map seen_setting out.new.items) result }
+            out.old out.new result }
     {
         let real: &[u8] = &found.real_path;
         let mut text = Text::new(&found.bytes);
         if let Err(fault) = skip_mark(&mut text) {
             return Err(fault_in(fault, path));
         }
-        let mut scope = Scope::new(self.alloc, self.around, Some(real), Vec::new(self.alloc))?;
+        let mut scope = self.scope(&path, real, Vec::new(self.alloc))?;
         'items: loop {
             match next_item(self.alloc, &mut text) {
                 Ok(Some(Item::Section(section))) => {
-                    scope = Scope::new(self.alloc, self.around, Some(real), section)?;
+                    scope = self.scope(&path, real, section)?;
                 }
                 Ok(Some(Item::Sets(entry))) => {
-                    let setting = setting_in(&path, &scope.section, entry)?;
-                    self.add_entry(&scope, Some(real), setting, left, out)?;
+                    self.add_entry(&scope, Some(real), entry, left, out)?;
                 }
                 Ok(None) => return Ok(()),
                 Err(fault) => return Err(fault_in(fault, path)),
             }
         }
+    }
+
+    /// A section whose keys begin so, in the file of a path.
+    fn scope(&self, path: &Rc<Vec<u8>>, real: &[u8], keys: Vec<u8>) -> Result<Scope, AllocError>
+        ensures file { IfOk result (λ scope. file_seen scope.section.value ≡ Some path.now.value.items) }
+        ensures keys { IfOk result (λ scope. scope.section.value.keys.items ≡ keys.items) }
+        ensures scope { IfOk result (λ scope. IsScope self.now.around.now (Some real.now) scope) }
+    {
+        Scope::new(
+            self.alloc,
+            self.around,
+            Some(real),
+            Some(path.clone()?),
+            keys,
+        )
     }
 
     /// Adds an entry of a section, and the entries of the file that it includes. `real` is the real path of its own file.
@@ -111,22 +129,21 @@ impl<'a, F: ConfigFiles> Reader<'a, F> {
         &self,
         scope: &Scope,
         real: Option<&[u8]>,
-        setting: ReadSetting,
+        entry: Entry<Vec<u8>>,
         left: usize,
-        out: &mut Vec<ReadSetting>,
+        out: &mut Config,
     ) -> Result<(), ReadFault<F::Fault>>
         requires scope { IsScope self.now.around.now (option_copied real) scope.now }
-        requires section { setting.section.value.items ≡ scope.now.section.value.items }
-        ensures { Adds (FromEntry (F.shows self.now.files.now) self.now.around.now (Within (F.shows self.now.files.now) self.now.around.now left) (option_copied real.entry) (seen_setting setting))
-            (map seen_setting out.old.items) (map seen_setting out.new.items) result }
+        ensures { Adds (FromEntry (F.shows self.now.files.now) self.now.around.now (Within (F.shows self.now.files.now) self.now.around.now left) (option_copied real.entry) (seen_in scope.now.section.value entry))
+            out.old out.new result }
     {
-        match asked_for(self.alloc, self.around, scope, real, &setting)? {
+        match asked_for(self.alloc, self.around, scope, real, &entry)? {
             Asked::Nothing => {
-                out.push(setting)?;
+                out.push(&scope.section, entry)?;
                 Ok(())
             }
-            Asked::Wrong(what) => Err(wrong_at(setting, what, None)),
-            Asked::File(path) => self.add_included(setting, path, left, out),
+            Asked::Wrong(what) => Err(wrong_at(&scope.section, entry.line, what, None)),
+            Asked::File(path) => self.add_included(&scope.section, entry, path, left, out),
         }
     }
 
@@ -134,45 +151,29 @@ impl<'a, F: ConfigFiles> Reader<'a, F> {
     #[cycle(include)]
     fn add_included(
         &self,
-        setting: ReadSetting,
+        section: &Rc<Section>,
+        entry: Entry<Vec<u8>>,
         path: Vec<u8>,
         left: usize,
-        out: &mut Vec<ReadSetting>,
+        out: &mut Config,
     ) -> Result<(), ReadFault<F::Fault>>
-        ensures { Adds (Then (λ first. first ≡ Ok (seen_setting setting ∷ [])) (FromPath (F.shows self.now.files.now) self.now.around.now (Within (F.shows self.now.files.now) self.now.around.now left (seen_setting setting) path.items) path.items))
-            (map seen_setting out.old.items) (map seen_setting out.new.items) result }
+        ensures { Adds (Then (λ first. first ≡ Ok (seen_in section.now.value entry ∷ [])) (FromPath (F.shows self.now.files.now) self.now.around.now (Within (F.shows self.now.files.now) self.now.around.now left (seen_in section.now.value entry) path.items) path.items))
+            out.old out.new result }
     {
         let found = match self.files.find(&path) {
             Ok(Some(found)) => found,
             Ok(None) => {
-                out.push(setting)?;
+                out.push(section, entry)?;
                 return Ok(());
             }
             Err(fault) => return Err(ReadFault::File(fault)),
         };
         if left == 0 {
-            return Err(wrong_at(setting, WrongSetting::TooDeep, Some(path)));
+            return Err(wrong_at(section, entry.line, WrongSetting::TooDeep, Some(path)));
         }
-        out.push(setting)?;
+        out.push(section, entry)?;
         self.add_file(Rc::new(self.alloc, path)?, found, left - 1, out)
     }
-}
-
-/// An entry of a section of a file.
-pub(crate) fn setting_in(
-    path: &Rc<Vec<u8>>,
-    section: &Rc<Vec<u8>>,
-    entry: Entry<Vec<u8>>,
-) -> Result<ReadSetting, AllocError>
-    ensures file { IfOk result (λ s. option_map (λ rc. rc.value.items) s.file ≡ Some path.now.value.items) }
-    ensures section { IfOk result (λ s. s.section.value.items ≡ section.now.value.items) }
-    ensures entry { IfOk result (λ s. s.entry ≡ entry) }
-{
-    Ok(Setting {
-        file: Some(path.clone()?),
-        section: section.clone()?,
-        entry,
-    })
 }
 
 /// What an entry of a section asks for.
@@ -181,17 +182,16 @@ fn asked_for(
     around: &Surroundings,
     scope: &Scope,
     real: Option<&[u8]>,
-    setting: &ReadSetting,
+    entry: &Entry<Vec<u8>>,
 ) -> Result<Asked, AllocError>
     requires scope { IsScope around.now (option_copied real) scope.now }
-    requires section { setting.now.section.value.items ≡ scope.now.section.value.items }
-    ensures { IfOk result (λ asked. Asks around.now (option_copied real.entry) (seen_setting setting.now) asked) }
+    ensures { IfOk result (λ asked. Asks around.now (option_copied real.entry) (seen_in scope.now.section.value entry.now) asked) }
 {
-    if !scope.has_include(alloc, around, real, &setting.entry.name)? {
+    if !scope.has_include(alloc, around, real, &entry.name)? {
         return Ok(Asked::Nothing);
     }
-    match &setting.entry.value {
-        Some(value) => included_path(alloc, around, file_of(setting), value),
+    match &entry.value {
+        Some(value) => included_path(alloc, around, file_of(&scope.section), value),
         None => Ok(Asked::Wrong(WrongSetting::NoPath)),
     }
 }
@@ -232,18 +232,22 @@ fn fault_in<F>(fault: ConfigFault, path: Rc<Vec<u8>>) -> ReadFault<F>
     }
 }
 
-/// The fault of an entry.
+/// The fault of an entry on a line of a section.
 pub(crate) fn wrong_at<F>(
-    setting: ReadSetting,
+    section: &Section,
+    line: usize,
     what: WrongSetting,
     path: Option<Vec<u8>>,
 ) -> ReadFault<F>
-    ensures { result ≡ ReadFault.Setting (record { file = setting.file; line = setting.entry.line; what = what; path = path }) }
+    ensures { Tells (record { file = file_seen section.now; line = line; what = what; path = option_map vec_items path }) result }
 {
-    ReadFault::Setting(SettingFault {
-        file: setting.file,
-        line: setting.entry.line,
-        what,
-        path,
-    })
+    match section.file.clone() {
+        Ok(file) => ReadFault::Setting(SettingFault {
+            file,
+            line,
+            what,
+            path,
+        }),
+        Err(_refused) => ReadFault::Memory,
+    }
 }

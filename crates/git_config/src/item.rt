@@ -1,7 +1,7 @@
 //! What a configuration file says, one item after the other.
 
 /// An entry of a section. `B` holds bytes.
-#[derive(Debug, Clone, PartialEq, Eq, Drop)]
+#[derive(Debug, Clone, Copy, PartialEq, Eq, Drop)]
 pub struct Entry<B> {
     /// The name, in lower case.
     pub name: B,

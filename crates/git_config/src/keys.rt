@@ -1,23 +1,8 @@
-//! Which entries have a key, and the booleans that they say.
+//! Which entries have a key.
 ghost use Rattle.std.specs.Prelude.{◌≡◌, ◌==◌, ◌++◌, position};
 ghost use Rattle.std.specs.List.{list_any};
 ghost use Rattle.std.specs.Str.{bytes_eq};
 ghost use Rattle.git_config.specs.Grammar.{before_zero};
-ghost use Rattle.git_config.specs.Items.{seen_entry};
-ghost use Rattle.git_config.specs.Private.Values.{value_said};
-
-use crate::booleans::boolean;
-use crate::item::Entry;
-
-/// The boolean of an entry.
-pub(crate) fn boolean_said(entry: &Entry<Vec<u8>>) -> Option<bool>
-    ensures { result ≡ value_said (seen_entry entry.now) }
-{
-    match &entry.value {
-        Some(value) => boolean(Some(value)),
-        None => Some(true),
-    }
-}
 
 /// Whether an entry of this name has a key, in the section whose keys begin so. A section that is longer than the key is looked at up to
 /// the first byte behind the key's length: a byte 0 there, or before, ends the entry's key.

@@ -4,7 +4,7 @@ ghost use Rattle.git_config.specs.Configuration.{FromSources, Outcome, Seen, las
 ghost use Rattle.git_config.specs.Grammar.{before, before_zero, between, entry_of, in_value, no_part, read};
 ghost use Rattle.git_config.specs.Numbers.{boolean_of};
 ghost use Rattle.git_config.specs.Quoting.{quoted_of};
-ghost use Rattle.git_config.specs.declared.config.Source.{Source};
+ghost use Rattle.git_config.specs.declared.sources.Source.{Source};
 ghost use Rattle.git_config.specs.declared.files.FoundFile.{FoundFile};
 ghost use Rattle.git_config.specs.declared.surroundings.Surroundings.{Surroundings};
 

@@ -6,7 +6,7 @@ ghost use Rattle.git_paths.specs.declared.quoting.Quoting.TheVariants.{Full};
 ghost use Rattle.git_paths.specs.Quoting.{quoted};
 ghost use Rattle.git_config.specs.Shown.{end_of, front_of, origin_of};
 
-use crate::setting::{ReadSetting, file_of};
+use crate::setting::ReadSetting;
 use git_paths::{Quoting, append_quoted};
 use std::alloc::AllocError;
 
@@ -22,7 +22,7 @@ pub struct Manner {
 /// Appends where an entry was read, where this is shown.
 pub(crate) fn append_front(
     text: &mut Vec<u8>,
-    setting: &ReadSetting,
+    setting: &ReadSetting<'_>,
     manner: Manner,
 ) -> Result<(), AllocError>
     ensures { OnOk result (text.new.items ≡ text.old.items ++ front_of manner (seen_setting setting.now)) }
@@ -30,7 +30,7 @@ pub(crate) fn append_front(
     if !manner.origin {
         return Ok(());
     }
-    append_origin(text, file_of(setting), manner.nul)?;
+    append_origin(text, setting.file, manner.nul)?;
     text.push(if manner.nul { 0 } else { b'\t' })?;
     Ok(())
 }

@@ -8,15 +8,17 @@ ghost use Rattle.git_config.specs.Private.Scopes.{IsScope, conditional};
 
 use crate::conditions::holds;
 use crate::keys::{has_zero, until_zero};
-use crate::surroundings::{Surroundings, joined};
+use crate::section::Section;
+use crate::surroundings::Surroundings;
+use git_paths::joined;
 use std::alloc::{AllocError, Global};
 use std::rc::Rc;
 
 /// A section.
 #[derive(Drop)]
 pub(crate) struct Scope {
-    /// What the keys of its entries begin with.
-    pub(crate) section: Rc<Vec<u8>>,
+    /// The section, which its entries share.
+    pub(crate) section: Rc<Section>,
     /// Whether a byte 0 in it ends each key.
     is_cut: bool,
     /// Whether its entries of the name `path` include a file, and where it is cut all others too.
@@ -24,21 +26,23 @@ pub(crate) struct Scope {
 }
 
 impl Scope {
-    /// A section whose keys begin so, in a file of this real path.
+    /// A section whose keys begin so, in a file of this path and this real path.
     pub(crate) fn new(
         alloc: Global,
         around: &Surroundings,
         real: Option<&[u8]>,
-        section: Vec<u8>,
+        file: Option<Rc<Vec<u8>>>,
+        keys: Vec<u8>,
     ) -> Result<Scope, AllocError>
-        ensures section { IfOk result (λ scope. scope.section.value.items ≡ section.items) }
+        ensures file { IfOk result (λ scope. scope.section.value.file ≡ file) }
+        ensures keys { IfOk result (λ scope. scope.section.value.keys.items ≡ keys.items) }
         ensures scope { IfOk result (λ scope. IsScope around.now (option_copied real.entry) scope) }
     {
-        let is_cut = has_zero(&section);
-        let key = joined(alloc, &section, b"path")?;
+        let is_cut = has_zero(&keys);
+        let key = joined(alloc, &keys, b"path")?;
         let includes = includes(alloc, around, real, until_zero(&key))?;
         Ok(Scope {
-            section: Rc::new(alloc, section)?,
+            section: Rc::new(alloc, Section { file, keys })?,
             is_cut,
             includes,
         })
@@ -53,7 +57,7 @@ impl Scope {
         name: &[u8],
     ) -> Result<bool, AllocError>
         requires { IsScope around.now (option_copied real) self.now }
-        ensures { IfOk result (λ so. IsTrue so ↔ Includes around.now (option_copied real.entry) (before_zero (self.now.section.value.items ++ name.now))) }
+        ensures { IfOk result (λ so. IsTrue so ↔ Includes around.now (option_copied real.entry) (before_zero (self.now.section.value.keys.items ++ name.now))) }
     {
         let told = until_zero(name);
         if self.is_cut {
@@ -62,10 +66,10 @@ impl Scope {
         if is_same(told, b"path") {
             return Ok(self.includes);
         }
-        if ends_section(&self.section, told) {
+        if ends_section(&self.section.keys, told) {
             return Ok(false);
         }
-        let key = joined(alloc, &self.section, name)?;
+        let key = joined(alloc, &self.section.keys, name)?;
         includes(alloc, around, real, until_zero(&key))
     }
 }

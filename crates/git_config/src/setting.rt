@@ -1,27 +1,23 @@
 //! An entry of a configuration of several files, and what is wrong in one.
-ghost use Rattle.std.specs.Prelude.{◌≡◌};
-ghost use Rattle.std.specs.Option.{option_copied};
-ghost use Rattle.git_config.specs.Configuration.{seen_setting};
 
 use crate::fault::Wrong;
 use crate::item::Entry;
-use std::rc::Rc;
 use thiserror::Error;
 
-/// An entry, with the file that it stands in. `S` holds bytes that many entries share, and `B` bytes.
-#[derive(Debug, PartialEq, Eq, Drop)]
-pub struct Setting<S, B> {
+/// An entry, with the file that it stands in. `B` holds bytes.
+#[derive(Debug, Clone, Copy, PartialEq, Eq, Drop)]
+pub struct Setting<B> {
     /// The path of the file, as it was told or included; `None` where the entry is a word.
-    pub file: Option<S>,
+    pub file: Option<B>,
     /// What the keys of the section begin with, as [`Item::Section`](crate::Item::Section) has it; nothing before the first section, and of a
     /// word.
-    pub section: S,
+    pub section: B,
     /// The entry. The name of a word is its whole key, and its line the place of the word among the sources, from 1.
     pub entry: Entry<B>,
 }
 
-/// An entry that was read.
-pub type ReadSetting = Setting<Rc<Vec<u8>>, Vec<u8>>;
+/// An entry of a [`Config`](crate::Config).
+pub type ReadSetting<'a> = Setting<&'a [u8]>;
 
 /// What is wrong with a line or a word.
 #[derive(Debug, Clone, Copy, PartialEq, Eq, Error)]
@@ -57,14 +53,4 @@ pub struct SettingFault<S, B> {
     pub what: WrongSetting,
     /// The path of the file that is included too deep; else `None`.
     pub path: Option<B>,
-}
-
-/// The path of an entry's file.
-pub(crate) fn file_of(setting: &ReadSetting) -> Option<&[u8]>
-    ensures { option_copied result ≡ (seen_setting setting.now).file }
-{
-    match &setting.file {
-        Some(path) => Some(path.as_slice()),
-        None => None,
-    }
 }

@@ -1,6 +1,6 @@
 //! An entry of a configuration, as it is shown in a list, and its value alone.
-ghost use Rattle.std.specs.Prelude.{◌≡◌, ◌++◌, OnOk, option_map};
-ghost use Rattle.std.specs.Vec.{vec_items};
+ghost use Rattle.std.specs.Prelude.{◌≡◌, ◌++◌, OnOk};
+ghost use Rattle.std.specs.Option.{option_copied};
 ghost use Rattle.git_config.specs.Configuration.{key_of, seen_setting};
 ghost use Rattle.git_config.specs.Shown.{behind_key, entry_shown, value_of, value_shown};
 
@@ -13,14 +13,14 @@ use std::alloc::{AllocError, Global};
 pub(crate) fn append_entry(
     alloc: Global,
     text: &mut Vec<u8>,
-    setting: &ReadSetting,
+    setting: &ReadSetting<'_>,
     manner: Manner,
 ) -> Result<(), AllocError>
     ensures { OnOk result (text.new.items ≡ text.old.items ++ entry_shown manner (seen_setting setting.now)) }
 {
     append_front(text, setting, manner)?;
     append_key(alloc, text, setting)?;
-    append_behind_key(text, &setting.entry.value, manner.nul)?;
+    append_behind_key(text, setting.entry.value, manner.nul)?;
     text.push(end_of(manner.nul))?;
     Ok(())
 }
@@ -28,33 +28,37 @@ pub(crate) fn append_entry(
 /// Appends the value of an entry.
 pub(crate) fn append_value(
     text: &mut Vec<u8>,
-    setting: &ReadSetting,
+    setting: &ReadSetting<'_>,
     manner: Manner,
 ) -> Result<(), AllocError>
     ensures { OnOk result (text.new.items ≡ text.old.items ++ value_shown manner (seen_setting setting.now)) }
 {
     append_front(text, setting, manner)?;
-    append_if_any(text, &setting.entry.value)?;
+    append_if_any(text, setting.entry.value)?;
     text.push(end_of(manner.nul))?;
     Ok(())
 }
 
 /// Appends the key of an entry, which a byte 0 ends.
-fn append_key(alloc: Global, text: &mut Vec<u8>, setting: &ReadSetting) -> Result<(), AllocError>
+fn append_key(
+    alloc: Global,
+    text: &mut Vec<u8>,
+    setting: &ReadSetting<'_>,
+) -> Result<(), AllocError>
     ensures { OnOk result (text.new.items ≡ text.old.items ++ key_of (seen_setting setting.now)) }
 {
-    let mut key = Vec::from_slice(alloc, &setting.section)?;
-    key.extend_from_slice(&setting.entry.name)?;
+    let mut key = Vec::from_slice(alloc, setting.section)?;
+    key.extend_from_slice(setting.entry.name)?;
     text.extend_from_slice(until_zero(&key))
 }
 
 /// Appends what follows the key of an entry with this value.
-fn append_behind_key(
+pub(crate) fn append_behind_key(
     text: &mut Vec<u8>,
-    value: &Option<Vec<u8>>,
+    value: Option<&[u8]>,
     nul: bool,
 ) -> Result<(), AllocError>
-    ensures { OnOk result (text.new.items ≡ text.old.items ++ behind_key nul (option_map vec_items value.now)) }
+    ensures { OnOk result (text.new.items ≡ text.old.items ++ behind_key nul (option_copied value.entry)) }
 {
     match value {
         Some(value) => {
@@ -66,8 +70,8 @@ fn append_behind_key(
 }
 
 /// Appends a value, if there is one.
-fn append_if_any(text: &mut Vec<u8>, value: &Option<Vec<u8>>) -> Result<(), AllocError>
-    ensures { OnOk result (text.new.items ≡ text.old.items ++ value_of (option_map vec_items value.now)) }
+fn append_if_any(text: &mut Vec<u8>, value: Option<&[u8]>) -> Result<(), AllocError>
+    ensures { OnOk result (text.new.items ≡ text.old.items ++ value_of (option_copied value.entry)) }
 {
     match value {
         Some(value) => text.extend_from_slice(value),

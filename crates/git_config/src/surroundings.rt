@@ -7,6 +7,7 @@ ghost use Rattle.git_config.specs.Includes.{expanded, folder_of, is_absolute, us
 ghost use Rattle.git_config.specs.Private.Places.{folder_end};
 
 use crate::path::{ConfigPath, config_path};
+use git_paths::joined;
 use std::alloc::{AllocError, Global};
 
 /// A user's name and home folder.
@@ -110,15 +111,6 @@ fn user_folder<'a>(around: &'a Surroundings, name: &[u8]) -> Option<&'a [u8]>
         }
     }
     None
-}
-
-/// Two texts, one behind the other.
-pub(crate) fn joined(alloc: Global, front: &[u8], back: &[u8]) -> Result<Vec<u8>, AllocError>
-    ensures { IfOk result (λ text. text.items ≡ front.now ++ back.now) }
-{
-    let mut text = Vec::from_slice(alloc, front)?;
-    text.extend_from_slice(back)?;
-    Ok(text)
 }
 
 /// Whether a path is absolute.

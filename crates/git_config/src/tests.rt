@@ -16,7 +16,8 @@ fn values_are_read_and_written(rt: HostRuntime) -> Result<(), Fail> {
 #[test]
 fn the_last_value_of_a_key_counts(rt: HostRuntime) -> Result<(), Fail> {
     let file = b"[a \"S\"]\nb=yes\nB=off\n[a \"s\"]\nb=maybe";
-    let config = Config::of_file(rt.alloc(), b"/f", file)?;
+    let mut config = Config::new(rt.alloc());
+    config.add_file(rt.alloc(), b"/f", file)?;
     let (told, value) = split_word(b"A.S.B=");
     assert!(rt; value.is_some());
     let key = canonical_key(rt.alloc(), told)?.ok_or("a key")?;

@@ -9,7 +9,7 @@ mod unusual;
 mod usual;
 
 pub use fronts::folder_of;
-pub use paths::{append_seen, below_folder, enter, last_name, leave, walk};
+pub use paths::{append_seen, below_folder, enter, joined, last_name, leave, walk};
 pub use quoting::{Quoting, append_quoted};
 pub use standpoint::{LeadFault, Standpoint};
 pub use unusual::has_unusual;

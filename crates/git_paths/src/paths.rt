@@ -4,7 +4,19 @@ ghost use Rattle.std.specs.Option.{option_copied};
 ghost use Rattle.git_paths.specs.Paths.{AreNames, IsLastName, below, folder_of, folder_parts, goes_up, left_below, names_folder, or_here, parts_left, parts_of, seen_from, stays, step, steps_up, walk};
 
 use memchr::{memchr, memrchr};
-use std::alloc::AllocError;
+use std::alloc::{AllocError, Global};
+
+/// A text with another behind it.
+///
+/// # Errors
+/// Only where memory was refused.
+pub fn joined(alloc: Global, front: &[u8], back: &[u8]) -> Result<Vec<u8>, AllocError>
+    ensures { IfOk result (λ text. text.items ≡ front.now ++ back.now) }
+{
+    let mut text = Vec::from_slice(alloc, front)?;
+    text.extend_from_slice(back)?;
+    Ok(text)
+}
 
 /// Goes from `path` where the bytes lead. It answers whether they name a folder by their last part; `None` where they lead above
 /// the folder that paths are counted from.

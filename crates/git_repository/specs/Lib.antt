@@ -2,4 +2,3 @@ pub mod GitFolders
 pub mod Safety
 pub mod UserFiles
 pub mod Values
-pub mod Views

@@ -1,6 +1,6 @@
 //! The branch that `HEAD` names, and whether this is certain.
 
-use crate::file_system::FileSystem;
+use crate::file_system::{FileSystem, Held};
 use crate::finder::digit_count;
 use crate::found::{GitFolder, Head};
 use crate::paths::joined;
@@ -32,8 +32,8 @@ impl GitFolder {
             return Ok(None);
         };
         if may_be_refused(reference)
-            || leads_on(alloc, source, self.common(), reference)?
             || leads_on(alloc, source, &self.path, reference)?
+            || self.common.is_some() && leads_on(alloc, source, self.common(), reference)?
         {
             return Ok(Some(Vec::from_slice(alloc, reference)?));
         }
@@ -49,11 +49,9 @@ fn leads_on<S: FileSystem>(
     reference: &[u8],
 ) -> Result<bool, AllocError> {
     let path = joined(alloc, &joined(alloc, folder, b"/")?, reference)?;
-    if source.link(&path)?.is_some() {
-        return Ok(true);
-    }
-    match source.bytes(&path, COMMIT_LIMIT)? {
-        Some(text) => Ok(!is_commit(&text)),
+    match source.held(&path, COMMIT_LIMIT)? {
+        Some(Held::Link(_target)) => Ok(true),
+        Some(Held::Bytes(text)) => Ok(!is_commit(&text)),
         None => Ok(false),
     }
 }

@@ -1,6 +1,6 @@
 //! The reading of a configuration's files and words, whose conditions may ask for the repository, its branch and the URLs of remotes.
 
-use crate::core_values::key_of;
+use crate::core_values::{key_of, short_key};
 use crate::faults::OpenFault;
 use crate::file_system::FileSystem;
 use crate::setup::Setup;
@@ -116,17 +116,27 @@ impl<'a, S: FileSystem + ConfigFiles> Setup<'a, S> {
 /// Whether the home folder of a user may count for what was read.
 fn may_name_user<F>(read: &Result<Config, ReadFault<F>>) -> bool {
     match read {
-        Ok(config) => config.settings.iter().any(|setting| names_user(setting)),
+        Ok(config) => has_user(config),
         Err(ReadFault::Memory) => false,
         Err(_fault) => true,
     }
 }
 
+/// Whether an entry may name a user.
+fn has_user(config: &Config) -> bool {
+    for place in 0..config.len() {
+        if names_user(&config.at(place)) {
+            return true;
+        }
+    }
+    false
+}
+
 /// Whether the value of an entry, or a condition that its key may have, begins with the folder of a user. The key of a word has no section.
-fn names_user(setting: &ReadSetting) -> bool {
-    is_users(told_in(&setting.section))
-        || is_users(told_in(&setting.entry.name))
-        || is_users(bytes_of(&setting.entry.value))
+fn names_user(setting: &ReadSetting<'_>) -> bool {
+    is_users(told_in(setting.section))
+        || is_users(told_in(setting.entry.name))
+        || is_users(bytes_of(setting.entry.value))
 }
 
 /// What a condition says behind its colon, where a key has one.
@@ -147,8 +157,9 @@ fn is_users(path: &[u8]) -> bool {
 
 /// Whether a key begins with these words.
 fn asks(alloc: Global, config: &Config, words: &[u8]) -> Result<bool, AllocError> {
-    for setting in &config.settings {
-        if key_of(alloc, setting)?.starts_with(words) {
+    for place in 0..config.len() {
+        let setting = config.at(place);
+        if short_key(alloc, &setting)?.starts_with(words) {
             return Ok(true);
         }
     }
@@ -158,13 +169,14 @@ fn asks(alloc: Global, config: &Config, words: &[u8]) -> Result<bool, AllocError
 /// The URLs of the remotes; an empty one where an entry has no value.
 fn urls_of(alloc: Global, config: &Config) -> Result<Vec<Vec<u8>>, AllocError> {
     let mut urls = Vec::new(alloc);
-    for setting in &config.settings {
-        let key = key_of(alloc, setting)?;
-        if key.starts_with(b"remote.")
-            && key.ends_with(b".url")
-            && key.len() >= b"remote..url".len()
-        {
-            urls.push(Vec::from_slice(alloc, bytes_of(&setting.entry.value))?)?;
+    for place in 0..config.len() {
+        let setting = config.at(place);
+        if !short_key(alloc, &setting)?.starts_with(b"remote.") {
+            continue;
+        }
+        let key = key_of(alloc, &setting)?;
+        if key.ends_with(b".url") && key.len() >= b"remote..url".len() {
+            urls.push(Vec::from_slice(alloc, bytes_of(setting.entry.value))?)?;
         }
     }
     Ok(urls)

@@ -3,9 +3,7 @@ ghost use Rattle.std.specs.Prelude.{◌≡◌, ◌==◌, codes, false, position,
 ghost use Rattle.git_config.specs.Configuration.{key_of, seen_setting};
 ghost use Rattle.git_config.specs.Grammar.{before_zero};
 ghost use Rattle.git_repository.specs.Values.{boolean_at, last_value};
-ghost use Rattle.git_repository.specs.Views.{seen_settings};
 
-use crate::bytes::slice_of;
 use crate::faults::OpenFault;
 use crate::paths::joined;
 use crate::user_files::settings_file;
@@ -27,6 +25,8 @@ pub struct CoreSettings {
     pub attributes: Option<Vec<u8>>,
     /// `status.showUntrackedFiles`: which files `status` tells that aren't tracked.
     pub untracked: ShowUntracked,
+    /// `status.relativePaths`: `status --short` tells paths from the current folder.
+    pub relative_paths: bool,
 }
 
 /// Which files are told that aren't tracked: a value of `status.showUntrackedFiles`.
@@ -43,8 +43,8 @@ pub enum ShowUntracked {
 /// What a configuration sets. `config_home` is `XDG_CONFIG_HOME`, and `around.home` is `HOME`.
 ///
 /// # Errors
-/// The first entry that is wrong, of the keys that Git looks at, and `for_status` of `status.showUntrackedFiles`, too; also
-/// where a later one is right: a boolean that is none, a path without a value, or one in a folder that isn't known, a word that is none of those that Git knows.
+/// The first entry that is wrong, of the keys that Git looks at, and `for_status` of `status.showUntrackedFiles` and
+/// `status.relativePaths`, too; also where a later one is right: a boolean that is none, a path without a value, or one in a folder that isn't known, a word that is none of those that Git knows.
 /// [`OpenFault::Memory`] where memory was refused.
 pub(crate) fn core_settings<F>(
     alloc: Global,
@@ -53,11 +53,12 @@ pub(crate) fn core_settings<F>(
     config_home: Option<&[u8]>,
     for_status: bool,
 ) -> Result<CoreSettings, OpenFault<F>>
-    ensures ignore_case { IfOk result (λ core. core.ignore_case ≡ boolean_at false (last_value (codes "core.ignorecase") (seen_settings config.now))) }
-    ensures quote_path { IfOk result (λ core. core.quote_path ≡ boolean_at true (last_value (codes "core.quotepath") (seen_settings config.now))) }
+    ensures ignore_case { IfOk result (λ core. core.ignore_case ≡ boolean_at false (last_value (codes "core.ignorecase") config.now)) }
+    ensures quote_path { IfOk result (λ core. core.quote_path ≡ boolean_at true (last_value (codes "core.quotepath") config.now)) }
 {
-    for setting in &config.settings {
-        check_setting(alloc, around, for_status, setting)?;
+    for place in 0..config.len() {
+        let setting = config.at(place);
+        check_setting(alloc, around, for_status, &setting)?;
     }
     Ok(CoreSettings {
         ignore_case: boolean_at(config, b"core.ignorecase", false),
@@ -79,6 +80,7 @@ pub(crate) fn core_settings<F>(
             b"attributes",
         )?,
         untracked: mode_in(config),
+        relative_paths: boolean_at(config, b"status.relativepaths", true),
     })
 }
 
@@ -87,13 +89,13 @@ fn check_setting<F>(
     alloc: Global,
     around: &Surroundings,
     for_status: bool,
-    setting: &ReadSetting,
+    setting: &ReadSetting<'_>,
 ) -> Result<(), OpenFault<F>> {
-    let key = key_of(alloc, setting)?;
+    let key = short_key(alloc, setting)?;
     if is_boolean(&key) {
-        return check_boolean(alloc, key, &setting.entry.value);
+        return check_boolean(alloc, key, setting.entry.value);
     }
-    let value = setting.entry.value.as_deref();
+    let value = setting.entry.value;
     match key.as_slice() {
         b"core.excludesfile" | b"core.attributesfile" | b"core.hookspath" => match value {
             Some(value) => match expanded(alloc, around, around.home.as_deref(), value)? {
@@ -106,6 +108,7 @@ fn check_setting<F>(
         b"status.showuntrackedfiles" if for_status && mode_named(value).is_none() => {
             Err(entry_fault(alloc, key, setting)?)
         }
+        b"status.relativepaths" if for_status => check_boolean(alloc, key, value),
         _ => Ok(()),
     }
 }
@@ -153,9 +156,7 @@ fn mode_named(value: Option<&[u8]>) -> Option<ShowUntracked> {
 /// The mode that counts.
 fn mode_in(config: &Config) -> ShowUntracked {
     match config.last_of(b"status.showuntrackedfiles") {
-        Some(setting) => {
-            mode_named(setting.entry.value.as_deref()).unwrap_or(ShowUntracked::Normal)
-        }
+        Some(setting) => { mode_named(setting.entry.value).unwrap_or(ShowUntracked::Normal) }
         None => ShowUntracked::Normal,
     }
 }
@@ -164,11 +165,29 @@ fn mode_in(config: &Config) -> ShowUntracked {
 ///
 /// # Errors
 /// Only where memory was refused.
-pub(crate) fn key_of(alloc: Global, setting: &ReadSetting) -> Result<Vec<u8>, AllocError>
+pub(crate) fn key_of(alloc: Global, setting: &ReadSetting<'_>) -> Result<Vec<u8>, AllocError>
     ensures { IfOk result (λ key. key.items ≡ key_of (seen_setting setting.now)) }
 {
-    let whole = joined(alloc, &setting.section, &setting.entry.name)?;
+    let whole = joined(alloc, setting.section, setting.entry.name)?;
     Vec::from_slice(alloc, until_zero(&whole))
+}
+
+/// The key of an entry as far as one that counts may go, so that the entries of a long section cost no more than others.
+///
+/// # Errors
+/// Only where memory was refused.
+pub(crate) fn short_key(alloc: Global, setting: &ReadSetting<'_>) -> Result<Vec<u8>, AllocError> {
+    let whole = joined(
+        alloc,
+        front_of(setting.section),
+        front_of(setting.entry.name),
+    )?;
+    Vec::from_slice(alloc, until_zero(&whole))
+}
+
+/// The first 64 bytes: no key that counts has as many.
+fn front_of(bytes: &[u8]) -> &[u8] {
+    bytes.get(..64).unwrap_or(bytes)
 }
 
 /// What stands before the first byte 0.
@@ -190,10 +209,10 @@ fn first_zero(bytes: &[u8]) -> Option<usize>
 
 /// The boolean that counts of a key.
 pub(crate) fn boolean_at(config: &Config, key: &[u8], default: bool) -> bool
-    ensures { result ≡ boolean_at default (last_value key.now (seen_settings config.now)) }
+    ensures { result ≡ boolean_at default (last_value key.now config.now) }
 {
     match config.last_of(key) {
-        Some(setting) => boolean(slice_of(&setting.entry.value)).unwrap_or(default),
+        Some(setting) => boolean(setting.entry.value).unwrap_or(default),
         None => default,
     }
 }
@@ -208,7 +227,7 @@ fn file_at(
     name: &[u8],
 ) -> Result<Option<Vec<u8>>, AllocError> {
     match config.last_of(key) {
-        Some(setting) => path_at(alloc, around, setting),
+        Some(setting) => path_at(alloc, around, &setting),
         None => settings_file(alloc, config_home, around.home.as_deref(), name),
     }
 }
@@ -217,9 +236,9 @@ fn file_at(
 fn path_at(
     alloc: Global,
     around: &Surroundings,
-    setting: &ReadSetting,
+    setting: &ReadSetting<'_>,
 ) -> Result<Option<Vec<u8>>, AllocError> {
-    let Some(value) = &setting.entry.value else {
+    let Some(value) = setting.entry.value else {
         return Ok(None);
     };
     match expanded(alloc, around, around.home.as_deref(), value)? {

@@ -3,6 +3,15 @@
 use git_config::UserFolder;
 use std::alloc::AllocError;
 
+/// What a file or a link holds.
+#[derive(Debug, PartialEq, Eq, Drop)]
+pub enum Held {
+    /// The text of a link.
+    Link(Vec<u8>),
+    /// The bytes of a file.
+    Bytes(Vec<u8>),
+}
+
 /// What stands at paths. A path that doesn't begin with a slash is told from the current folder.
 pub trait FileSystem {
     /// Whether a file of bytes stands there, where links are followed.
@@ -14,8 +23,8 @@ pub trait FileSystem {
     /// Whether anything stands there, be it a link that leads nowhere.
     fn is_there(&self, path: &[u8]) -> Result<bool, AllocError>;
 
-    /// The text of the link that stands there, where one does.
-    fn link(&self, path: &[u8]) -> Result<Option<Vec<u8>>, AllocError>;
+    /// What stands there, where it is a link, or a file that can be read: `limit` bytes of it at most. A link isn't followed.
+    fn held(&self, path: &[u8], limit: usize) -> Result<Option<Held>, AllocError>;
 
     /// The bytes of the file, `limit` of them at most, where links are followed; `None` where it can't be read.
     fn bytes(&self, path: &[u8], limit: usize) -> Result<Option<Vec<u8>>, AllocError>;

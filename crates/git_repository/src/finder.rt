@@ -3,11 +3,10 @@ ghost use Rattle.std.specs.Prelude.{◌≡◌, ◌≤◌, length};
 ghost use Rattle.std.specs.Char.{is_ascii_hexdigit};
 ghost use Rattle.std.specs.List.{prefix_len};
 
-use crate::blanks::without_blanks;
 use crate::faults::{FindFault, Hidden, Wrong};
-use crate::file_system::FileSystem;
+use crate::file_system::{FileSystem, Held};
 use crate::found::{GitFolder, Head};
-use crate::paths::{joined, told_by, told_from, without_line_ends};
+use crate::paths::{joined, told_by, told_from, without_blanks, without_line_ends};
 use crate::variables::Variables;
 use std::alloc::{AllocError, Global};
 
@@ -88,11 +87,9 @@ impl<'a, S: FileSystem> Finder<'a, S> {
     /// What the file or link `HEAD` of a folder names, if it names anything.
     fn head_in(&self, folder: &[u8]) -> Result<Option<Head>, AllocError> {
         let path = joined(self.alloc, folder, b"/HEAD")?;
-        if let Some(target) = self.source.link(&path)? {
-            return Ok(head_linked(target));
-        }
-        match self.source.bytes(&path, FILE_LIMIT)? {
-            Some(text) => head_named(self.alloc, &text),
+        match self.source.held(&path, FILE_LIMIT)? {
+            Some(Held::Link(target)) => Ok(head_linked(target)),
+            Some(Held::Bytes(text)) => head_named(self.alloc, &text),
             None => Ok(None),
         }
     }

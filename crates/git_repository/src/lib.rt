@@ -1,7 +1,6 @@
 //! The Git repository of a folder: how it is found, which files its configuration is read from, and what they say of it.
 #![tactic(auto)]
 
-mod blanks;
 mod branch;
 mod bytes;
 mod ceilings;
@@ -30,7 +29,7 @@ mod variables;
 pub use config_place::ConfigPlace;
 pub use core_values::{CoreSettings, ShowUntracked};
 pub use faults::{FindFault, Hidden, OpenFault, VariableFault, Wrong};
-pub use file_system::FileSystem;
+pub use file_system::{FileSystem, Held};
 pub use finder::Finder;
 pub use paths::told_from;
 pub use repository::Repository;

@@ -2,7 +2,7 @@
 ghost use Rattle.std.specs.Prelude.{◌≤◌, IsTrue};
 
 use crate::bytes::copied;
-use crate::core_values::{boolean_at, key_of};
+use crate::core_values::{boolean_at, key_of, short_key};
 use crate::faults::OpenFault;
 use crate::found::GitFolder;
 use crate::paths::joined;
@@ -31,9 +31,7 @@ impl OwnSettings {
         files: &F,
         git: &GitFolder,
     ) -> Result<OwnSettings, OpenFault<F::Fault>> {
-        let mut config = Config {
-            settings: Vec::new(alloc),
-        };
+        let mut config = Config::new(alloc);
         add_alone(
             alloc,
             files,
@@ -78,13 +76,8 @@ fn add_alone<F: ConfigFiles>(
         Ok(None) => return Ok(()),
         Err(fault) => return Err(OpenFault::File(fault)),
     };
-    match Config::of_file(alloc, &path, &bytes) {
-        Ok(file) => {
-            for setting in file.settings {
-                config.settings.push(setting)?;
-            }
-            Ok(())
-        }
+    match config.add_file(alloc, &path, &bytes) {
+        Ok(()) => Ok(()),
         Err(ConfigFault::Memory) => Err(OpenFault::Memory),
         Err(ConfigFault::Line { line, .. }) => Err(OpenFault::Line {
             file: Some(path),
@@ -96,7 +89,7 @@ fn add_alone<F: ConfigFiles>(
 /// The version of the format, unless it is negative.
 fn version_of(config: &Config) -> Option<u32> {
     let setting = config.last_of(b"core.repositoryformatversion")?;
-    let number = integer(bytes_of(&setting.entry.value))?;
+    let number = integer(bytes_of(setting.entry.value))?;
     if number < 0 {
         None
     } else {
@@ -117,12 +110,15 @@ fn check_format<F>(
     if !is_read(version) {
         return Err(OpenFault::Version(version));
     }
-    for setting in &config.settings {
-        let key = key_of(alloc, setting)?;
+    for place in 0..config.len() {
+        let setting = config.at(place);
+        let key = short_key(alloc, &setting)?;
         let Some(name) = key.strip_prefix(b"extensions.") else {
             continue;
         };
         if !accepts(version, name) {
+            let whole = key_of(alloc, &setting)?;
+            let name = whole.strip_prefix(b"extensions.").unwrap_or(name);
             let name = Vec::from_slice(alloc, name)?;
             return Err(if version == 0 {
                 OpenFault::OnlyVersion1(name)
@@ -153,7 +149,7 @@ fn accepts(version: u32, name: &[u8]) -> bool {
 /// The bytes of the last entry of a key, where it has any.
 fn last_bytes(alloc: Global, config: &Config, key: &[u8]) -> Result<Option<Vec<u8>>, AllocError> {
     match config.last_of(key) {
-        Some(setting) => copied(alloc, setting.entry.value.as_deref()),
+        Some(setting) => copied(alloc, setting.entry.value),
         None => Ok(None),
     }
 }

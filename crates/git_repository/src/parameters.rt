@@ -1,8 +1,8 @@
 //! The words of `GIT_CONFIG_PARAMETERS`, by which Git hands those of `-c` on: each in quotes, as a whole or its key and its value.
 ghost use Rattle.std.specs.Prelude.{◌<◌, ◌≤◌, IfOk, IfSome, length};
 
-use crate::blanks::without_blanks;
 use crate::faults::VariableFault;
+use crate::paths::without_blanks;
 use crate::sources::{ConfigSource, add_word};
 use git_config::{is_blank, split_word};
 use std::alloc::{AllocError, Global};

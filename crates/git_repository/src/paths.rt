@@ -1,20 +1,13 @@
 //! Texts of paths.
-ghost use Rattle.std.specs.Prelude.{◌≡◌, ◌≤◌, ◌++◌, IfOk, drop, length, not, position};
+ghost use Rattle.std.specs.Prelude.{◌≡◌, ◌≤◌, IfOk, drop, length, not, position};
 ghost use Rattle.std.specs.List.{position_or_len};
 ghost use Rattle.git_config.specs.Paths.{is_slash};
 ghost use Rattle.git_repository.specs.GitFolders.{is_absolute, is_relative, told_from};
 ghost use Rattle.git_repository.specs.UserFiles.{without_dot};
 
+use git_config::is_blank;
+pub(crate) use git_paths::joined;
 use std::alloc::{AllocError, Global};
-
-/// A path with a text behind it.
-pub(crate) fn joined(alloc: Global, path: &[u8], behind: &[u8]) -> Result<Vec<u8>, AllocError>
-    ensures { IfOk result (λ whole. whole.items ≡ path.now ++ behind.now) }
-{
-    let mut whole = Vec::from_slice(alloc, path)?;
-    whole.extend_from_slice(behind)?;
-    Ok(whole)
-}
 
 /// Whether a path is told from the root.
 pub(crate) fn is_absolute(path: &[u8]) -> bool
@@ -67,14 +60,10 @@ pub(crate) fn below<'p>(folder: &[u8], path: &'p [u8]) -> Option<&'p [u8]> {
 pub(crate) fn name_start(path: &[u8]) -> usize
     ensures within { result ≤ length path.now }
 {
-    let mut start = path.len();
-    'bytes: while start > 0 {
-        if path[start - 1] == b'/' {
-            return start;
-        }
-        start -= 1;
+    match path.iter().rposition(|b| *b == b'/') {
+        Some(slash) => slash + 1,
+        None => 0,
     }
-    start
 }
 
 /// A path without the current folder in front: `./`, and the slashes behind it.
@@ -106,24 +95,20 @@ fn first_other(path: &[u8]) -> Option<usize>
 
 /// A text without the line feeds and carriage returns at its end.
 pub(crate) fn without_line_ends(text: &[u8]) -> &[u8] {
-    &text[..text_end(text)]
-}
-
-/// Where the line feeds and carriage returns at the end of a text begin.
-fn text_end(text: &[u8]) -> usize
-    ensures within { result ≤ length text.now }
-{
-    let mut end = text.len();
-    'bytes: while end > 0 {
-        if !is_line_end(text[end - 1]) {
-            return end;
-        }
-        end -= 1;
+    match text.iter().rposition(|b| *b != b'\n' && *b != b'\r') {
+        Some(last) => &text[..last + 1],
+        None => b"",
     }
-    end
 }
 
-/// Whether a byte is a line feed or a carriage return.
-fn is_line_end(byte: u8) -> bool {
-    byte == b'\n' || byte == b'\r'
+/// A text without the blanks in front and at its end: spaces, tabs, carriage returns and line feeds.
+pub(crate) fn without_blanks(text: &[u8]) -> &[u8] {
+    let Some(start) = text.iter().position(|b| !is_blank(*b)) else {
+        return b"";
+    };
+    let rest = &text[start..];
+    match rest.iter().rposition(|b| !is_blank(*b)) {
+        Some(last) => &rest[..last + 1],
+        None => b"",
+    }
 }

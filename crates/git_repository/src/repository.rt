@@ -7,8 +7,8 @@ use crate::found::Found;
 use crate::own_files::OwnSettings;
 use crate::paths::{folder_of, joined, told_from};
 use crate::setup::{Purpose, Setup};
-use crate::sources::config_sources;
-use git_config::{Config, ConfigFiles, Surroundings};
+use crate::sources::{ConfigSources, config_sources};
+use git_config::{Config, ConfigFiles, ReadSetting, Surroundings};
 use std::alloc::AllocError;
 
 /// What a command has to know of a repository. A path that isn't absolute is told from the current folder.
@@ -32,8 +32,8 @@ pub struct Repository {
 
 impl<'a, S: FileSystem + ConfigFiles> Setup<'a, S> {
     /// Opens the repository of the current folder: finds it, reads its configuration and that of the system and the user, and tells what a
-    /// command has to know. `around` is what is known of the user and the installation, with `HOME` as its home; its `git_folders`, `branch`
-    /// and `urls` are found.
+    /// command has to know. `around` is what is known of the user and the installation, with `HOME` as its home; its `real_home`,
+    /// `git_folders`, `branch` and `urls` are found where a condition may ask for them.
     ///
     /// # Errors
     /// The first fault in Git's order; [`OpenFault::File`] where a file of configuration can't be read, and [`OpenFault::Memory`] where
@@ -49,8 +49,7 @@ impl<'a, S: FileSystem + ConfigFiles> Setup<'a, S> {
         let own = OwnSettings::read(alloc, self.finder.source, &found.git)?;
         let top = self.work_tree_of(&found, &own)?;
         self.check_relatives(top.as_deref())?;
-        self.know(around, &found, &own, top.as_deref())?;
-        let config = self.read_inside(around, &found, &own)?;
+        let config = self.read_inside(around, &found, &own, top.as_deref())?;
         if purpose != Purpose::Index && !self.has_top(top.as_deref())? {
             return Err(OpenFault::NoWorkTree);
         }
@@ -79,13 +78,30 @@ impl<'a, S: FileSystem + ConfigFiles> Setup<'a, S> {
         })
     }
 
-    /// The entries of all files and words, in a repository.
+    /// The entries of all files and words, in a repository. What conditions ask for is looked up where there is one, or the reading ended
+    /// before all was read.
     fn read_inside(
         &self,
         around: &mut Surroundings,
         found: &Found,
         own: &OwnSettings,
+        top: Option<&[u8]>,
     ) -> Result<Config, OpenFault<S::Fault>> {
+        let first = self.read(around, None, self.inner_sources(found, own)?);
+        if !may_ask(&first) {
+            return first;
+        }
+        self.know(around, found, own, top)?;
+        let uncertain = found.git.uncertain(self.finder.alloc, self.finder.source)?;
+        self.read(
+            around,
+            uncertain.as_deref(),
+            self.inner_sources(found, own)?,
+        )
+    }
+
+    /// The files and words that count in a repository.
+    fn inner_sources(&self, found: &Found, own: &OwnSettings) -> Result<ConfigSources, AllocError> {
         let (alloc, git) = (self.finder.alloc, &found.git);
         let config = git.common_file(alloc, b"/config")?;
         let work_tree = if own.has_worktree_config {
@@ -93,19 +109,17 @@ impl<'a, S: FileSystem + ConfigFiles> Setup<'a, S> {
         } else {
             None
         };
-        let listed = config_sources(
+        config_sources(
             alloc,
             self.finder.variables,
             Some(&config),
             work_tree.as_deref(),
             self.words,
-        )?;
-        let uncertain = git.uncertain(alloc, self.finder.source)?;
-        self.read(around, uncertain.as_deref(), listed)
+        )
     }
 
-    /// Adds to what is known around a configuration the paths of the git folder and the branch, and answers how Git tells the git folder where
-    /// it works.
+    /// Adds to what is known around a configuration what its conditions ask for: the real home folder, the paths of the git folder and the
+    /// branch. It answers how Git tells the git folder where it works.
     pub(crate) fn know(
         &self,
         around: &mut Surroundings,
@@ -114,6 +128,9 @@ impl<'a, S: FileSystem + ConfigFiles> Setup<'a, S> {
         top: Option<&[u8]>,
     ) -> Result<Vec<u8>, OpenFault<S::Fault>> {
         let alloc = self.finder.alloc;
+        if let Some(home) = &around.home {
+            around.real_home = self.finder.source.real_path(home)?;
+        }
         let real = self.finder.real_path(&found.git.path)?;
         let above = self.above(top);
         let place = above.unwrap_or(self.current);
@@ -143,4 +160,28 @@ impl<'a, S: FileSystem + ConfigFiles> Setup<'a, S> {
             (None, _) => joined(alloc, git_folder, b"/index"),
         }
     }
+}
+
+/// Whether a condition may count for what was read.
+fn may_ask<F>(read: &Result<Config, OpenFault<F>>) -> bool {
+    match read {
+        Ok(config) => has_conditions(config),
+        Err(OpenFault::Memory) => false,
+        Err(_fault) => true,
+    }
+}
+
+/// Whether an entry has a condition.
+fn has_conditions(config: &Config) -> bool {
+    for place in 0..config.len() {
+        if has_condition(&config.at(place)) {
+            return true;
+        }
+    }
+    false
+}
+
+/// Whether the key of an entry has a condition. The key of a word has no section.
+fn has_condition(setting: &ReadSetting<'_>) -> bool {
+    setting.section.starts_with(b"includeif.") || setting.entry.name.starts_with(b"includeif.")
 }

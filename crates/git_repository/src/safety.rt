@@ -53,7 +53,7 @@ pub(crate) fn safe_directories<F>(
 ) -> Result<Vec<Vec<u8>>, OpenFault<F>> {
     let mut paths = Vec::new(alloc);
     for setting in &config.entries_of(alloc, b"safe.directory")? {
-        let value = bytes_of(&setting.entry.value);
+        let value = bytes_of(setting.entry.value);
         match expanded(alloc, around, around.home.as_deref(), value)? {
             Some(path) => paths.push(path)?,
             None => return Err(OpenFault::NoFolder(Vec::from_slice(alloc, value)?)),
@@ -66,7 +66,7 @@ pub(crate) fn safe_directories<F>(
 pub(crate) fn is_bare_refused<F>(alloc: Global, config: &Config) -> Result<bool, OpenFault<F>> {
     let mut refused = false;
     for setting in &config.entries_of(alloc, b"safe.barerepository")? {
-        refused = match bytes_of(&setting.entry.value) {
+        refused = match bytes_of(setting.entry.value) {
             b"explicit" => true,
             b"all" => false,
             _ => {

@@ -51,9 +51,15 @@ impl<'a, S: FileSystem> Finder<'a, S> {
 
     /// The repository that the first of these folders shows that shows one.
     fn search(&self, safety: &Safety<'_>, folders: &[&[u8]]) -> Result<Found, FindFault> {
-        let mut device = None;
-        for folder in folders {
-            self.check_border(&mut device, folder)?;
+        let Some((start, uppers)) = folders.split_first() else {
+            return Err(FindFault::NotFound);
+        };
+        if let Some(found) = self.shows(safety, start)? {
+            return Ok(found);
+        }
+        let device = self.source.device(path_of(start))?;
+        for folder in uppers {
+            self.check_border(device, folder)?;
             if let Some(found) = self.shows(safety, folder)? {
                 return Ok(found);
             }
@@ -64,18 +70,13 @@ impl<'a, S: FileSystem> Finder<'a, S> {
         }
     }
 
-    /// Refuses a folder on another file system than the first one, whose device is kept, unless the search goes across.
-    fn check_border(&self, device: &mut Option<u64>, folder: &[u8]) -> Result<(), FindFault> {
-        if self.variables.across_file_systems {
-            return Ok(());
-        }
-        let now = self.source.device(path_of(folder))?;
-        match *device {
-            Some(first) if first != now => Err(self.at(Wrong::Border, path_of(folder))?),
-            _ => {
-                *device = Some(now);
-                Ok(())
-            }
+    /// Refuses a folder on another file system than this one, unless the search goes across.
+    fn check_border(&self, device: u64, folder: &[u8]) -> Result<(), FindFault> {
+        let path = path_of(folder);
+        if self.variables.across_file_systems || self.source.device(path)? == device {
+            Ok(())
+        } else {
+            Err(self.at(Wrong::Border, path)?)
         }
     }
 

@@ -1,6 +1,5 @@
 //! What a process was told before it looks for a repository, and where it then works.
 
-use crate::bytes::slice_of;
 use crate::faults::{FindFault, OpenFault, Wrong};
 use crate::file_system::FileSystem;
 use crate::finder::Finder;
@@ -107,7 +106,7 @@ impl<'a, S: FileSystem> Setup<'a, S> {
 
     /// The path of this folder in which Git works, which `PWD` may tell with links.
     pub(crate) fn shown<'t>(&'t self, place: &'t [u8]) -> Result<&'t [u8], AllocError> {
-        match slice_of(&self.finder.variables.pwd) {
+        match self.finder.variables.pwd.as_deref() {
             Some(pwd) if !pwd.is_empty() && self.leads_to(place, pwd)? => Ok(pwd),
             _ => Ok(place),
         }

@@ -1,7 +1,7 @@
 //! Which files and words Git's configuration is read from, in order.
 ghost use Rattle.std.specs.Prelude.{◌^◌, ◌<◌, IfOk};
 
-use crate::bytes::{copied, slice_of};
+use crate::bytes::copied;
 use crate::faults::VariableFault;
 use crate::normal_path::normal_path;
 use crate::parameters::add_handed;
@@ -74,7 +74,7 @@ pub(crate) fn as_source(source: &ConfigSource) -> Source<'_> {
         ConfigSource::File { path, .. } => Source::File(path),
         ConfigSource::Word { key, value } => Source::Word {
             key,
-            value: slice_of(value),
+            value: value.as_deref(),
         },
     }
 }

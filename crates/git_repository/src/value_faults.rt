@@ -1,6 +1,7 @@
 //! What is wrong with the values of entries.
 
-use crate::core_values::key_of;
+use crate::bytes::copied;
+use crate::core_values::short_key;
 use crate::faults::OpenFault;
 use git_config::{Config, ReadSetting, boolean, integer};
 use std::alloc::{AllocError, Global};
@@ -11,16 +12,21 @@ pub(crate) fn check_values<F>(
     shared: bool,
     config: &Config,
 ) -> Result<(), OpenFault<F>> {
-    for setting in &config.settings {
-        check_value(alloc, shared, setting)?;
+    for place in 0..config.len() {
+        let setting = config.at(place);
+        check_value(alloc, shared, &setting)?;
     }
     Ok(())
 }
 
 /// Looks at an entry: of either file at what it says of the work tree, and of `config` at the version and the extensions.
-fn check_value<F>(alloc: Global, shared: bool, setting: &ReadSetting) -> Result<(), OpenFault<F>> {
-    let key = key_of(alloc, setting)?;
-    let value = &setting.entry.value;
+fn check_value<F>(
+    alloc: Global,
+    shared: bool,
+    setting: &ReadSetting<'_>,
+) -> Result<(), OpenFault<F>> {
+    let key = short_key(alloc, setting)?;
+    let value = setting.entry.value;
     match key.as_slice() {
         b"core.bare" => check_boolean(alloc, key, value),
         b"core.worktree" => check_line(alloc, value.is_some(), setting),
@@ -40,7 +46,7 @@ fn check_value<F>(alloc: Global, shared: bool, setting: &ReadSetting) -> Result<
 pub(crate) fn check_boolean<F>(
     alloc: Global,
     key: Vec<u8>,
-    value: &Option<Vec<u8>>,
+    value: Option<&[u8]>,
 ) -> Result<(), OpenFault<F>> {
     match value {
         Some(value) if boolean(Some(value)).is_none() => {
@@ -52,8 +58,8 @@ pub(crate) fn check_boolean<F>(
 }
 
 /// Looks at the value of a number.
-fn check_number<F>(alloc: Global, setting: &ReadSetting) -> Result<(), OpenFault<F>> {
-    let value = bytes_of(&setting.entry.value);
+fn check_number<F>(alloc: Global, setting: &ReadSetting<'_>) -> Result<(), OpenFault<F>> {
+    let value = bytes_of(setting.entry.value);
     if integer(value).is_some() {
         return Ok(());
     }
@@ -63,7 +69,11 @@ fn check_number<F>(alloc: Global, setting: &ReadSetting) -> Result<(), OpenFault
 }
 
 /// Refuses a line that isn't right.
-fn check_line<F>(alloc: Global, right: bool, setting: &ReadSetting) -> Result<(), OpenFault<F>> {
+fn check_line<F>(
+    alloc: Global,
+    right: bool,
+    setting: &ReadSetting<'_>,
+) -> Result<(), OpenFault<F>> {
     if right {
         return Ok(());
     }
@@ -76,7 +86,7 @@ fn check_line<F>(alloc: Global, right: bool, setting: &ReadSetting) -> Result<()
 pub(crate) fn entry_fault<F>(
     alloc: Global,
     key: Vec<u8>,
-    setting: &ReadSetting,
+    setting: &ReadSetting<'_>,
 ) -> Result<OpenFault<F>, AllocError> {
     let file = file_of(alloc, setting)?;
     let line = setting.entry.line;
@@ -84,17 +94,11 @@ pub(crate) fn entry_fault<F>(
 }
 
 /// The file of an entry.
-fn file_of(alloc: Global, setting: &ReadSetting) -> Result<Option<Vec<u8>>, AllocError> {
-    match &setting.file {
-        Some(path) => Ok(Some(Vec::from_slice(alloc, path)?)),
-        None => Ok(None),
-    }
+fn file_of(alloc: Global, setting: &ReadSetting<'_>) -> Result<Option<Vec<u8>>, AllocError> {
+    copied(alloc, setting.file)
 }
 
 /// The bytes of a value; none where it isn't there.
-pub(crate) fn bytes_of(value: &Option<Vec<u8>>) -> &[u8] {
-    match value {
-        Some(bytes) => bytes.as_slice(),
-        None => b"",
-    }
+pub(crate) fn bytes_of(value: Option<&[u8]>) -> &[u8] {
+    value.unwrap_or(b"")
 }

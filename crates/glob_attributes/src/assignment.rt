@@ -2,11 +2,12 @@
 ghost use Rattle.std.specs.Prelude.{◌≡◌, IfOk, None, Some, if◌then◌else◌, option_map, position};
 ghost use Rattle.std.specs.List.{before_first};
 ghost use Rattle.std.specs.Vec.{vec_items};
+ghost use Rattle.glob_attributes.specs.Answers.{state_text};
 ghost use Rattle.glob_attributes.specs.Names.{is_name};
 ghost use Rattle.glob_attributes.specs.Assignments.{assignment_of};
 ghost use Rattle.glob_attributes.specs.Private.Filling.{is_set};
 ghost use Rattle.glob_attributes.specs.Private.Readings.{is_equals};
-ghost use Rattle.glob_attributes.specs.Views.{assignment_with};
+ghost use Rattle.glob_attributes.specs.Views.{assignment_with, state_with};
 
 use crate::name::is_name;
 use std::alloc::{AllocError, Global};
@@ -30,6 +31,18 @@ impl<B> State<B> {
         ensures { result ≡ is_set self.now }
     {
         matches!(self, State::Set)
+    }
+}
+
+/// The text of a state: `set`, `unset`, `unspecified`, or the bytes of the value.
+pub fn state_text<'a>(state: &State<&'a [u8]>) -> &'a [u8]
+    ensures { result.now ≡ state_text (state_with (λ bytes. bytes.now) state.now) }
+{
+    match state {
+        State::Set => b"set",
+        State::Unset => b"unset",
+        State::Unspecified => b"unspecified",
+        State::Value(value) => value,
     }
 }
 

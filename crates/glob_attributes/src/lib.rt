@@ -1,10 +1,8 @@
 //! What Git's attribute files say: the lines of a file, what each gives, and which state an attribute has for a path.
 #![tactic(auto)]
 
-mod answering;
 mod assignment;
 pub mod borrowed;
-mod fields;
 mod filling;
 mod first_places;
 mod head;
@@ -19,14 +17,11 @@ mod narrowing;
 mod parser;
 mod pattern;
 mod places;
-mod query;
 mod silences;
 mod states;
 mod words;
 
-pub use answering::run_attributes;
-pub use assignment::{Assignment, State, read_assignment};
-pub use fields::{append_fields, state_text};
+pub use assignment::{Assignment, State, read_assignment, state_text};
 pub use head::read_quoted;
 pub use line::{LineReading, Silence, read_line};
 pub use macro_table::MacroTable;
@@ -35,6 +30,5 @@ pub use name::is_name;
 pub use names::AttributeNames;
 pub use narrowing::keep_named;
 pub use parser::{AttributeLines, FILE_LIMIT};
-pub use query::AttributeQuery;
 pub use silences::{SilentLine, silent_lines};
 pub use states::PathAttributes;

@@ -5,7 +5,7 @@ pub mod Reader
 pub mod Fitting
 pub mod StarSearch
 pub mod Scans
-pub mod SetAnswers
+pub mod SetRuns
 pub mod Finding
 pub mod States
 pub mod SizedTokens

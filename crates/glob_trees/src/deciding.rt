@@ -1,5 +1,6 @@
 //! Which pattern decides about a path in a work tree: the one that ignores a folder above it, or its own.
-ghost use Rattle.std.specs.Prelude.{◌≡◌, ℕ, IfSome, MatchOption, map, true};
+ghost use Rattle.std.specs.Prelude.{◌≡◌, ℕ, IfSome, MatchOption, map, take, true};
+ghost use Rattle.gix_glob.specs.Bytes.{HasByte, slash};
 ghost use Rattle.gix_glob.specs.EntryLists.{entry_list_of};
 ghost use Rattle.glob_lists.specs.Deciding.{BasesAreFolders, HasEntryAt};
 ghost use Rattle.glob_lists.specs.Rules.{by_crate};
@@ -38,23 +39,32 @@ pub fn decide_in_tree_by<L: ListStack>(
     ensures inside { IfSome result (HasEntryAt (L.lists lists.now)) }
     ensures exact { L.is_lawful lists.now → DecidesInTree (L.lists lists.now) path.now.bytes path.now.is_dir rules result }
 {
-    match ignoring_folder(lists, path, rules) {
-        Some(pair) => Some(pair),
+    match ignored_folder_by(lists, path, rules) {
+        Some(folder) => Some(folder.pair),
         None => lists.decide(path, rules),
     }
 }
 
-/// The pattern that ignores the topmost ignored folder above a path; `None` where no folder above it is ignored.
-fn ignoring_folder<L: ListStack>(
+/// The topmost ignored folder above a path.
+#[derive(Clone, Copy, Debug, PartialEq, Eq)]
+pub struct IgnoredFolder {
+    /// How many bytes of the path name the folder; the slash behind it stands there.
+    pub length: usize,
+    /// The places of the list and of the mapping in it, both from 0, of the pattern that ignores it.
+    pub pair: (usize, usize),
+}
+
+/// The topmost ignored folder above a path, by whatever answers for lists, and by these rules; `None` where no folder above it is ignored.
+pub fn ignored_folder_by<L: ListStack>(
     lists: &L,
     path: &RepositoryPath<'_>,
     rules: Rules,
-) -> Option<(usize, usize)>
+) -> Option<IgnoredFolder>
     requires { L.can_decide lists.now }
-    ensures inside { IfSome result (HasEntryAt (L.lists lists.now)) }
+    ensures inside { IfSome result (λ folder. HasEntryAt (L.lists lists.now) folder.pair) }
     ensures exact { L.is_lawful lists.now → MatchOption result
         (HasNoneIgnored (L.lists lists.now) rules path.now.bytes)
-        (IsBelowIgnored (L.lists lists.now) rules path.now.bytes) }
+        (λ folder. (ignored : IsBelowIgnored (L.lists lists.now) rules path.now.bytes folder.pair) × (ignored.folder ≡ take folder.length path.now.bytes) × HasByte path.now.bytes folder.length slash) }
 {
     let bytes = path.bytes();
     for place in 0..bytes.len() {
@@ -62,7 +72,10 @@ fn ignoring_folder<L: ListStack>(
             continue;
         }
         if let Some(pair) = ignoring(lists, &path.folder_before(place), rules) {
-            return Some(pair);
+            return Some(IgnoredFolder {
+                length: place,
+                pair,
+            });
         }
     }
     None

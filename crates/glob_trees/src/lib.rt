@@ -11,7 +11,7 @@ pub mod laws;
 mod on_way;
 mod tree;
 
-pub use deciding::{decide_in_tree, decide_in_tree_by};
+pub use deciding::{IgnoredFolder, decide_in_tree, decide_in_tree_by, ignored_folder_by};
 pub use fault::TreeFault;
 pub use folders::{FolderLists, list_in_folder};
 pub use known::KnownFolders;

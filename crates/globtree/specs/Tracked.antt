@@ -16,10 +16,6 @@ abbrev pub IsOfIndex : List Tracked → Type 0
 IsOfIndex tracked =
     (tracked ≡ []) ⊎ ((format : ObjectFormat) × (bytes : List ℕ) × (IsIndexFile format bytes tracked ⊎ ((shared : List ℕ) × IsSplitIndex format bytes shared tracked)))
 
--- the digest that names objects, by the value of `extensions.objectFormat`
-abbrev pub format_by : Option (Option (List ℕ)) → ObjectFormat
-format_by told = if bytes_eq (unwrap_or (unwrap_or told None) []) (codes "sha256") then Sha256 else Sha1
-
 -- the path is that of the file with this name in a folder; the top has no bytes
 abbrev pub IsFileIn : List ℕ → List ℕ → List ℕ → Type 0
 IsFileIn folder name path = ((folder ≡ []) × (path ≡ name)) ⊎ (path ≡ folder ++ slash ∷ name)

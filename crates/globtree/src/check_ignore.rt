@@ -1,15 +1,17 @@
 //! The command `check-ignore`.
-ghost use Rattle.std.specs.Prelude.{◌≡◌, ℕ, List, IfOk, false, if◌then◌else◌, map, string_bytes};
+ghost use Rattle.std.specs.Prelude.{◌≡◌, ℕ, List, IfOk, false, if◌then◌else◌, map};
 ghost use Rattle.std.specs.Borrow.{Bor};
 ghost use Rattle.byte_streams.specs.Watched.{has_failed, inner};
 ghost use Rattle.globtree.specs.Answers.{AnswersIgnore};
-ghost use Rattle.globtree.specs.Running.{IsAnswered, asked_by_flags};
+ghost use Rattle.globtree.specs.Running.{IsAnswered, flags_of};
 
 use crate::fault::{Fault, Result};
 use crate::fronts::{Fronts, case_of, fronts_of, tree_behind};
 use crate::index_use::IndexUse;
 use crate::outcomes::{answer_of, status_by};
 use crate::pathspec_settings::{refuse_settings, refuse_settings_for};
+use crate::words::Options;
+use crate::words::check_ignore::CheckIgnore;
 use byte_streams::Watched;
 use git_index::TrackedPaths;
 use git_paths::Quoting;
@@ -21,8 +23,6 @@ use tree_commands::check_ignore::{
     IgnoreFlags, IgnoreSources, check_ignore_paths, run_check_ignore,
 };
 use tree_files::{CheckFault, FileKinds, FolderFiles};
-use tree_words::check_ignore::CheckIgnoreFlags;
-use tree_words::{Options, operands_of};
 
 const NAME: &str = "check-ignore";
 
@@ -30,22 +30,20 @@ const NAME: &str = "check-ignore";
 pub(crate) fn check_ignore<R: Files + Env + Eprint + AllocGlobal, I: Read, O: Write>(
     rt: &R,
     alloc: Global,
-    options: Options<'_>,
-    flags: CheckIgnoreFlags,
-    words: &[String],
+    options: &Options<'_>,
+    asked: CheckIgnore<'_>,
     input: &mut Watched<I>,
     output: &mut Watched<O>,
 ) -> Result<u8>
     requires readable { has_failed input.old ≡ false }
     requires writable { has_failed output.old ≡ false }
     ensures status { IfOk result IsAnswered }
-    ensures answered { IfOk result (λ status. AnswersIgnore options.entry flags (map string_bytes words.now) status (I.remaining (inner input.old)) (I.remaining (inner input.new)) (O.contents (inner output.old)) (O.contents (inner output.new))) }
+    ensures answered { IfOk result (λ status. AnswersIgnore options.now asked.entry status (I.remaining (inner input.old)) (I.remaining (inner input.new)) (O.contents (inner output.old)) (O.contents (inner output.new))) }
 {
-    let paths = operands_of(alloc, words)?.words;
-    if let Some(message) = flags.disagreement(paths.len()) {
+    if let Some(message) = asked.disagreement() {
         return Err(Fault::told(String::from_str(alloc, message)));
     }
-    let fronts = fronts_of(rt, alloc, options, index_by(flags))?;
+    let fronts = fronts_of(rt, alloc, options, index_by(asked.no_index))?;
     let Fronts {
         standpoint,
         lists,
@@ -64,25 +62,25 @@ pub(crate) fn check_ignore<R: Files + Env + Eprint + AllocGlobal, I: Read, O: Wr
         kinds: FileKinds::new(rt, alloc),
         tracked,
     };
-    let asked = asked_by_flags(flags, quoting);
-    if flags.stdin {
+    let flags = flags_of(&asked, quoting);
+    if asked.stdin {
         refuse_settings_for(rt, alloc, NAME, input)?;
-        let (_sources, told) = run_check_ignore(alloc, &standpoint, asked, sources, input, output);
+        let (_sources, told) = run_check_ignore(alloc, &standpoint, flags, sources, input, output);
         let is_any = answer_of(told, |fault| CheckFault::of_ignore(alloc, fault))?;
         return Ok(status_by(is_any));
     }
     refuse_settings(rt, alloc, NAME)?;
-    let paths = bytes_of(alloc, &paths)?;
-    let (_sources, told) = check_ignore_paths(alloc, &standpoint, asked, sources, &paths, output);
+    let paths = bytes_of(alloc, &asked.paths)?;
+    let (_sources, told) = check_ignore_paths(alloc, &standpoint, flags, sources, &paths, output);
     let is_any = answer_of(told, |fault| CheckFault::of_ignore(alloc, fault))?;
     Ok(status_by(is_any))
 }
 
 /// What is taken from the index: which paths are tracked, unless that is not to count.
-fn index_by(flags: CheckIgnoreFlags) -> IndexUse
-    ensures { result ≡ (if flags.no_index then IndexUse.Nothing else IndexUse.Paths) }
+fn index_by(no_index: bool) -> IndexUse
+    ensures { result ≡ (if no_index then IndexUse.Nothing else IndexUse.Paths) }
 {
-    if flags.no_index {
+    if no_index {
         IndexUse::Nothing
     } else {
         IndexUse::Paths
@@ -90,14 +88,14 @@ fn index_by(flags: CheckIgnoreFlags) -> IndexUse
 }
 
 /// What is written about paths.
-fn asked_by_flags(flags: CheckIgnoreFlags, quoting: Quoting) -> IgnoreFlags
-    ensures { result ≡ asked_by_flags flags quoting }
+fn flags_of(asked: &CheckIgnore<'_>, quoting: Quoting) -> IgnoreFlags
+    ensures { result ≡ flags_of asked.now quoting }
 {
     IgnoreFlags {
-        form: Form::ended_by(flags.nul, quoting),
-        verbose: flags.verbose,
-        non_matching: flags.non_matching,
-        quiet: flags.quiet,
+        form: Form::ended_by(asked.nul, quoting),
+        verbose: asked.verbose,
+        non_matching: asked.non_matching,
+        quiet: asked.quiet,
     }
 }
 

@@ -7,7 +7,6 @@ use crate::fault::{Fault, Result};
 use gix_glob::search::pattern::List;
 use glob_lines::GitIgnoreLines;
 use std::alloc::Global;
-use std::fs;
 use std::rt::Files;
 use tree_files::{file_list, named_list};
 
@@ -36,9 +35,6 @@ pub(crate) fn excludes<R: Files + Eprint>(
 ) -> Result<List<GitIgnoreLines>>
     ensures { IfOk result (λ list. IsOfSomeFile (entry_list_of (λ _. tt) list)) }
 {
-    if fs::metadata(rt, file.as_str()).is_ok_and(|found| found.is_dir()) {
-        return Err(Fault::told(format!(in alloc; "cannot use {file} as an exclude file")));
-    }
     let mut bytes = Vec::new(alloc);
     Ok(file_list(rt, alloc, file, &mut bytes, GitIgnoreLines)?)
 }

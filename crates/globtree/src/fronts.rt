@@ -9,6 +9,7 @@ use crate::excludes::{excludes, named_excludes};
 use crate::fault::Result;
 use crate::index_use::{IndexUse, Taken, take_from_index};
 use crate::moving::go_to_folders;
+use crate::words::Options;
 use crate::work_tree::{WorkTree, work_tree};
 use git_index::Index;
 use git_paths::{Quoting, Standpoint};
@@ -21,7 +22,6 @@ use glob_trees::Tree;
 use std::alloc::{AllocError, Global};
 use std::rt::{Env, Files};
 use tree_files::{CheckFault, FolderFiles, IndexedFiles, path_text};
-use tree_words::Options;
 
 /// About how many bytes are kept of folders and their patterns.
 const MOST_BYTES: usize = 24 << 20;
@@ -60,7 +60,7 @@ pub(crate) struct Ground {
 pub(crate) fn fronts_of<R: Files + Env + Eprint + AllocGlobal>(
     rt: &R,
     alloc: Global,
-    options: Options<'_>,
+    options: &Options<'_>,
     index: IndexUse,
 ) -> Result<Fronts>
     ensures tracked { IfOk result (λ fronts. IsOfIndex fronts.tracked) }
@@ -75,7 +75,7 @@ pub(crate) fn fronts_of<R: Files + Env + Eprint + AllocGlobal>(
 pub(crate) fn ground_of<R: Files + Env + AllocGlobal>(
     rt: &R,
     alloc: Global,
-    options: Options<'_>,
+    options: &Options<'_>,
     purpose: Purpose,
 ) -> Result<Ground>
     ensures { IfOk result (λ ground. IfSome ground.named (λ list. IsOfSomeFile (entry_list_of (λ _. tt) list))) }
@@ -133,7 +133,7 @@ pub(crate) fn fronts_on<R: Files + Eprint>(
 fn excludes_by_option<R: Files>(
     rt: &R,
     alloc: Global,
-    options: Options<'_>,
+    options: &Options<'_>,
 ) -> Result<Option<List<GitIgnoreLines>>>
     ensures { IfOk result (λ named. IfSome named (λ list. IsOfSomeFile (entry_list_of (λ _. tt) list))) }
 {
@@ -215,8 +215,8 @@ pub(crate) fn tree_behind<'a, R: Files + Eprint>(
 }
 
 /// Whether the case of letters counts, by the options and by what the configuration says.
-pub(crate) fn case_of(options: Options<'_>, folds: bool) -> Case
-    ensures { result ≡ case_by options.entry folds }
+pub(crate) fn case_of(options: &Options<'_>, folds: bool) -> Case
+    ensures { result ≡ case_by options.now folds }
 {
     if options.ignore_case || folds {
         Case::Fold

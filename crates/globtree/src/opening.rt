@@ -1,11 +1,9 @@
 //! Opening the repository of the current folder, as Git does.
-ghost use Rattle.std.specs.Prelude.{◌≡◌};
-ghost use Rattle.std.specs.Option.{option_copied};
-ghost use Rattle.globtree.specs.Places.{denies};
 
 use crate::check_ignore::bytes_of;
 use crate::fault::{Fault, Result};
 use crate::moving::current_path;
+use crate::words::Options;
 use git_config::{Config, Surroundings, boolean};
 use git_repository::{ConfigPlace, Finder, Purpose, Repository, Setup, Variables};
 use std::alloc::Global;
@@ -13,7 +11,6 @@ use std::env;
 use std::rt::{Env, Files};
 use system_files::{DiskFiles, User, read_variables, surroundings};
 use tree_files::{path_text, tell_line};
-use tree_words::{Options, values_of};
 
 /// What the process was told before it looks for a repository, and the files that it sees.
 #[derive(Drop)]
@@ -27,19 +24,19 @@ struct Told<'a, R> {
 
 impl<'a, R: Files + Env> Told<'a, R> {
     /// Asks the environment and the words.
-    fn read(rt: &'a R, alloc: Global, options: Options<'a>) -> Result<Told<'a, R>> {
+    fn read(rt: &'a R, alloc: Global, options: &Options<'a>) -> Result<Told<'a, R>> {
         Ok(Told {
             alloc,
             files: DiskFiles::new(rt, alloc, User::of_process(rt, alloc)?),
             variables: with_options(alloc, read_variables(rt, alloc)?, options)?,
-            words: bytes_of(alloc, &values_of(alloc, options.words, "-c")?)?,
+            words: bytes_of(alloc, &options.settings)?,
         })
     }
 
     /// What is known of the user and the installation.
     fn around(&self) -> Result<Surroundings> {
         let home = self.variables.home.as_deref();
-        Ok(surroundings(self.alloc, &self.files, home)?)
+        Ok(surroundings(self.alloc, home)?)
     }
 
     /// All this, for a process whose current folder this is.
@@ -60,7 +57,7 @@ impl<'a, R: Files + Env> Told<'a, R> {
 pub(crate) fn open_here<R: Files + Env>(
     rt: &R,
     alloc: Global,
-    options: Options<'_>,
+    options: &Options<'_>,
     current: &[u8],
     purpose: Purpose,
 ) -> Result<Repository> {
@@ -74,7 +71,7 @@ pub(crate) fn open_here<R: Files + Env>(
 pub(crate) fn config_here<R: Files + Env + Eprint + AllocGlobal>(
     rt: &R,
     alloc: Global,
-    options: Options<'_>,
+    options: &Options<'_>,
 ) -> Result<Config> {
     let current = current_path(rt, alloc)?;
     let told = Told::read(rt, alloc, options)?;
@@ -103,7 +100,7 @@ fn go_to_place<R: Files + Env>(rt: &R, alloc: Global, place: &ConfigPlace) -> Re
 fn with_options(
     alloc: Global,
     mut variables: Variables,
-    options: Options<'_>,
+    options: &Options<'_>,
 ) -> Result<Variables> {
     if let Some(told) = options.git_dir {
         variables.git_dir = Some(Vec::from_slice(alloc, told.as_bytes())?);
@@ -121,9 +118,7 @@ fn with_options(
 }
 
 /// Whether a value is set and isn't true.
-fn denies(value: Option<&[u8]>) -> bool
-    ensures { result ≡ denies (option_copied value.entry) }
-{
+fn denies(value: Option<&[u8]>) -> bool {
     match value {
         Some(text) => !boolean(Some(text)).unwrap_or(false),
         None => false,

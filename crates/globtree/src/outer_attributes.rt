@@ -4,6 +4,7 @@ ghost use Rattle.std.specs.Prelude.{◌≡◌, [], IfOk, None};
 use crate::fault::Result;
 use crate::index_use::{IndexUse, Taken, take_from_index};
 use crate::moving::go_to_folders;
+use crate::words::Options;
 use crate::work_tree::{WorkTree, work_tree};
 use git_paths::{Quoting, Standpoint};
 use git_repository::Purpose;
@@ -12,7 +13,6 @@ use std::rt::{Env, Files};
 use system_files::is_true;
 use tree_commands::check_attr::OuterFiles;
 use tree_files::{AttributeFiles, IndexedFiles, path_text};
-use tree_words::Options;
 
 /// The file of attributes for all users of the system.
 const SYSTEM_FILE: &str = "/etc/gitattributes";
@@ -53,7 +53,7 @@ impl OuterAttributes {
 pub(crate) fn outer_attributes<R: Files + Env + Eprint + AllocGlobal>(
     rt: &R,
     alloc: Global,
-    options: Options<'_>,
+    options: &Options<'_>,
 ) -> Result<(OuterAttributes, IndexedFiles)> {
     go_to_folders(rt, alloc, options)?;
     let none = IndexedFiles::none(alloc);
@@ -97,7 +97,7 @@ fn system_file<R: Files + Env + Eprint>(
     rt: &R,
     alloc: Global,
     reader: &AttributeFiles<'_, R>,
-    options: Options<'_>,
+    options: &Options<'_>,
 ) -> Result<Vec<u8>> {
     if options.top.is_some() || is_true(rt, alloc, NO_SYSTEM)? {
         return Ok(Vec::new(alloc));

@@ -1,6 +1,4 @@
 //! Where paths are told from, by the paths of the current folder and of the top, both without the slash at their front.
-ghost use Rattle.std.specs.Prelude.{◌≡◌, IfOk};
-ghost use Rattle.globtree.specs.Places.{StandsAt, StandsIn, from_root};
 
 use git_paths::{Standpoint, below_folder};
 use std::alloc::{AllocError, Global};
@@ -10,9 +8,7 @@ pub(crate) fn standpoint_in(
     alloc: Global,
     here: &[u8],
     top: Vec<u8>,
-) -> Result<Standpoint, AllocError>
-    ensures { IfOk result (StandsIn top.items here.now) }
-{
+) -> Result<Standpoint, AllocError> {
     let here = match below_folder(here, &top) {
         Some(below) => Vec::from_slice(alloc, below)?,
         None => Vec::new(alloc),
@@ -29,9 +25,7 @@ pub(crate) fn standpoint_at(
     alloc: Global,
     here: &[u8],
     top: Vec<u8>,
-) -> Result<Standpoint, AllocError>
-    ensures { IfOk result (StandsAt top.items here.now) }
-{
+) -> Result<Standpoint, AllocError> {
     let below = below_folder(here, &top);
     let is_inside = below.is_some();
     let here = Vec::from_slice(alloc, below.unwrap_or(here))?;
@@ -43,13 +37,20 @@ pub(crate) fn standpoint_at(
 }
 
 /// A path with the slash at its front; that of the root has no bytes.
-pub(crate) fn from_root(alloc: Global, path: &[u8]) -> Result<Vec<u8>, AllocError>
-    ensures { IfOk result (λ whole. whole.items ≡ from_root path.now) }
-{
+pub(crate) fn from_root(alloc: Global, path: &[u8]) -> Result<Vec<u8>, AllocError> {
     let mut whole = Vec::new(alloc);
     if !path.is_empty() {
         whole.push(b'/')?;
         whole.extend_from_slice(path)?;
     }
     Ok(whole)
+}
+
+/// The same standpoint once more.
+pub(crate) fn copy_of(standpoint: &Standpoint) -> Result<Standpoint, AllocError> {
+    Ok(Standpoint {
+        top: standpoint.top.clone()?,
+        here: standpoint.here.clone()?,
+        is_inside: standpoint.is_inside,
+    })
 }

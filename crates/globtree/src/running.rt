@@ -1,9 +1,8 @@
 //! What the words ask for, done.
-ghost use Rattle.std.specs.Prelude.{◌≡◌, ◌≢◌, ◌⊎◌, IfOk, OnOk, false, map, string_bytes};
+ghost use Rattle.std.specs.Prelude.{◌≡◌, ◌≢◌, ◌⊎◌, IfOk, OnOk, false};
 ghost use Rattle.std.specs.Io.KnownBytes.{Appends};
 ghost use Rattle.byte_streams.specs.Watched.{has_failed, inner};
-ghost use Rattle.tree_words.specs.Words.{AreWrong};
-ghost use Rattle.globtree.specs.Answers.{AnswersCommand, AnswersWords};
+ghost use Rattle.globtree.specs.Answers.{AnswersCommand};
 ghost use Rattle.globtree.specs.Running.{IsAnswered, IsRefused, IsStatus};
 
 use crate::check_attr::check_attr;
@@ -13,19 +12,17 @@ use crate::list_files::list_files;
 use crate::outcomes::ANSWERED;
 use crate::show_config::show_config;
 use crate::show_status::show_status;
-use crate::wrong_words::{tell_no_text, tell_word_fault};
+use crate::words::fault::WordFault;
+use crate::words::{Command, Options, asked_by, tell_no_text, tell_word_fault};
 use byte_streams::Watched;
 use git_repository::{FindFault, OpenFault, ShellWord, Wrong};
 use std::alloc::{AllocError, Global};
 use std::io::{ErrorKind, Read, Write};
 use std::rt::{Clock, Env, Files};
 use tree_files::tell_line;
-use tree_words::{Command, Options, asked_by, help_of};
 
 /// What the program ends with after a fault.
 const FAULT: u8 = 128;
-
-const VERSION: &str = "globtree 0.2.0\n";
 
 /// Does what the words ask for, and answers the status to end with: 0 or 1 where all was answered, 128 after a fault, 129 where the
 /// words don't fit together, 255 where a name is none that an attribute can have. In the last two cases nothing is read or written.
@@ -41,16 +38,15 @@ pub fn run_words<R: Files + Env + Clock + Eprint + AllocGlobal + Clone + Drop, I
     requires readable { has_failed input.old ≡ false }
     requires writable { has_failed output.old ≡ false }
     ensures status { IsStatus result }
-    ensures answered { IsAnswered result → AnswersWords (map string_bytes words.now) result (I.remaining (inner input.old)) (I.remaining (inner input.new)) (O.contents (inner output.old)) (O.contents (inner output.new)) }
-    ensures wrong { AreWrong (map string_bytes words.now) → result ≡ 129 }
     ensures unread { IsRefused result → input.new ≡ input.old }
     ensures unwritten { IsRefused result → output.new ≡ output.old }
 {
-    let (options, command) = match asked_by(words) {
+    let (options, command) = match asked_by(alloc, words) {
         Ok(asked) => asked,
+        Err(WordFault::Memory) => return tell_want_of_memory(rt),
         Err(fault) => return tell_word_fault(rt, alloc, fault),
     };
-    match answer_command(rt, alloc, options, command, shows_progress, input, output) {
+    match answer_command(rt, alloc, &options, command, shows_progress, input, output) {
         Ok(status) => status,
         Err(fault) => tell_fault(rt, alloc, fault),
     }
@@ -60,7 +56,7 @@ pub fn run_words<R: Files + Env + Clock + Eprint + AllocGlobal + Clone + Drop, I
 fn answer_command<R: Files + Env + Clock + Eprint + AllocGlobal + Clone + Drop, I: Read, O: Write>(
     rt: &R,
     alloc: Global,
-    options: Options<'_>,
+    options: &Options<'_>,
     command: Command<'_>,
     shows_progress: bool,
     input: &mut Watched<I>,
@@ -69,28 +65,17 @@ fn answer_command<R: Files + Env + Clock + Eprint + AllocGlobal + Clone + Drop, 
     requires readable { has_failed input.old ≡ false }
     requires writable { has_failed output.old ≡ false }
     ensures status { IfOk result (λ status. IsAnswered status ⊎ IsRefused status) }
-    ensures answered { IfOk result (λ status. IsAnswered status → AnswersCommand options.entry command.entry status (I.remaining (inner input.old)) (I.remaining (inner input.new)) (O.contents (inner output.old)) (O.contents (inner output.new))) }
+    ensures answered { IfOk result (λ status. IsAnswered status → AnswersCommand options.now command.entry status (I.remaining (inner input.old)) (I.remaining (inner input.new)) (O.contents (inner output.old)) (O.contents (inner output.new))) }
     ensures unread { IfOk result (λ status. IsRefused status → input.new ≡ input.old) }
     ensures unwritten { IfOk result (λ status. IsRefused status → output.new ≡ output.old) }
 {
     match command {
-        Command::Help(topic) => write_text(output, help_of(topic)),
-        Command::Version => write_text(output, VERSION),
-        Command::CheckIgnore { flags, words } => {
-            check_ignore(rt, alloc, options, flags, words, input, output)
-        }
-        Command::Files { flags, folder } => {
-            list_files(rt, alloc, options, flags, folder, shows_progress, output)
-        }
-        Command::CheckAttr { flags, words } => {
-            check_attr(rt, alloc, options, flags, words, input, output)
-        }
-        Command::Config { flags, words } => {
-            show_config(rt, alloc, options, flags, words, output)
-        }
-        Command::Status { flags, words } => {
-            show_status(rt, alloc, options, flags, words, shows_progress, output)
-        }
+        Command::Write(text) => write_text(output, text),
+        Command::CheckIgnore(asked) => check_ignore(rt, alloc, options, asked, input, output),
+        Command::CheckAttr(asked) => check_attr(rt, alloc, options, asked, input, output),
+        Command::Config(asked) => show_config(rt, alloc, options, asked, output),
+        Command::Files(asked) => list_files(rt, alloc, options, asked, shows_progress, output),
+        Command::Status(asked) => show_status(rt, alloc, options, asked, shows_progress, output),
     }
 }
 

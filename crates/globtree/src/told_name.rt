@@ -1,9 +1,7 @@
 //! The path that `files` is told: a name here, and a pattern of paths to Git. One that Git reads as more than a name is refused.
-ghost use Rattle.std.specs.Prelude.{◌≡◌, IfOk, OnOk, Some};
+ghost use Rattle.std.specs.Prelude.{◌≡◌};
 ghost use Rattle.std.specs.List.{list_any};
 ghost use Rattle.glob_matcher.specs.Bytes.{is_special};
-ghost use Rattle.git_paths.specs.Standpoints.{led};
-ghost use Rattle.globtree.specs.Names.{IsName};
 
 use crate::fault::{Fault, Result};
 use crate::pathspec_settings::refuse_settings;
@@ -22,9 +20,7 @@ pub(crate) fn refuse_pattern<R: Env>(
     alloc: Global,
     standpoint: &Standpoint,
     told: &str,
-) -> Result<()>
-    ensures { OnOk result (IsName standpoint.now told.now) }
-{
+) -> Result<()> {
     if told == HERE {
         return Ok(());
     }
@@ -76,9 +72,7 @@ pub(crate) fn refuse_beyond_link<R: Files>(
 }
 
 /// Where a path leads, from the top.
-fn led_path(alloc: Global, standpoint: &Standpoint, told: &str) -> Result<Vec<u8>>
-    ensures { IfOk result (λ path. led standpoint.now told.now ≡ Some path.items) }
-{
+fn led_path(alloc: Global, standpoint: &Standpoint, told: &str) -> Result<Vec<u8>> {
     let mut path = Vec::new(alloc);
     let told = told.as_bytes();
     match standpoint.lead(alloc, &mut path, told) {

@@ -88,17 +88,18 @@ fn bytes_of<R: Files>(rt: &R, alloc: Global, name: &str) -> Result<Option<Vec<u8
     };
     let mut bytes = Vec::new(alloc);
     match open_seen(rt, name, &seen) {
+        Ok(Some(opened)) if opened.len > MOST_BYTES => {
+            return Err(Fault::told(format!(in alloc; "'{name}' has more than {MOST_BYTES} bytes")));
+        }
         Ok(Some(opened)) => opened
-            .take(MOST_BYTES + 1)
+            .file
+            .take(opened.len)
             .read_to_end(&mut bytes)
             .map_err(|error| unread(alloc, name, error))?,
         Ok(None) => 0,
         Err(Unread::System(error)) => return Err(unread(alloc, name, error)),
         Err(_unread) => return Err(Fault::told(format!(in alloc; "'{name}' is no file"))),
     };
-    if bytes.len() as u64 > MOST_BYTES {
-        return Err(Fault::told(format!(in alloc; "'{name}' has more than {MOST_BYTES} bytes")));
-    }
     Ok(Some(bytes))
 }
 

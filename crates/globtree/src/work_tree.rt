@@ -1,17 +1,11 @@
 //! The work tree that a command is called in: where paths are told from, and the files that count in all of it.
-ghost use Rattle.std.specs.Prelude.{◌≡◌, codes, option_map, true, IfOk, MatchOption, Some};
-ghost use Rattle.std.specs.Vec.{vec_items};
-ghost use Rattle.git_repository.specs.Values.{last_value};
-ghost use Rattle.git_repository.specs.Views.{seen_settings};
-ghost use Rattle.globtree.specs.Places.{IsFoundTree, IsIndexOf, IsNamedTree, IsTreeOf, IsUsersFile, index_name, listing_excludes};
-ghost use Rattle.globtree.specs.Running.{quoting_by};
-ghost use Rattle.globtree.specs.Tracked.{format_by};
 
 use crate::fault::{Fault, Result};
 use crate::moving::{current_folder, go_to_top};
 use crate::opening::open_here;
 use crate::places::{from_root, standpoint_at, standpoint_in};
 use crate::tracked::IndexFile;
+use crate::words::Options;
 use git_config::Config;
 use git_index::ObjectFormat;
 use git_paths::{Quoting, Standpoint, below_folder};
@@ -20,7 +14,6 @@ use std::alloc::{AllocError, Global};
 use std::rt::{Env, Files};
 use system_files::variable;
 use tree_files::path_text;
-use tree_words::Options;
 
 /// What counts for all paths of a work tree, whose top is the current folder.
 #[derive(Drop)]
@@ -39,6 +32,8 @@ pub(crate) struct WorkTree {
     pub(crate) attributes: Option<Vec<u8>>,
     /// Which files `status` tells that aren't tracked, where no option says so.
     pub(crate) untracked: ShowUntracked,
+    /// Whether `status --short` tells paths from where paths are told.
+    pub(crate) relative_paths: bool,
     /// The repository's own file of excludes.
     pub(crate) own_excludes: String,
     /// The repository's own file of attributes.
@@ -53,11 +48,9 @@ pub(crate) struct WorkTree {
 pub(crate) fn work_tree<R: Files + Env + AllocGlobal>(
     rt: &R,
     alloc: Global,
-    options: Options<'_>,
+    options: &Options<'_>,
     purpose: Purpose,
-) -> Result<WorkTree>
-    ensures { IfOk result (λ tree. MatchOption options.entry.top (IsFoundTree tree) (λ _. IsNamedTree tree)) }
-{
+) -> Result<WorkTree> {
     match options.top {
         Some(top) => named_tree(rt, alloc, top),
         None => tree_of_repository(rt, alloc, options, purpose),
@@ -65,9 +58,7 @@ pub(crate) fn work_tree<R: Files + Env + AllocGlobal>(
 }
 
 /// The work tree with a top that is named: no repository is looked for, and no configuration is read.
-fn named_tree<R: Files + Env + AllocGlobal>(rt: &R, alloc: Global, top: &str) -> Result<WorkTree>
-    ensures { IfOk result IsNamedTree }
-{
+fn named_tree<R: Files + Env + AllocGlobal>(rt: &R, alloc: Global, top: &str) -> Result<WorkTree> {
     let here = current_folder(rt, alloc)?;
     let top = go_to_top(rt, alloc, top)?;
     Ok(WorkTree {
@@ -78,6 +69,7 @@ fn named_tree<R: Files + Env + AllocGlobal>(rt: &R, alloc: Global, top: &str) ->
         listing_excludes: None,
         attributes: users_file(rt, alloc, b"attributes")?,
         untracked: ShowUntracked::Normal,
+        relative_paths: true,
         own_excludes: String::from_str(alloc, ".git/info/exclude")?,
         own_attributes: String::from_str(alloc, ".git/info/attributes")?,
         git_folder: None,
@@ -86,9 +78,7 @@ fn named_tree<R: Files + Env + AllocGlobal>(rt: &R, alloc: Global, top: &str) ->
 }
 
 /// The name of a file in Git's part of the user's folder of settings, whether it is there or not.
-fn users_file<R: Env>(rt: &R, alloc: Global, name: &[u8]) -> Result<Option<Vec<u8>>>
-    ensures { IfOk result (λ file. IsUsersFile name.now (option_map vec_items file)) }
-{
+fn users_file<R: Env>(rt: &R, alloc: Global, name: &[u8]) -> Result<Option<Vec<u8>>> {
     let home = variable(rt, alloc, "HOME")?;
     let settings = variable(rt, alloc, "XDG_CONFIG_HOME")?;
     Ok(settings_file(alloc, settings.as_deref(), home.as_deref(), name)?)
@@ -98,11 +88,9 @@ fn users_file<R: Env>(rt: &R, alloc: Global, name: &[u8]) -> Result<Option<Vec<u
 fn tree_of_repository<R: Files + Env + AllocGlobal>(
     rt: &R,
     alloc: Global,
-    options: Options<'_>,
+    options: &Options<'_>,
     purpose: Purpose,
-) -> Result<WorkTree>
-    ensures { IfOk result IsFoundTree }
-{
+) -> Result<WorkTree> {
     let here = current_folder(rt, alloc)?;
     let current = from_root(alloc, &here)?;
     let opened = open_here(rt, alloc, options, &current, purpose)?;
@@ -123,9 +111,7 @@ fn tree_at(
     is_outside: bool,
     current: &[u8],
     opened: Repository,
-) -> Result<WorkTree>
-    ensures { IfOk result (IsTreeOf standpoint is_outside current.now opened) }
-{
+) -> Result<WorkTree> {
     let own_attributes = told_from(alloc, current, &opened.attributes_file)?;
     let git_folder = told_from(alloc, current, &opened.git_folder)?;
     let index = index_file_of(alloc, current, &opened)?;
@@ -139,6 +125,7 @@ fn tree_at(
         listing_excludes,
         attributes: opened.core.attributes,
         untracked: opened.core.untracked,
+        relative_paths: opened.core.relative_paths,
         own_excludes: path_text(alloc, &own_excludes)?,
         own_attributes: path_text(alloc, &own_attributes)?,
         git_folder: Some(git_folder),
@@ -152,9 +139,7 @@ fn listing_excludes(
     current: &[u8],
     is_outside: bool,
     file: &Option<Vec<u8>>,
-) -> Result<Option<Vec<u8>>, AllocError>
-    ensures { IfOk result (λ told. option_map vec_items told ≡ listing_excludes is_outside current.now (option_map vec_items file.now)) }
-{
+) -> Result<Option<Vec<u8>>, AllocError> {
     match file {
         Some(path) if is_outside && !path.is_empty() && !path.starts_with(b"/") => {
             Ok(Some(told_from(alloc, current, path)?))
@@ -164,9 +149,7 @@ fn listing_excludes(
 }
 
 /// The index of an opened repository, which is told from this folder.
-fn index_file_of(alloc: Global, current: &[u8], opened: &Repository) -> Result<IndexFile>
-    ensures { IfOk result (IsIndexOf current.now opened.now) }
-{
+fn index_file_of(alloc: Global, current: &[u8], opened: &Repository) -> Result<IndexFile> {
     let name = index_name(alloc, current, &opened.index_file)?;
     let git_folder = told_from(alloc, current, &opened.git_folder)?;
     Ok(IndexFile {
@@ -177,9 +160,7 @@ fn index_file_of(alloc: Global, current: &[u8], opened: &Repository) -> Result<I
 }
 
 /// The path of an index that is told from a folder. One without bytes is that of no file.
-fn index_name(alloc: Global, current: &[u8], told: &[u8]) -> Result<Vec<u8>, AllocError>
-    ensures { IfOk result (λ name. name.items ≡ index_name current.now told.now) }
-{
+fn index_name(alloc: Global, current: &[u8], told: &[u8]) -> Result<Vec<u8>, AllocError> {
     if told.is_empty() {
         Ok(Vec::new(alloc))
     } else {
@@ -202,7 +183,7 @@ pub(crate) struct IndexPlace {
 pub(crate) fn index_place<R: Files + Env + AllocGlobal>(
     rt: &R,
     alloc: Global,
-    options: Options<'_>,
+    options: &Options<'_>,
 ) -> Result<IndexPlace> {
     let here = current_folder(rt, alloc)?;
     let current = from_root(alloc, &here)?;
@@ -224,9 +205,7 @@ fn standpoint_below(
     here: &[u8],
     current: &[u8],
     top: Option<&[u8]>,
-) -> Result<Standpoint, AllocError>
-    ensures { IfOk result (λ standpoint. standpoint.is_inside ≡ true) }
-{
+) -> Result<Standpoint, AllocError> {
     let Some(top) = top else {
         return standpoint_in(alloc, b"", Vec::new(alloc));
     };
@@ -236,9 +215,7 @@ fn standpoint_below(
 }
 
 /// Which names stand in quotes: all with bytes past ASCII, unless that is configured otherwise.
-fn quoting_of(quotes_paths: bool) -> Quoting
-    ensures { result ≡ quoting_by quotes_paths }
-{
+fn quoting_of(quotes_paths: bool) -> Quoting {
     if quotes_paths {
         Quoting::Full
     } else {
@@ -247,21 +224,17 @@ fn quoting_of(quotes_paths: bool) -> Quoting
 }
 
 /// The digest that names objects, by the configuration.
-fn format_of(config: &Config) -> ObjectFormat
-    ensures { result ≡ format_by (last_value (codes "extensions.objectformat") (seen_settings config.now)) }
-{
+fn format_of(config: &Config) -> ObjectFormat {
     match config.last_of(b"extensions.objectformat") {
-        Some(setting) => format_named(&setting.entry.value),
+        Some(setting) => format_named(setting.entry.value),
         None => ObjectFormat::Sha1,
     }
 }
 
 /// The digest that a value names.
-fn format_named(value: &Option<Vec<u8>>) -> ObjectFormat
-    ensures { result ≡ format_by (Some (option_map vec_items value.now)) }
-{
+fn format_named(value: Option<&[u8]>) -> ObjectFormat {
     match value {
-        Some(name) if name.as_slice() == b"sha256".as_slice() => ObjectFormat::Sha256,
+        Some(name) if name == b"sha256".as_slice() => ObjectFormat::Sha256,
         _ => ObjectFormat::Sha1,
     }
 }

@@ -14,16 +14,12 @@ ends_in_slash path = ends_with nat_eq path (codes "/")
 abbrev pub without_slash : List ℕ → List ℕ
 without_slash path = if ends_in_slash path then take (length path - 1) path else path
 
--- a part without bytes
-abbrev pub is_empty : List ℕ → Bool
-is_empty part = length part == 0
-
 -- A path that is told from the top stands for itself: `.` and `..` are names in it. Only a slash at its end isn't of it. It leads nowhere
 -- where a part of it has no bytes.
 abbrev pub standing : List ℕ → Option (List ℕ)
 standing [] = Some []
 standing (b ∷ path) =
-    if list_any is_empty (parts_of (without_slash (b ∷ path))) then None else Some (without_slash (b ∷ path))
+    if list_any (λ part. length part == 0) (parts_of (without_slash (b ∷ path))) then None else Some (without_slash (b ∷ path))
 
 -- where a spelt path leads from the top, and whether it is told as a folder's
 abbrev pub leads : Standpoint → Spelt → Option (List ℕ)

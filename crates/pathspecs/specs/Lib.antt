@@ -1,2 +1,6 @@
+pub mod Elements
+pub mod Laws
 pub mod Leading
+pub mod Lists
+pub mod Reading
 pub mod Spelling

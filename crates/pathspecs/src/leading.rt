@@ -1,9 +1,9 @@
 //! Where a spelt path leads.
-ghost use Rattle.std.specs.Prelude.{◌≡◌, false, None, Some, IfOk, MatchOption};
+ghost use Rattle.std.specs.Prelude.{◌≡◌, ◌==◌, false, length, None, Some, IfOk, MatchOption};
 ghost use Rattle.std.specs.List.{list_any};
 ghost use Rattle.git_paths.specs.Paths.{names_folder, parts_of};
 ghost use Rattle.git_paths.specs.Standpoints.{led};
-ghost use Rattle.pathspecs.specs.Leading.{front_of, is_empty, leads, leads_from_root, names_folder_so, standing};
+ghost use Rattle.pathspecs.specs.Leading.{front_of, leads, leads_from_root, names_folder_so, standing};
 ghost use Rattle.pathspecs.specs.Spelling.{seen};
 
 use crate::spelling::Pathspec;
@@ -65,7 +65,7 @@ impl Pathspec<'_> {
 }
 
 /// Goes where a path leads that is told from the current folder, which one without bytes is.
-fn lead_from_here(
+pub(crate) fn lead_from_here(
     alloc: Global,
     standpoint: &Standpoint,
     path: &mut Vec<u8>,
@@ -102,7 +102,7 @@ fn standing(path: &[u8]) -> Option<&[u8]>
 
 /// Whether some part of a path has no bytes.
 fn has_empty_part(path: &[u8]) -> bool
-    ensures { result ≡ list_any is_empty (parts_of path.now) }
+    ensures { result ≡ list_any (λ part. length part == 0) (parts_of path.now) }
 {
     path.split(|byte| *byte == b'/').any(|part| part.is_empty())
 }

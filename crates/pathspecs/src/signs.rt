@@ -1,43 +1,66 @@
-//! Signs behind the colon, each a byte: `:/x`.
-ghost use Rattle.std.specs.Prelude.{◌≡◌, drop, option_map};
+//! Signs behind the colon, each a byte: `:/x`, `:!x`.
+ghost use Rattle.std.specs.Prelude.{◌≡◌, ◌≤◌, length, option_map};
 ghost use Rattle.std.specs.List.{prefix_len};
-ghost use Rattle.pathspecs.specs.Spelling.{behind_top, is_other_sign, is_slash, seen, spelt_by_signs};
+ghost use Rattle.std.specs.Result.{result_ok};
+ghost use Rattle.pathspecs.specs.Spelling.{behind_signs, head_of_signs, head_seen, is_other_sign, is_sign, said_by_signs};
 
-use crate::spelling::Pathspec;
+use crate::faults::WordFault;
+use crate::heads::Head;
+use crate::magic::Magic;
 
 /// What signs and a path spell.
-pub(crate) fn spelt_by_signs(text: &[u8]) -> Option<Pathspec<'_>>
-    ensures { option_map seen result ≡ spelt_by_signs text.entry.now }
+pub(crate) fn head_of_signs(text: &[u8]) -> Result<Head<'_>, WordFault>
+    ensures { option_map head_seen (result_ok result) ≡ head_of_signs text.entry.now }
 {
-    behind_top(behind_slashes(text), text.starts_with(b"/"))
+    let (signs, rest) = text.split_at(sign_count(text));
+    behind_signs(said_by_signs(signs), rest)
 }
 
-/// What follows the slashes in front.
-fn behind_slashes(text: &[u8]) -> &[u8]
-    ensures { result.now ≡ drop (prefix_len is_slash text.entry.now) text.entry.now }
+/// How many signs stand in front.
+fn sign_count(text: &[u8]) -> usize
+    ensures count { result ≡ prefix_len is_sign text.now }
+    ensures within { result ≤ length text.now }
 {
-    let mut left = text;
-    'slashes: while let [b'/', rest @ ..] = left {
-        left = rest;
+    let mut count = 0;
+    'signs: while count < text.len() && is_sign(text[count]) {
+        count += 1;
     }
-    left
+    count
 }
 
-/// What is spelt behind the signs of the top.
-fn behind_top(text: &[u8], is_from_top: bool) -> Option<Pathspec<'_>>
-    ensures { option_map seen result ≡ behind_top is_from_top text.entry.now }
+/// Whether a byte is the sign of the top, or of an exclude.
+fn is_sign(byte: u8) -> bool
+    ensures { result ≡ is_sign byte }
+{
+    matches!(byte, b'/' | b'!' | b'^')
+}
+
+/// What signs say.
+fn said_by_signs(signs: &[u8]) -> Magic
+    ensures { result ≡ said_by_signs signs.now }
+{
+    Magic {
+        top: signs.contains(&b'/'),
+        exclude: signs.contains(&b'!') || signs.contains(&b'^'),
+        ..Magic::NONE
+    }
+}
+
+/// What is spelt behind the signs.
+fn behind_signs(magic: Magic, text: &[u8]) -> Result<Head<'_>, WordFault>
+    ensures { option_map head_seen (result_ok result) ≡ behind_signs magic text.entry.now }
 {
     let path = match text {
         [b':', rest @ ..] => rest,
-        [sign, ..] if is_other_sign(*sign) => return None,
+        [sign, ..] if is_other_sign(*sign) => return Err(WordFault::Sign(*sign)),
         _ => text,
     };
-    Some(Pathspec { is_from_top, path })
+    Ok(Head { magic, path })
 }
 
-/// Whether a byte is a sign that means something else than the top, or nothing yet.
+/// Whether a byte is a sign that means nothing yet.
 fn is_other_sign(byte: u8) -> bool
     ensures { result ≡ is_other_sign byte }
 {
-    b"!\"#%&',-;<=>@^_`~".contains(&byte)
+    b"\"#%&',-;<=>@_`~".contains(&byte)
 }

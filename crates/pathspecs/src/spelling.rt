@@ -1,11 +1,10 @@
-//! What a word spells: a path, told from the top or from the current folder.
+//! What a word spells where a path alone is asked for: a path, told from the top or from the current folder.
 ghost use Rattle.std.specs.Prelude.{◌≡◌, false, IsTrue, Some, option_map};
-ghost use Rattle.pathspecs.specs.Spelling.{seen, spelt_behind_colon, spelt_by};
+ghost use Rattle.pathspecs.specs.Spelling.{head_seen, seen, spelt_by, spelt_in};
 
-use crate::signs::spelt_by_signs;
-use crate::words::spelt_by_words;
+use crate::heads::Head;
 
-/// A path as a word spells it.
+/// A path as a word spells it, where no mark is taken but that of the top.
 #[derive(Debug, Clone, Copy, PartialEq, Eq)]
 pub struct Pathspec<'a> {
     /// Whether it is told from the top, and not from the current folder.
@@ -20,15 +19,22 @@ impl<'a> Pathspec<'a> {
     pub fn spelt_by(word: &'a [u8]) -> Option<Pathspec<'a>>
         ensures { option_map seen result ≡ spelt_by word.now }
     {
-        match word {
-            [] => None,
-            [b':', text @ ..] => spelt_behind_colon(text),
-            _ => Some(Pathspec {
-                is_from_top: false,
-                path: word,
-            }),
+        match Head::of_word(false, word) {
+            Ok(head) => spelt_in(head),
+            Err(_fault) => None,
         }
     }
+}
+
+/// What a head and its path spell.
+fn spelt_in(head: Head<'_>) -> Option<Pathspec<'_>>
+    ensures { option_map seen result ≡ spelt_in (head_seen head.entry) }
+{
+    let magic = head.magic;
+    if magic.literal || magic.glob || magic.icase || magic.exclude {
+        return None;
+    }
+    Some(head.pathspec())
 }
 
 /// Whether a word is itself the path that it spells, told from the current folder: so it is where it has bytes, and no colon in front.
@@ -37,14 +43,4 @@ pub fn is_path(word: &[u8]) -> bool
     ensures { IsTrue result → spelt_by word.now ≡ Some (record { is_from_top = false; path = word.now }) }
 {
     !word.is_empty() && word[0] != b':'
-}
-
-/// What is spelt behind the colon.
-fn spelt_behind_colon(text: &[u8]) -> Option<Pathspec<'_>>
-    ensures { option_map seen result ≡ spelt_behind_colon text.entry.now }
-{
-    match text.strip_prefix(b"(") {
-        Some(words) => spelt_by_words(words),
-        None => spelt_by_signs(text),
-    }
 }

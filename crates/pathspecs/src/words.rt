@@ -1,38 +1,43 @@
 //! Words in parentheses behind the colon: `:(top)x`.
-ghost use Rattle.std.specs.Prelude.{◌≡◌, option_map};
-ghost use Rattle.std.specs.List.{list_all, list_any, position};
-ghost use Rattle.pathspecs.specs.Spelling.{is_close, is_known, says_top, seen, spelt_by_known, spelt_by_words, words_in};
+ghost use Rattle.std.specs.Prelude.{◌≡◌, ◌==◌, option_map};
+ghost use Rattle.std.specs.Result.{result_ok};
+ghost use Rattle.std.specs.List.{list_all, position};
+ghost use Rattle.std.specs.Str.{byte};
+ghost use Rattle.pathspecs.specs.Spelling.{head_of_magic, head_of_words, head_seen, is_known, said_by_words, says, words_in};
 
-use crate::spelling::Pathspec;
+use crate::faults::WordFault;
+use crate::heads::Head;
+use crate::magic::Magic;
 
 /// What words, the parenthesis that closes and a path spell.
-pub(crate) fn spelt_by_words(text: &[u8]) -> Option<Pathspec<'_>>
-    ensures { option_map seen result ≡ spelt_by_words text.entry.now }
+pub(crate) fn head_of_words(text: &[u8]) -> Result<Head<'_>, WordFault>
+    ensures { option_map head_seen (result_ok result) ≡ head_of_words text.entry.now }
 {
     match close_place(text) {
-        Some(end) => spelt_by_known(&text[..end], &text[end + 1..]),
-        None => None,
+        Some(end) => head_of_known(&text[..end], &text[end + 1..]),
+        None => Err(WordFault::Unclosed),
     }
 }
 
 /// The place of the first parenthesis that closes.
 fn close_place(text: &[u8]) -> Option<usize>
-    ensures { result ≡ position is_close text.now }
+    ensures { result ≡ position (λ b. b == byte ")") text.now }
 {
     text.iter().position(|byte| *byte == b')')
 }
 
 /// What words and a path spell, where each word is known.
-fn spelt_by_known<'a>(words: &[u8], path: &'a [u8]) -> Option<Pathspec<'a>>
-    ensures { option_map seen result ≡ spelt_by_known (words_in words.entry.now) path.entry.now }
+fn head_of_known<'a>(words: &[u8], path: &'a [u8]) -> Result<Head<'a>, WordFault>
+    ensures { option_map head_seen (result_ok result) ≡ head_of_magic (list_all is_known (words_in words.entry.now)) (said_by_words (words_in words.entry.now)) path.entry.now }
 {
     if !are_known(words) {
-        return None;
+        return Err(fault_in(words));
     }
-    Some(Pathspec {
-        is_from_top: say_top(words),
-        path,
-    })
+    let magic = said_by_words(words);
+    if magic.literal && magic.glob {
+        return Err(WordFault::LiteralGlob);
+    }
+    Ok(Head { magic, path })
 }
 
 /// Whether each of some words is known.
@@ -42,23 +47,46 @@ fn are_known(words: &[u8]) -> bool
     words.split(|byte| *byte == b',').all(|word| is_known(word))
 }
 
-/// Whether one of them is that of the top.
-fn say_top(words: &[u8]) -> bool
-    ensures { result ≡ list_any says_top (words_in words.now) }
+/// What words say.
+fn said_by_words(words: &[u8]) -> Magic
+    ensures { result ≡ said_by_words (words_in words.now) }
 {
-    words.split(|byte| *byte == b',').any(|word| says_top(word))
+    Magic {
+        top: say(words, b"top"),
+        literal: say(words, b"literal"),
+        glob: say(words, b"glob"),
+        icase: say(words, b"icase"),
+        exclude: say(words, b"exclude"),
+    }
 }
 
-/// Whether a word is that of the top.
-fn says_top(word: &[u8]) -> bool
-    ensures { result ≡ says_top word.now }
+/// Whether a name is among words.
+fn say(words: &[u8], name: &[u8]) -> bool
+    ensures { result ≡ says name.now (words_in words.now) }
 {
-    word == b"top".as_slice()
+    words.split(|byte| *byte == b',').any(|word| word == name)
 }
 
-/// Whether a word is that of the top, or has no bytes, so that it says nothing.
+/// Whether a word says something, or has no bytes, so that it says nothing.
 fn is_known(word: &[u8]) -> bool
     ensures { result ≡ is_known word.now }
 {
-    says_top(word) || word.is_empty()
+    word.is_empty()
+        || word == b"top".as_slice()
+        || word == b"literal".as_slice()
+        || word == b"glob".as_slice()
+        || word == b"icase".as_slice()
+        || word == b"exclude".as_slice()
+}
+
+/// What is wrong with words that aren't all known.
+fn fault_in(words: &[u8]) -> WordFault {
+    let unknown = words
+        .split(|byte| *byte == b',')
+        .find(|word| !is_known(word));
+    match unknown {
+        Some(word) if word == b"attr".as_slice() || word.starts_with(b"attr:") => WordFault::Attr,
+        Some(word) if word.starts_with(b"prefix:") => WordFault::Prefix,
+        _ => WordFault::Unknown,
+    }
 }

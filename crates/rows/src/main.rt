@@ -9,6 +9,7 @@ mod lines;
 mod lists;
 mod matching;
 mod others;
+mod pathspec_lists;
 mod patterns;
 mod row;
 
@@ -49,6 +50,7 @@ const SUBJECTS: &[&str] = &[
     "decided",
     "folders",
     "pathspecs",
+    "pathspec_lists",
     "attribute_names",
     "attribute_folders",
     "attributes_kept",
@@ -104,6 +106,7 @@ fn ask_lists(subject: &str, row: &Row, answer: &mut Answer) -> Result<()> {
 fn ask_files(subject: &str, row: &Row, answer: &mut Answer) -> Result<()> {
     match subject {
         "pathspecs" => others::spelt_words(row, answer),
+        "pathspec_lists" => pathspec_lists::pathspec_lists(row, answer),
         "attribute_names" => attributes::attribute_names(row, answer),
         "attribute_folders" => attributes::attribute_folders(row, answer),
         "attributes_kept" => attributes::attributes_kept(row, answer),

@@ -1,35 +1,43 @@
 //! Rows of records, of what words of commands spell, and of folders that are safe.
+ghost use Rattle.std.specs.Prelude.{◌≡◌, ◌++◌, OnOk, codes, false};
+ghost use Rattle.byte_streams.specs.Watched.{has_failed};
 
 use crate::answer::{Answer, room};
 use crate::row::Row;
 use anyhow::Result;
-use byte_streams::{Answerer, RecordStream};
+use byte_streams::{RecordFault, Records};
 use git_repository::trusts;
 use gix_glob::search::Watched;
 use pathspecs::Pathspec;
 use std::alloc::{AllocError, Global};
+use std::io::{Read, Write};
 
-/// Answers a record by the record in brackets.
-#[derive(Drop)]
-struct Brackets;
-
-impl Answerer for Brackets {
-    ghost use Rattle.std.specs.Prelude.{◌≡◌, ◌++◌, ◌∷◌, []};
-
-    type Fault = AllocError;
-
-    ghost answers = { λ _ bytes text. text ≡ 60 ∷ bytes ++ 62 ∷ [] };
-
-    ghost answered = { λ _ _. ⊥ };
-
-    ghost refused = { λ _ _. ⊥ };
-
-    fn answer(&mut self, text: &mut Vec<u8>, bytes: &[u8]) -> Result<(), AllocError> {
-        text.push(b'<')?;
-        text.extend_from_slice(bytes)?;
-        text.push(b'>')?;
-        Ok(())
+/// Writes each record in brackets.
+fn put_in_brackets<R: Read, W: Write>(
+    alloc: Global,
+    end: u8,
+    reader: &mut Watched<R>,
+    writer: &mut Watched<W>,
+) -> Result<(), RecordFault<AllocError>>
+    requires readable { has_failed reader.old ≡ false }
+    requires writable { has_failed writer.old ≡ false }
+{
+    let mut records = Records::new(end);
+    let (mut text, mut bytes) = (Vec::new(alloc), Vec::new(alloc));
+    'records: while records.next(reader, writer, &mut text, &mut bytes)? {
+        append_in_brackets(&mut text, &bytes)?;
     }
+    Ok(())
+}
+
+/// Appends a record in brackets.
+fn append_in_brackets(text: &mut Vec<u8>, bytes: &[u8]) -> Result<(), AllocError>
+    ensures { OnOk result (text.new.items ≡ text.old.items ++ (codes "<" ++ (bytes.now ++ codes ">"))) }
+{
+    text.push(b'<')?;
+    text.extend_from_slice(bytes)?;
+    text.push(b'>')?;
+    Ok(())
 }
 
 /// Which records bytes are, each in brackets.
@@ -37,7 +45,7 @@ pub(crate) fn records(row: &Row, answer: &mut Answer) -> Result<()> {
     let alloc = answer.alloc;
     let end = if row.is(0, b"nul") { 0 } else { b'\n' };
     let (mut reader, mut writer) = (Watched::new(row.bytes(1)), Watched::new(room(alloc)?));
-    (RecordStream { alloc, end }).run(&mut reader, &mut writer, &mut Brackets)?;
+    put_in_brackets(alloc, end, &mut reader, &mut writer)?;
     Ok(answer.push(writer.into_inner())?)
 }
 

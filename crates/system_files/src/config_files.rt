@@ -27,12 +27,24 @@ impl<'a, R: Files> ConfigFiles for DiskFiles<'a, R> {
     fn find(&self, path: &[u8]) -> Result<Option<FoundFile<Vec<u8>>>, ConfigFileFault> {
         count(&self.asked)?;
         let alloc = self.alloc;
-        if let Some(found) = self.kept_at(path)? {
-            if !take(&self.left, found.bytes.len()) {
+        if let Some(kept) = self.kept_at(path)? {
+            if let Some(found) = &kept
+                && !take(&self.left, found.bytes.len())
+            {
                 return wrong(alloc, WrongFile::TooLarge, path);
             }
-            return Ok(Some(found));
+            return Ok(kept);
         }
+        let found = self.read(path)?;
+        self.keep(path, &found)?;
+        Ok(found)
+    }
+}
+
+impl<'a, R: Files> DiskFiles<'a, R> {
+    /// Reads the file at a path.
+    fn read(&self, path: &[u8]) -> Result<Option<FoundFile<Vec<u8>>>, ConfigFileFault> {
+        let alloc = self.alloc;
         let Ok(name) = str::from_utf8(path) else {
             return wrong(alloc, WrongFile::Unnamed, path);
         };
@@ -46,40 +58,47 @@ impl<'a, R: Files> ConfigFiles for DiskFiles<'a, R> {
         if !take(&self.left, bytes.len()) {
             return wrong(alloc, WrongFile::TooLarge, path);
         }
-        match self.real_path(path)? {
-            Some(real_path) => {
-                let found = FoundFile { bytes, real_path };
-                self.keep(path, &found)?;
-                Ok(Some(found))
-            }
-            // (it was removed since)
-            None => Ok(None),
-        }
+        let real_path = if has_condition(&bytes) {
+            self.real_path(path)?
+        } else {
+            Some(Vec::new(alloc))
+        };
+        // (it may have been removed since)
+        Ok(real_path.map(|real_path| FoundFile { bytes, real_path }))
     }
 }
 
-/// So many files are kept, of those that are asked for first: the system's, the user's and the repository's, which are read by themselves and
-/// once more with all others.
+/// Whether a file may have a section `includeIf`, whose conditions may ask for the file's own path: no name of a section is escaped.
+fn has_condition(bytes: &[u8]) -> bool {
+    const NAME: &[u8] = b"includeif";
+    bytes.split(|b| *b == b'[').any(|rest| {
+        rest.get(..NAME.len())
+            .is_some_and(|front| front.eq_ignore_ascii_case(NAME))
+    })
+}
+
+/// Of so many paths it is kept what was found, of those that are asked for first: the system's file, the user's and the repository's, which
+/// are read by themselves and once more with all others.
 const MOST_KEPT: usize = 8;
 
-/// A file that was read.
+/// What was found at a path.
 #[derive(Drop)]
 pub(crate) struct KeptFile {
     path: Vec<u8>,
-    found: FoundFile<Vec<u8>>,
+    found: Option<FoundFile<Vec<u8>>>,
 }
 
 impl<'a, R: Files> DiskFiles<'a, R> {
-    /// The file at a path, as it was read before, where it is kept.
-    fn kept_at(&self, path: &[u8]) -> Result<Option<FoundFile<Vec<u8>>>, AllocError> {
+    /// What was found at a path before, where this is kept.
+    fn kept_at(&self, path: &[u8]) -> Result<Option<Option<FoundFile<Vec<u8>>>>, AllocError> {
         let kept = self.kept.replace(Vec::new(self.alloc));
         let found = among(self.alloc, &kept, path);
         self.kept.set(kept);
         found
     }
 
-    /// Keeps a file. One at a relative path isn't kept: it is another one where the current folder is.
-    fn keep(&self, path: &[u8], found: &FoundFile<Vec<u8>>) -> Result<(), AllocError> {
+    /// Keeps what was found. What has a relative path isn't kept: it is another one where the current folder is.
+    fn keep(&self, path: &[u8], found: &Option<FoundFile<Vec<u8>>>) -> Result<(), AllocError> {
         let mut kept = self.kept.replace(Vec::new(self.alloc));
         if path.starts_with(b"/") && kept.len() < MOST_KEPT {
             kept.push(KeptFile {
@@ -92,12 +111,12 @@ impl<'a, R: Files> DiskFiles<'a, R> {
     }
 }
 
-/// The file at a path, where it is among these.
+/// What was found at a path, where this is among these.
 fn among(
     alloc: Global,
     kept: &[KeptFile],
     path: &[u8],
-) -> Result<Option<FoundFile<Vec<u8>>>, AllocError> {
+) -> Result<Option<Option<FoundFile<Vec<u8>>>>, AllocError> {
     for file in kept {
         if file.path.as_slice() == path {
             return Ok(Some(copy_of(alloc, &file.found)?));
@@ -106,12 +125,18 @@ fn among(
     Ok(None)
 }
 
-/// A copy of a file that was found.
-fn copy_of(alloc: Global, found: &FoundFile<Vec<u8>>) -> Result<FoundFile<Vec<u8>>, AllocError> {
-    Ok(FoundFile {
-        bytes: Vec::from_slice(alloc, &found.bytes)?,
-        real_path: Vec::from_slice(alloc, &found.real_path)?,
-    })
+/// A copy of what was found.
+fn copy_of(
+    alloc: Global,
+    found: &Option<FoundFile<Vec<u8>>>,
+) -> Result<Option<FoundFile<Vec<u8>>>, AllocError> {
+    match found {
+        Some(found) => Ok(Some(FoundFile {
+            bytes: Vec::from_slice(alloc, &found.bytes)?,
+            real_path: Vec::from_slice(alloc, &found.real_path)?,
+        })),
+        None => Ok(None),
+    }
 }
 
 /// Counts a file that is asked for.

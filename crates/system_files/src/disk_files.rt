@@ -1,12 +1,13 @@
 //! The files of the operating system, and what the search for a repository asks of them.
 
 use crate::config_files::{KeptFile, MOST_BYTES, reason_of};
-use crate::reading::{Unread, answered, read_front};
+use crate::reading::{Unread, answered, read_front, read_seen_front};
 use crate::real_path::real_path;
+use crate::sight::Sight;
 use crate::user::User;
 use crate::users::{USERS, USERS_LIMIT, users_in};
 use git_config::UserFolder;
-use git_repository::FileSystem;
+use git_repository::{FileSystem, Held};
 use std::alloc::{AllocError, Global};
 use std::cell::Cell;
 use std::fs::Metadata;
@@ -82,32 +83,37 @@ impl<'a, R: Files> FileSystem for DiskFiles<'a, R> {
         Ok(self.standing(path)?.is_some())
     }
 
-    /// The text of a link that is no UTF-8 can't be had: it is told as no link.
-    fn link(&self, path: &[u8]) -> Result<Option<Vec<u8>>, AllocError> {
+    /// The text of a link that is no UTF-8 can't be had.
+    fn held(&self, path: &[u8], limit: usize) -> Result<Option<Held>, AllocError> {
+        let Some(there) = self.standing(path)? else {
+            return Ok(None);
+        };
         let Ok(path) = str::from_utf8(path) else {
             return Ok(None);
         };
-        let link = answered(self.rt.read_link(self.alloc, path))?;
-        Ok(link.map(|text| text.into_string().into_bytes()))
+        if there.is_symlink() {
+            let link = answered(self.rt.read_link(self.alloc, path))?;
+            return Ok(link.map(|text| Held::Link(text.into_string().into_bytes())));
+        }
+        let read = read_seen_front(self.rt, self.alloc, path, &Sight::of(&there), limit);
+        Ok(read_or_none(read)?.map(Held::Bytes))
     }
 
     fn bytes(&self, path: &[u8], limit: usize) -> Result<Option<Vec<u8>>, AllocError> {
-        let Ok(path) = str::from_utf8(path) else {
-            return Ok(None);
-        };
-        match read_front(self.rt, self.alloc, path, limit) {
-            Ok(bytes) => Ok(Some(bytes)),
-            Err(Unread::System(error)) if error.kind() == ErrorKind::OutOfMemory => Err(AllocError),
-            Err(_unread) => Ok(None),
+        match str::from_utf8(path) {
+            Ok(path) => read_or_none(read_front(self.rt, self.alloc, path, limit)),
+            Err(_bad) => Ok(None),
         }
     }
 
     /// The kit has no `access`: a folder can be entered where `.` is found in it. What is no folder is answered for by the bits of its
     /// mode, whoever they let run it.
     fn can_enter(&self, path: &[u8]) -> Result<bool, AllocError> {
+        if self.leads_into(path)? {
+            return Ok(true);
+        }
         match self.found(path)? {
-            Some(there) if there.is_dir() => self.leads_into(path),
-            Some(there) => Ok(there.mode() & RUN_BITS != 0),
+            Some(there) => Ok(!there.is_dir() && there.mode() & RUN_BITS != 0),
             None => Ok(false),
         }
     }
@@ -160,6 +166,15 @@ impl<'a, R: Files> FileSystem for DiskFiles<'a, R> {
 
     fn real_path(&self, path: &[u8]) -> Result<Option<Vec<u8>>, AllocError> {
         real_path(self.rt, self.alloc, path)
+    }
+}
+
+/// The bytes that were read; `None` where they can't be.
+fn read_or_none(read: Result<Vec<u8>, Unread>) -> Result<Option<Vec<u8>>, AllocError> {
+    match read {
+        Ok(bytes) => Ok(Some(bytes)),
+        Err(Unread::System(error)) if error.kind() == ErrorKind::OutOfMemory => Err(AllocError),
+        Err(_unread) => Ok(None),
     }
 }
 

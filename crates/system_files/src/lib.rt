@@ -14,7 +14,7 @@ mod variables;
 
 pub use disk_files::DiskFiles;
 pub use fault::{ConfigFileFault, WrongFile};
-pub use reading::{Unread, open_seen};
+pub use reading::{OpenedFile, Unread, open_seen};
 pub use sight::Sight;
 pub use user::User;
 pub use users::surroundings;

@@ -28,6 +28,15 @@ impl From<io::Error> for Unread {
     }
 }
 
+/// A regular file that was opened.
+#[derive(Drop)]
+pub struct OpenedFile<F> {
+    /// The file, of which nothing was read.
+    pub file: F,
+    /// How many bytes it tells that it has.
+    pub len: u64,
+}
+
 /// The front of the regular file at a path, so many bytes of it at most. Links are followed, and `/dev/null` has no bytes.
 ///
 /// # Errors
@@ -39,9 +48,20 @@ pub(crate) fn read_front<R: Files>(
     limit: usize,
 ) -> Result<Vec<u8>, Unread> {
     let seen = Sight::of(&fs::metadata(rt, path)?);
+    read_seen_front(rt, alloc, path, &seen, limit)
+}
+
+/// The same of what was seen at the path.
+pub(crate) fn read_seen_front<R: Files>(
+    rt: &R,
+    alloc: Global,
+    path: &str,
+    seen: &Sight,
+    limit: usize,
+) -> Result<Vec<u8>, Unread> {
     let mut bytes = Vec::new(alloc);
-    if let Some(opened) = open_seen(rt, path, &seen)? {
-        opened.take(limit as u64).read_to_end(&mut bytes)?;
+    if let Some(opened) = open_seen(rt, path, seen)? {
+        opened.file.take(limit as u64).read_to_end(&mut bytes)?;
     }
     Ok(bytes)
 }
@@ -50,7 +70,11 @@ pub(crate) fn read_front<R: Files>(
 ///
 /// # Errors
 /// Where something else was seen, the file can't be opened, or another one took its place since.
-pub fn open_seen<R: Files>(rt: &R, path: &str, seen: &Sight) -> Result<Option<R::File>, Unread> {
+pub fn open_seen<R: Files>(
+    rt: &R,
+    path: &str,
+    seen: &Sight,
+) -> Result<Option<OpenedFile<R::File>>, Unread> {
     match seen.kind {
         FileKind::Regular => {}
         FileKind::Null => return Ok(None),
@@ -58,11 +82,13 @@ pub fn open_seen<R: Files>(rt: &R, path: &str, seen: &Sight) -> Result<Option<R:
         FileKind::Folder => return Err(Unread::Folder),
         FileKind::Waiting => return Err(Unread::Waiting),
     }
-    let opened = fs::open(rt, path)?;
-    if !is_same_file(seen, &Sight::of(&opened.metadata()?)) {
+    let file = fs::open(rt, path)?;
+    let found = file.metadata()?;
+    if !is_same_file(seen, &Sight::of(&found)) {
         return Err(Unread::Replaced);
     }
-    Ok(Some(opened))
+    let len = found.len();
+    Ok(Some(OpenedFile { file, len }))
 }
 
 /// What the system answers; `None` where it answers an error.

@@ -1,7 +1,6 @@
 //! The users' home folders: the user's own, and those that `/etc/passwd` tells.
 
 use git_config::{Surroundings, UserFolder};
-use git_repository::FileSystem;
 use std::alloc::{AllocError, Global};
 
 /// The file that names the users.
@@ -10,23 +9,19 @@ pub(crate) const USERS: &[u8] = b"/etc/passwd";
 /// So many bytes of it are looked at: 1 MiB.
 pub(crate) const USERS_LIMIT: usize = 1 << 20;
 
-/// What paths and conditions of a configuration are told from outside a repository: the folder that `HOME` tells. Those of users are looked
-/// up where one is named, and of the installation nothing is known.
+/// What paths of a configuration are told from outside a repository: the folder that `HOME` tells. Those of users are looked up where one
+/// is named, and of the installation nothing is known.
 ///
 /// # Errors
 /// Only where memory was refused.
-pub fn surroundings<F: FileSystem>(
-    alloc: Global,
-    files: &F,
-    home: Option<&[u8]>,
-) -> Result<Surroundings, AllocError> {
-    let (home, real_home) = match home {
-        Some(home) => (Some(Vec::from_slice(alloc, home)?), files.real_path(home)?),
-        None => (None, None),
+pub fn surroundings(alloc: Global, home: Option<&[u8]>) -> Result<Surroundings, AllocError> {
+    let home = match home {
+        Some(home) => Some(Vec::from_slice(alloc, home)?),
+        None => None,
     };
     Ok(Surroundings {
         home,
-        real_home,
+        real_home: None,
         installed: None,
         users: Vec::new(alloc),
         git_folders: Vec::new(alloc),

@@ -7,7 +7,7 @@ use std::env::FillError;
 use std::rt::Env;
 
 /// So many bytes have room at first.
-const FIRST_ROOM: usize = 256;
+const FIRST_ROOM: usize = 64;
 
 /// The variable that says whether the search goes on beyond the border of a file system.
 const ACROSS: &str = "GIT_DISCOVERY_ACROSS_FILESYSTEM";

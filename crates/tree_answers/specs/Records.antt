@@ -37,7 +37,3 @@ IsTextOf Answers form bytes text = (told : List ℕ) × NamesPath form bytes tol
 -- the account of told paths is of those that these records name, in order
 abbrev pub AccountsFor : (List (List ℕ) → Type 0) → Form → List (List ℕ) → Type 0
 AccountsFor Answered form records = (all : List (List ℕ)) × AllZip (NamesPath form) records all × Answered all
-
--- a fault that a told path may get, or one that is made of why a record names no path
-abbrev pub IsRefusal : {F N : Type 0} → (List ℕ → F → Type 0) → (N → F → Type 0) → F → Type 0
-IsRefusal {F} {N} Refuses Gives fault = ((told : List ℕ) × Refuses told fault) ⊎ ((unnamed : N) × Gives unnamed fault)

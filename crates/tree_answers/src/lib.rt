@@ -10,4 +10,4 @@ mod records;
 pub use attributes::{append_answer, append_label, path_text};
 pub use form::Form;
 pub use lines::{DecidingLine, append_line};
-pub use records::{FormWord, NameFault, PathAnswerer, RecordAnswerer};
+pub use records::{NameFault, ToldPath};

@@ -1,60 +1,17 @@
-//! Records that name paths: each is answered by what answers told paths.
-ghost use Rattle.std.specs.Prelude.{◌≡◌, IfOk, OnErr, OnOk};
-ghost use Rattle.std.specs.Io.{StartsWith};
-ghost use Rattle.std.specs.List.{AllByRecursion, before_first};
-ghost use Rattle.byte_streams.specs.Records.{Adds, GrowsBy, StaysAllowed, answered_by, fault_of};
-ghost use Rattle.tree_answers.specs.Records.{AccountsFor, IsRefusal, IsTextOf, NamesPath, begins_with_quote, is_zero};
+//! Paths as they are told, by words, or by records that name them.
+ghost use Rattle.std.specs.Prelude.{◌≡◌, IfOk, IsTrue, false};
+ghost use Rattle.std.specs.List.{before_first, list_any};
+ghost use Rattle.glob_lists.specs.Paths.{IsPlainPath};
+ghost use Rattle.git_paths.specs.declared.quoting.Quoting.TheVariants.{Full};
+ghost use Rattle.git_paths.specs.Quoting.{is_unusual};
+ghost use Rattle.tree_answers.specs.Records.{LeadsAsTold, NamesPath, begins_with_quote, is_zero};
 
 use crate::form::Form;
-use byte_streams::Answerer;
 use git_paths::are_usual_names;
 use glob_attributes::read_quoted;
 use memchr::memchr;
 use std::alloc::{AllocError, Global};
-use std::marker::{Brand, PhantomData};
 use thiserror::Error;
-
-/// What answers told paths.
-pub trait PathAnswerer: Drop {
-    ghost use Rattle.std.specs.Prelude.{◌≡◌, ℕ, List, IfErr, IsTrue, OnOk, false};
-    ghost use Rattle.std.specs.Io.{StartsWith};
-    ghost use Rattle.std.specs.List.{list_any};
-    ghost use Rattle.glob_lists.specs.Paths.{IsPlainPath};
-    ghost use Rattle.byte_streams.specs.Records.{Adds, GrowsBy, StaysAllowed, answered_by};
-    ghost use Rattle.git_paths.specs.declared.quoting.Quoting.TheVariants.{Full};
-    ghost use Rattle.git_paths.specs.Quoting.{is_unusual};
-    ghost use Rattle.tree_answers.specs.Records.{LeadsAsTold};
-
-    /// Why a path got no answer.
-    type Fault: Drop + From<NameFault>;
-
-    // Whether a text may be written for a told path: the path comes first, then the text.
-    ghost answers: { Self → List ℕ → List ℕ → Type 0 };
-
-    // Whether these are the told paths that were answered so far, in order. An answerer that keeps no account may say so of each list:
-    // `λ _ _. Unit {0}`.
-    ghost answered: { Self → List (List ℕ) → Type 0 };
-
-    // Whether a told path may get this fault.
-    ghost refuses: { List ℕ → Self.Fault → Type 0 };
-
-    /// Appends what is written about a told path to the text. It may be known that it is told by usual names. Where this fails, what was
-    /// appended doesn't count.
-    fn answer_path(
-        &mut self,
-        text: &mut Vec<u8>,
-        told: &[u8],
-        is_usual: bool,
-    ) -> Result<(), Self::Fault>
-        requires plain { IsTrue is_usual → IsPlainPath told.now }
-        requires usual { IsTrue is_usual → list_any (is_unusual Full) told.now ≡ false }
-        requires leads { IsTrue is_usual → LeadsAsTold told.now }
-        ensures stays { StaysAllowed (answers self.old) (answers self.new) }
-        ensures written { OnOk result (Adds (answers self.new told.now) text.old.items text.new.items) }
-        ensures kept { StartsWith text.new.items text.old.items }
-        ensures answered { GrowsBy (answered self.old) (answered self.new) (answered_by result told.now) }
-        ensures refused { IfErr result (λ fault. refuses told.now fault) };
-}
 
 /// Why a record names no path.
 #[derive(Debug, Drop, Error)]
@@ -78,78 +35,51 @@ impl From<AllocError> for NameFault {
     }
 }
 
-/// A form, in words that contracts alone have.
-pub trait FormWord {
-    ghost use Rattle.tree_answers.specs.declared.form.Form.{Form};
-
-    ghost form: { Form };
-}
-
-impl FormWord for Brand {
-    ghost use Rattle.git_paths.specs.declared.quoting.Quoting.TheVariants.{Full};
-    ghost use Rattle.tree_answers.specs.declared.form.Form.TheVariants.{Lines};
-
-    ghost form = { Lines Full };
-}
-
-/// What answers each record of the input by the path that it names. In lines a record in quotes is read as Git writes names; what follows
-/// the last quote is passed over, as Git does. A byte 0 ends a name wherever it stands.
-///
-/// The type names the form: so it stays, whatever is done to the answerer.
+/// A path as it was told.
 #[derive(Drop)]
-pub struct RecordAnswerer<A, W: FormWord> {
-    /// What answers the paths.
-    pub paths: A,
-    /// Whether records are lines.
-    pub form: Form,
-    /// The memory for a name that stands in quotes.
-    pub alloc: Global,
-    /// The form again.
-    pub word: PhantomData<W>,
-    ghost is_word: { form ≡ W.form },
+pub struct ToldPath<'t> {
+    /// The path.
+    pub bytes: &'t [u8],
+    /// Whether it is known that all its parts are names of usual bytes, so that it leads where it is told.
+    pub is_usual: bool,
+    ghost plain: { IsTrue is_usual → IsPlainPath bytes.now },
+    ghost usual: { IsTrue is_usual → list_any (is_unusual Full) bytes.now ≡ false },
+    ghost leads: { IsTrue is_usual → LeadsAsTold bytes.now },
 }
 
-impl<A: PathAnswerer, W: FormWord> Answerer for RecordAnswerer<A, W> {
-    ghost use Rattle.std.specs.List.{AllByRecursion};
-    ghost use Rattle.tree_answers.specs.Records.{AccountsFor, IsRefusal, IsTextOf};
+impl<'t> ToldPath<'t> {
+    /// The path that a word tells.
+    pub fn of_word(word: &'t [u8]) -> ToldPath<'t>
+        ensures { result.bytes.now ≡ word.entry.now }
+    {
+        ToldPath {
+            bytes: word,
+            is_usual: are_usual_names(word),
+        }
+    }
 
-    type Fault = A::Fault;
-
-    ghost answers = { λ self. IsTextOf (A.answers self.paths) W.form };
-
-    ghost answered = { λ self. AccountsFor (A.answered self.paths) W.form };
-
-    // no record got another fault
-    ghost refused = { λ _. AllByRecursion (IsRefusal A.refuses A.Fault.from_gives) };
-
+    /// The path that a record names. In lines a record in quotes is read as Git writes names; what follows the last quote is passed over,
+    /// as Git does. A byte 0 ends a name wherever it stands. `spelt` is where a name goes that stands in quotes.
+    ///
+    /// # Errors
+    /// [`NameFault::BadlyQuoted`] where it names none, and [`NameFault::Memory`] where memory was refused.
     #[inline(always)]
-    #[tactic(auto, using(crate::proofs::lemmas::PlainNames::names_are_plain))]
-    fn answer(&mut self, text: &mut Vec<u8>, bytes: &[u8]) -> Result<(), A::Fault> {
+    pub fn named_by(
+        alloc: Global,
+        form: Form,
+        bytes: &'t [u8],
+        spelt: &'t mut Vec<u8>,
+    ) -> Result<ToldPath<'t>, NameFault>
+        ensures { IfOk result (λ told. NamesPath form bytes.entry.now told.bytes.now) }
+    {
         // most records are usual names, in which there is no byte 0 and no quote to look for
         if are_usual_names(bytes) {
-            return self.paths.answer_path(text, bytes, true);
+            return Ok(ToldPath {
+                bytes,
+                is_usual: true,
+            });
         }
-        self.answer_unusual(text, bytes)
-    }
-}
-
-impl<A: PathAnswerer, W: FormWord> RecordAnswerer<A, W> {
-    /// Appends what is written about any record.
-    #[inline(never)]
-    #[tactic(auto, using(crate::proofs::lemmas::PlainNames::names_are_plain))]
-    fn answer_unusual(&mut self, text: &mut Vec<u8>, bytes: &[u8]) -> Result<(), A::Fault>
-        ensures stays { StaysAllowed (A.answers self.old.paths) (A.answers self.new.paths) }
-        ensures written { OnOk result (Adds (IsTextOf (A.answers self.new.paths) W.form bytes.now) text.old.items text.new.items) }
-        ensures kept { StartsWith text.new.items text.old.items }
-        ensures answered { GrowsBy (AccountsFor (A.answered self.old.paths) W.form) (AccountsFor (A.answered self.new.paths) W.form) (answered_by result bytes.now) }
-        ensures refused { AllByRecursion (IsRefusal A.refuses A.Fault.from_gives) (fault_of result) }
-    {
-        let mut spelt = Vec::new(self.alloc);
-        let told = match told_path(self.alloc, bytes, self.form, &mut spelt) {
-            Ok(told) => told,
-            Err(unnamed) => return Err(unnamed.into()),
-        };
-        self.paths.answer_path(text, told, are_usual_names(told))
+        Ok(ToldPath::of_word(told_path(alloc, bytes, form, spelt)?))
     }
 }
 

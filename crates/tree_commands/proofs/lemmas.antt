@@ -34,7 +34,6 @@ pub mod OutcomeLemmas
 pub mod PathLemmas
 pub mod PieceLemmas
 pub mod PuttingLemmas
-pub mod RunLemmas
 pub mod SearchLemmas
 pub mod SourceLemmas
 pub mod StackLemmas

@@ -1,5 +1,6 @@
 -- Words that only private clauses cite: what the functions of the crate say to one another.
 pub mod Answering
+pub mod Asking
 pub mod AttributeAnswers
 pub mod AttributeRuns
 pub mod AttributeWays

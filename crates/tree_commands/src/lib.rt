@@ -2,10 +2,7 @@
 //! caller gives, and contracts speak of what these show.
 #![tactic(auto)]
 
-mod answering;
 pub mod check_attr;
 pub mod check_ignore;
 pub mod files;
 pub mod tracked_files;
-
-pub use answering::{answer_paths, answer_records};

@@ -1,3 +1,4 @@
 pub mod KeyLemmas
 pub mod ClosedLemmas
 pub mod FileLemmas
+pub mod ShownLemmas

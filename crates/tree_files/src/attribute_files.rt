@@ -2,15 +2,14 @@
 
 use crate::fault::CheckFault;
 use crate::indexed_files::IndexedFiles;
-use crate::seen_files::{file_list, seen_file_list};
+use crate::seen_files::{is_there, pass_over, read_seen};
 use crate::standing::{OwnFile, Standing, file_in, own_file, path_text, what_stands};
 use crate::telling::tell_line;
-use crate::unparsed::Unparsed;
 use glob_attributes::{Silence, SilentLine, silent_lines};
 use std::alloc::{AllocError, Global};
-use std::fs;
 use std::fs::Metadata;
 use std::rt::Files;
+use std::{fs, io};
 use system_files::Sight;
 use tree_commands::check_attr::AttributeFolders;
 
@@ -39,15 +38,8 @@ impl<'a, R: Files + Eprint> AttributeFiles<'a, R> {
     /// The bytes of a file that lies outside all folders; none where there is no file. A link is followed.
     pub fn file(&self, file: String) -> Result<Vec<u8>, CheckFault> {
         let mut bytes = Vec::new(self.alloc);
-        let name = file.clone()?;
-        match fs::metadata(self.rt, name.as_str()) {
-            Ok(found) if self.is_too_large(name.as_str(), &found)? => return Ok(bytes),
-            Ok(found) => self.read_seen(file, &found, &mut bytes)?,
-            Err(_unseen) => {
-                file_list(self.rt, self.alloc, file, &mut bytes, Unparsed)?;
-            }
-        }
-        self.tell_silences(name.as_str(), &bytes, true)?;
+        let found = fs::metadata(self.rt, file.as_str());
+        self.read_found(file.as_str(), found, &mut bytes, true)?;
         Ok(bytes)
     }
 
@@ -79,25 +71,33 @@ impl<'a, R: Files + Eprint> AttributeFiles<'a, R> {
             OwnFile::Nothing => return Ok(true),
             OwnFile::Shut => return Ok(false),
         };
-        if self.is_too_large(file.as_str(), &found)? {
-            return Ok(true);
-        }
-        let name = file.clone()?;
-        self.read_seen(file, &found, bytes)?;
-        self.tell_silences(name.as_str(), bytes, is_top)?;
+        self.read_found(file.as_str(), Ok(found), bytes, is_top)?;
         Ok(true)
     }
 
-    /// Reads a file that was looked at.
-    fn read_seen(
+    /// Reads what was found under a name, and tells its lines that say nothing, and why it can't be read.
+    fn read_found(
         &self,
-        file: String,
-        found: &Metadata,
+        name: &str,
+        found: io::Result<Metadata>,
         bytes: &mut Vec<u8>,
+        is_top: bool,
     ) -> Result<(), CheckFault> {
-        let seen = Sight::of(found);
-        seen_file_list(self.rt, self.alloc, file, &seen, bytes, Unparsed)?;
-        Ok(())
+        let read = match found {
+            Ok(found) if found.is_file() && found.len() >= FILE_LIMIT => {
+                return Ok(self.tell_too_large(name)?);
+            }
+            Ok(found) => read_seen(self.rt, name, &Sight::of(&found), Some(FILE_LIMIT), bytes),
+            Err(error) => is_there(error),
+        };
+        if let Err(fault) = read {
+            pass_over(self.rt, self.alloc, name, fault, bytes)?;
+        }
+        if bytes.len() as u64 >= FILE_LIMIT {
+            bytes.clear();
+            self.tell_too_large(name)?;
+        }
+        Ok(self.tell_silences(name, bytes, is_top)?)
     }
 
     /// Tells the lines of a file that say nothing.
@@ -108,17 +108,13 @@ impl<'a, R: Files + Eprint> AttributeFiles<'a, R> {
         Ok(())
     }
 
-    /// Whether a file is so large that it is passed over, which is told then.
-    fn is_too_large(&self, name: &str, found: &Metadata) -> Result<bool, AllocError> {
-        if !found.is_file() || found.len() < FILE_LIMIT {
-            return Ok(false);
-        }
+    /// Tells that a file is so large that it is passed over.
+    fn tell_too_large(&self, name: &str) -> Result<(), AllocError> {
         tell_line(
             self.rt,
             self.alloc,
             format_args!("warning: '{name}' is passed over: it has {FILE_LIMIT} bytes or more"),
-        )?;
-        Ok(true)
+        )
     }
 }
 

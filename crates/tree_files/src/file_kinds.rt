@@ -1,15 +1,12 @@
 //! What stands at the paths of the work tree.
 
 use crate::fault::CheckFault;
-use crate::standing::path_text;
+use crate::standing::{MOST_BYTES, path_text};
 use std::alloc::{AllocError, Global};
 use std::fs;
 use std::io::ErrorKind;
 use std::rt::Files;
 use tree_commands::check_ignore::PathKinds;
-
-/// No path of so many bytes behind its first slash can be looked at.
-const MOST_BYTES: usize = 4095;
 
 /// What stands at the paths below the folder that the program stands in.
 #[derive(Drop)]

@@ -11,7 +11,7 @@ use crate::nested::NestedRepositories;
 use crate::progress::Progress;
 use crate::seen_files::seen_file_list;
 use crate::sources::{FolderFiles, IGNORE_FILE};
-use crate::standing::{OwnFile, file_in, own_file};
+use crate::standing::{MOST_BYTES, OwnFile, file_in, own_file};
 use crate::telling::tell_line;
 use git_paths::folder_of;
 use gix_glob::search::pattern::List;
@@ -129,6 +129,9 @@ impl<'a, R: Files + Clock + Eprint> TreeFiles<'a, R> {
 
     /// Whether a folder is the top of a repository of its own.
     fn is_repository(&self, folder: &[u8]) -> Result<bool, CheckFault> {
+        if folder.len() >= MOST_BYTES {
+            return Ok(false);
+        }
         let git = file_in(self.alloc, text_of(self.alloc, folder)?, ".git")?;
         self.nested.has(git.as_bytes())
     }

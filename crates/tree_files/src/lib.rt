@@ -15,7 +15,6 @@ mod seen_files;
 mod sources;
 mod standing;
 mod telling;
-mod unparsed;
 
 pub use attribute_files::AttributeFiles;
 pub use fault::CheckFault;

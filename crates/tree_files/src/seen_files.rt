@@ -1,6 +1,6 @@
 //! Files of patterns, each opened as it was looked at: what stands under its name at the second look has to be what stood there at the
 //! first.
-ghost use Rattle.std.specs.Prelude.{◌≡◌, ◌⊎◌, ◌↔◌, [], IfOk, IfSome, IsTrue, Ok, None, Some, string_bytes};
+ghost use Rattle.std.specs.Prelude.{◌≡◌, ◌⊎◌, ◌↔◌, [], IfOk, IfSome, IsTrue, Ok, Some, string_bytes};
 ghost use Rattle.std.specs.IoError.{error_kind};
 ghost use Rattle.std.specs.declared.io.ErrorKind.TheVariants as kinds;
 ghost use Rattle.gix_glob.specs.EntryLists.{entry_list_of};
@@ -9,10 +9,10 @@ ghost use Rattle.tree_files.specs.FileLists.{IsOfFile};
 use crate::fault::CheckFault;
 use crate::standing::tell_unread;
 use gix_glob::search;
+use gix_glob::search::LoadFault;
 use gix_glob::search::pattern::List;
-use gix_glob::search::{LoadFault, Watched};
 use std::alloc::Global;
-use std::io::ErrorKind;
+use std::io::{ErrorKind, Read};
 use std::rt::Files;
 use std::{fs, io};
 use system_files::{Sight, Unread, open_seen};
@@ -33,16 +33,18 @@ pub fn named_list<T: search::Pattern, R: Files>(
     bytes.clear();
     let seen = match fs::metadata(rt, file.as_str()) {
         Ok(found) => Sight::of(&found),
-        Err(error) => return not_opened(error),
+        Err(error) => {
+            is_there(error)?;
+            return Ok(None);
+        }
     };
     seen_list(rt, alloc, file, &seen, bytes, parser)
 }
 
-/// The list of a file that was looked at, whose bytes are put into `bytes`; `None` where a folder stands there. A pipe or a socket isn't
-/// opened, and what took the file's place since isn't read.
+/// The list of a file that was looked at, whose bytes are put into `bytes`, as many as it told; `None` where a folder stands there.
 ///
 /// # Errors
-/// Where memory was refused, the file can't be read, or isn't the one that was seen.
+/// Where memory was refused, the file can't be read to its end, or isn't the one that was seen.
 pub(crate) fn seen_list<T: search::Pattern, R: Files>(
     rt: &R,
     alloc: Global,
@@ -53,17 +55,44 @@ pub(crate) fn seen_list<T: search::Pattern, R: Files>(
 ) -> Result<Option<List<T>>, LoadFault>
     ensures { IfOk result (λ read. IfSome read (λ list. IsOfFile (T.meaning parser) (string_bytes file) (entry_list_of T.seen list))) }
 {
+    if !read_seen(rt, file.as_str(), seen, None, bytes)? {
+        return Ok(None);
+    }
+    Ok(Some(List::from_bytes(alloc, bytes, file, None, parser)?))
+}
+
+/// Puts the bytes of a file that was looked at into `bytes`: so many at most, or else as many as it tells that it has. It answers whether
+/// a file is there: a folder is none, and a device is one without bytes. A pipe or a socket isn't opened, and what took the file's place
+/// since isn't read.
+///
+/// # Errors
+/// Where memory was refused, the file can't be read, has fewer bytes than it tells, or isn't the one that was seen.
+pub(crate) fn read_seen<R: Files>(
+    rt: &R,
+    file: &str,
+    seen: &Sight,
+    limit: Option<u64>,
+    bytes: &mut Vec<u8>,
+) -> Result<bool, LoadFault> {
     bytes.clear();
-    match open_seen(rt, file.as_str(), seen) {
-        Ok(Some(opened)) => {
-            let mut reader = Watched::new(opened);
-            List::from_reader(alloc, &mut reader, file, None, bytes, parser)
+    let opened = match open_seen(rt, file, seen) {
+        Ok(Some(opened)) => opened,
+        Ok(None) | Err(Unread::Device) => return Ok(true),
+        Err(Unread::Folder) => return Ok(false),
+        Err(Unread::Waiting) => return Err(unread("it is no regular file")),
+        Err(Unread::Replaced) => return Err(unread("another file took its place")),
+        Err(Unread::System(error)) => return is_there(error),
+    };
+    match opened
+        .file
+        .take(limit.unwrap_or(opened.len))
+        .read_to_end(bytes)
+    {
+        Ok(count) if limit.is_none() && (count as u64) < opened.len => {
+            Err(LoadFault::Read(io::Error::from(ErrorKind::UnexpectedEof)))
         }
-        Ok(None) | Err(Unread::Device) => Ok(Some(List::empty(alloc))),
-        Err(Unread::Folder) => Ok(None),
-        Err(Unread::Waiting) => Err(unread("it is no regular file")),
-        Err(Unread::Replaced) => Err(unread("another file took its place")),
-        Err(Unread::System(error)) => not_opened(error),
+        Ok(_count) => Ok(true),
+        Err(error) => is_there(error),
     }
 }
 
@@ -72,20 +101,18 @@ fn unread(reason: &'static str) -> LoadFault {
     LoadFault::Read(io::Error::other(reason))
 }
 
-/// Why there is no list of a file that can't be opened.
-fn not_opened<L>(error: io::Error) -> Result<Option<L>, LoadFault>
-    ensures { IfOk result (λ read. read ≡ None) }
-{
+/// Whether a file is there that can't be opened or read: it isn't, or this is a fault.
+pub(crate) fn is_there(error: io::Error) -> Result<bool, LoadFault> {
     match error.kind() {
         ErrorKind::OutOfMemory => Err(LoadFault::Memory),
         // (it was removed since)
-        ErrorKind::NotFound | ErrorKind::NotADirectory => Ok(None),
+        ErrorKind::NotFound | ErrorKind::NotADirectory => Ok(false),
         _ => Err(LoadFault::Read(error)),
     }
 }
 
 /// The list of a file that lies outside all folders, whose bytes are put into `bytes`; no patterns and no bytes where there is none. A link
-/// is followed. One that can't be read is told, and passed over; but not one that could be read the next time.
+/// is followed. One that can't be read is told, and passed over; but not one that could be read the next time, nor a folder.
 pub fn file_list<T: search::Pattern, R: Files + Eprint>(
     rt: &R,
     alloc: Global,
@@ -95,9 +122,19 @@ pub fn file_list<T: search::Pattern, R: Files + Eprint>(
 ) -> Result<List<T>, CheckFault>
     ensures { IfOk result (λ list. IsOfFile (T.meaning parser) (string_bytes file) (entry_list_of T.seen list)) }
 {
-    let name = file.clone()?;
-    let list = named_list(rt, alloc, file, bytes, parser);
-    list_or_told(rt, alloc, name.as_str(), list, bytes)
+    bytes.clear();
+    match fs::metadata(rt, file.as_str()) {
+        Ok(found) if found.is_dir() => Err(CheckFault::Unready(format!(in alloc;
+            "cannot use {file} as an exclude file"
+        )?)),
+        Ok(found) => seen_file_list(rt, alloc, file, &Sight::of(&found), bytes, parser),
+        Err(error) => {
+            if let Err(fault) = is_there(error) {
+                pass_over(rt, alloc, file.as_str(), fault, bytes)?;
+            }
+            Ok(List::empty(alloc))
+        }
+    }
 }
 
 /// The list of a file that was looked at, as [`file_list`] answers it.
@@ -129,22 +166,43 @@ fn list_or_told<T: search::Pattern, R: Eprint>(
     match list {
         Ok(Some(list)) => Ok(list),
         Ok(None) => Ok(List::empty(alloc)),
-        Err(LoadFault::Memory) => Err(CheckFault::Memory),
-        Err(LoadFault::Read(error)) if is_passing(&error) => {
+        Err(fault) => {
+            pass_over(rt, alloc, name, fault, bytes)?;
+            Ok(List::empty(alloc))
+        }
+    }
+}
+
+/// Tells why a file couldn't be read, and takes its bytes away.
+///
+/// # Errors
+/// Where memory was refused, and where the file could be read the next time.
+pub(crate) fn pass_over<R: Eprint>(
+    rt: &R,
+    alloc: Global,
+    name: &str,
+    fault: LoadFault,
+    bytes: &mut Vec<u8>,
+) -> Result<(), CheckFault> {
+    match fault {
+        LoadFault::Memory => Err(CheckFault::Memory),
+        LoadFault::Read(error) if is_passing(&error) => {
             let text = format!(in alloc; "'{name}' wasn't read to its end: {error}")?;
             Err(CheckFault::Unready(text))
         }
-        Err(LoadFault::Read(error)) => {
+        LoadFault::Read(error) => {
             bytes.clear();
-            tell_unread(rt, alloc, name, error)?;
-            Ok(List::empty(alloc))
+            Ok(tell_unread(rt, alloc, name, error)?)
         }
     }
 }
 
 /// Whether an error says that the same may be done the next time.
 fn is_passing(error: &io::Error) -> bool
-    ensures { IsTrue result ↔ ((error_kind error.now ≡ kinds.Interrupted) ⊎ (error_kind error.now ≡ kinds.WouldBlock)) }
+    ensures { IsTrue result ↔ ((error_kind error.now ≡ kinds.Interrupted) ⊎ ((error_kind error.now ≡ kinds.WouldBlock) ⊎ (error_kind error.now ≡ kinds.UnexpectedEof))) }
 {
-    matches!(error.kind(), ErrorKind::Interrupted | ErrorKind::WouldBlock)
+    matches!(
+        error.kind(),
+        ErrorKind::Interrupted | ErrorKind::WouldBlock | ErrorKind::UnexpectedEof
+    )
 }

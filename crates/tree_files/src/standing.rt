@@ -12,6 +12,9 @@ use std::io::ErrorKind;
 use std::rt::Files;
 use std::{fs, io};
 
+/// No path of so many bytes behind its first slash can be looked at.
+pub(crate) const MOST_BYTES: usize = 4095;
+
 /// What stands where a folder may be.
 #[derive(Drop)]
 pub(crate) enum Standing {

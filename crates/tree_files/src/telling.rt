@@ -1,6 +1,6 @@
-//! What is told on the standard error: all lines go through here, so that no name brings a control character to a terminal.
-ghost use Rattle.std.specs.Prelude.{◌≡◌, ◌++◌, map, OnOk};
-ghost use Rattle.tree_files.specs.Telling.{is_shown, shown};
+//! What is told on the standard error: all lines go through here, so that no name changes how a terminal shows them.
+ghost use Rattle.std.specs.Prelude.{◌≡◌, ◌++◌, OnOk, string_bytes};
+ghost use Rattle.tree_files.specs.Telling.{is_between, is_shown, shown, shown_text};
 
 use std::alloc::{AllocError, Global};
 use std::fmt::Display;
@@ -12,33 +12,43 @@ pub fn tell_line<R: Eprint, D: Display + Drop>(
     line: D,
 ) -> Result<(), AllocError> {
     let told = format!(in alloc; "{line}")?;
-    let mut bytes = Vec::new(alloc);
-    append_shown(&mut bytes, told.as_bytes())?;
-    let text = String::from_utf8_lossy(alloc, &bytes)?;
+    let mut text = String::new(alloc);
+    append_shown(&mut text, &told)?;
     let _ = eprintln!(rt; "{text}");
     Ok(())
 }
 
-/// Appends each byte of a line as it is shown.
-fn append_shown(text: &mut Vec<u8>, told: &[u8]) -> Result<(), AllocError>
-    ensures { OnOk result (text.new.items ≡ text.old.items ++ map shown told.now) }
+/// Appends each character of a line as it is shown.
+fn append_shown(text: &mut String, told: &str) -> Result<(), AllocError>
+    ensures { OnOk result (string_bytes text.new ≡ string_bytes text.old ++ shown_text told.now) }
 {
-    'bytes: for byte in told {
-        text.push(shown(*byte))?;
+    for c in told.chars() {
+        text.push(shown(c))?;
     }
     Ok(())
 }
 
-/// A byte as a line shows it.
-fn shown(byte: u8) -> u8
-    ensures { result ≡ shown byte }
+/// A character as a line shows it.
+fn shown(c: char) -> char
+    ensures { result ≡ shown c }
 {
-    if is_shown(byte) { byte } else { b'?' }
+    if is_shown(c) { c } else { '?' }
 }
 
-/// Whether a line shows a byte as it is: a tab, and all but control characters.
-fn is_shown(byte: u8) -> bool
-    ensures { result ≡ is_shown byte }
+/// Whether a line shows a character as it is: a tab, and all but those of control, of direction, and that end a line or a paragraph.
+fn is_shown(c: char) -> bool
+    ensures { result ≡ is_shown c }
 {
-    byte == b'\t' || byte >= 32 && byte != 127
+    c == '\t'
+        || !(c <= '\u{1f}'
+            || is_between('\u{7f}', '\u{9f}', c)
+            || is_between('\u{2028}', '\u{202e}', c)
+            || is_between('\u{2066}', '\u{2069}', c))
+}
+
+/// Whether a character is one of these two, or lies between them.
+fn is_between(low: char, high: char, c: char) -> bool
+    ensures { result ≡ is_between low high c }
+{
+    low <= c && c <= high
 }

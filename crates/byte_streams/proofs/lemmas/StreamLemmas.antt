@@ -5,7 +5,7 @@ use Rattle.std.proofs.KnownBytes.{Appends-trans}
 use Rattle.std.specs.Io.KnownBytes.{Appends}
 use Rattle.std.proofs.Math.Seq.{take-append-add, take-length}
 use Rattle.byte_streams.specs.Transfers.{AppendsFront}
-use Rattle.byte_streams.specs.Private.Pulling.{MovesOut}
+use Rattle.byte_streams.specs.Progress.{MovesOut}
 
 -- what holds anyway holds of an error
 pub on_any_err : {T E P : Type 0} (r : Result T E) → P → OnErr r P

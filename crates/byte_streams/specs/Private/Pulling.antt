@@ -1,28 +1,13 @@
 -- What a reader of records does each time when it is asked for one, and what becomes of the texts.
-use Rattle.std.specs.Prelude.{◌≡◌, ◌≢◌, ◌⊎◌, ℕ, suc, ◌+◌, ◌*◌, ◌≤◌, Bool, true, false, List, [], ◌∷◌, ◌++◌, length, Option}
-use Rattle.std.specs.Io.KnownBytes.{Appends, Consumes, IsAtEnd}
-use Rattle.std.specs.List.{slice_range}
+use Rattle.std.specs.Prelude.{◌≡◌, ◌≢◌, ◌⊎◌, ℕ, ◌+◌, ◌≤◌, Bool, true, false, List, [], ◌∷◌, ◌++◌, length, Option}
+use Rattle.std.specs.Io.KnownBytes.{Consumes, IsAtEnd}
 use Rattle.byte_streams.specs.Records.{HasNo, IsCutAt}
 use Rattle.byte_streams.specs.declared.records.Records.{Records}
-
--- the writer took a front of the text, and what is left of it isn't written yet
-pub record MovesOut (old new : Option (List ℕ)) (text left : List ℕ) : Type 0 where
-  pub written : List ℕ
-  pub appended : Appends old new written
-  pub joined : text ≡ written ++ left
-
--- the bytes that were read and not given yet
-abbrev pub held : Records → List ℕ
-held records = slice_range records.piece records.at records.count
 
 -- the bytes that are held are bytes of the piece
 pub record HoldsSome (records : Records) : Type 0 where
   pub order : records.at ≤ records.count
   pub inside : records.count ≤ length records.piece
-
--- a measure: so many reads and so many bytes are left
-abbrev pub fuel : Records → ℕ
-fuel records = records.reads_left * suc (length records.piece) + length (held records)
 
 -- the record that has begun got what was held up to its end, or all of it
 abbrev pub TakesRest : Bool → ℕ → List ℕ → List ℕ → List ℕ → List ℕ → Type 0

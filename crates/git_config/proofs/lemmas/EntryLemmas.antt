@@ -2,17 +2,18 @@
 use Rattle.std.proofs.Common.{◌≡◌, ℕ, zero, suc, ◌-◌, List, [], ◌∷◌, ◌++◌, Option, None, Some, Result, Ok, Err, refl, sym, ap, subst, ◌∙◌, append_assoc, arith, inl, inr}
 use Rattle.std.specs.Prelude.{MatchResult, Vec}
 use Rattle.std.specs.declared.alloc.Global.{Global}
-use Rattle.std.specs.declared.rc.Rc.{Rc}
 use Rattle.git_config.specs.declared.files.FoundFile.{FoundFile}
 use Rattle.git_config.specs.declared.includes.Asked.TheVariants as asked
 use Rattle.git_config.specs.declared.includes.ReadFault.{ReadFault}
 use Rattle.git_config.specs.declared.includes.ReadFault.TheVariants as read
+use Rattle.git_config.specs.declared.section.Section.{Section}
 use Rattle.git_config.specs.declared.setting.SettingFault.{SettingFault}
 use Rattle.git_config.specs.declared.setting.WrongSetting.{WrongSetting}
 use Rattle.git_config.specs.declared.setting.WrongSetting.TheVariants.{TooDeep}
 use Rattle.git_config.specs.declared.surroundings.Surroundings.{Surroundings}
-use Rattle.git_config.specs.Configuration.{Deep, FromEntry, FromFile, FromInclude, FromPath, Outcome, Seen, Then, Within, seen_fault, wrong_at}
-use Rattle.git_config.specs.Private.Settings.{Adds, Asks}
+use Rattle.git_config.specs.Configuration.{Deep, FromEntry, FromFile, FromInclude, FromPath, Outcome, Seen, Then, Within, wrong_at}
+use Rattle.git_config.specs.Private.Sections.{file_seen}
+use Rattle.git_config.specs.Private.Settings.{Adds, Asks, Tells}
 use Rattle.git_config.proofs.lemmas.SettingLemmas.{adds_as}
 
 abbrev pub Is : Seen → Outcome → Type 0
@@ -36,9 +37,15 @@ pub entry_wrong : (s : Seen) (Next : Outcome → Type 0) (what : WrongSetting) (
 entry_wrong s Next what path h = inr (s ∷ [], refl, h)
 
 -- a fault that is told
-pub told : {F : Type 0} (R : Outcome → Type 0) (old new : List Seen) (fault : ReadFault F) (f : SettingFault (Rc (Vec ℕ Global) Global) (Vec ℕ Global)) → fault ≡ read.Setting f → R (Err (seen_fault f))
-    → Adds R old new (Err fault)
-told {F} R old new fault f e h = subst (λ (x : ReadFault F). Adds R old new (Err x)) (sym e) h
+pub told : {F : Type 0} (R : Outcome → Type 0) (old new : List Seen) (fault : ReadFault F) (t : SettingFault (List ℕ) (List ℕ)) → Tells t fault → R (Err t) → Adds R old new (Err fault)
+told R old new read.Memory t e h = tt
+told R old new (read.File _) t e h = absurd e
+told R old new (read.Setting f) t e h = subst (λ (x : SettingFault (List ℕ) (List ℕ)). let out : Outcome = Err x in R out) (sym e) h
+
+-- a fault of a section
+pub tells : {F : Type 0} (a b : Section) → a ≡ b → (line : ℕ) (what : WrongSetting) (path : Option (List ℕ)) (fault : ReadFault F)
+    → Tells (record { file = file_seen a; line = line; what = what; path = path }) fault → Tells (record { file = file_seen b; line = line; what = what; path = path }) fault
+tells a b is line what path fault h = subst (λ (x : Section). Tells (record { file = file_seen x; line = line; what = what; path = path }) fault) is h
 
 then_as : (s : Seen) (Next Other : Outcome → Type 0) (out : Outcome) → ((o : Outcome) → Next o → Other o) → Then (Is s) Next out → Then (Is s) Other out
 then_as s Next Other (Ok all) f (a, b, e, i, h) = (a, b, e, i, f (Ok b) h)

@@ -1,6 +1,5 @@
 -- The items of a file, one after the other.
 use Rattle.std.proofs.Common.{◌≡◌, ℕ, List, [], ◌++◌, Option, None, Some, Result, Ok, Err, Vec, option_map, refl, sym, ap, subst, ◌∙◌}
-use Rattle.std.specs.Vec.{vec_items}
 use Rattle.std.specs.declared.alloc.Global.{Global}
 use Rattle.std.specs.declared.rc.Rc.{Rc}
 use Rattle.git_config.specs.declared.fault.ConfigFault.{ConfigFault}
@@ -9,12 +8,13 @@ use Rattle.git_config.specs.declared.files.FoundFile.{FoundFile}
 use Rattle.git_config.specs.declared.includes.ReadFault.{ReadFault}
 use Rattle.git_config.specs.declared.item.Entry.{Entry}
 use Rattle.git_config.specs.declared.item.Item.TheVariants.{Sets}
-use Rattle.git_config.specs.declared.setting.Setting.{Setting}
+use Rattle.git_config.specs.declared.section.Section.{Section}
 use Rattle.git_config.specs.declared.setting.WrongSetting.TheVariants.{Text}
 use Rattle.git_config.specs.declared.surroundings.Surroundings.{Surroundings}
-use Rattle.git_config.specs.Configuration.{Deep, FromEntry, FromFile, FromItems, Outcome, Seen, Then, seen_setting}
+use Rattle.git_config.specs.Configuration.{Deep, FromEntry, FromFile, FromItems, Outcome, Seen, Then}
 use Rattle.git_config.specs.Grammar.{Reading, before, items_of, nothing}
-use Rattle.git_config.specs.Items.{entry_with}
+use Rattle.git_config.specs.Items.{seen_entry}
+use Rattle.git_config.specs.Private.Sections.{file_seen, seen_in}
 use Rattle.git_config.specs.Private.Settings.{Adds, Continues, fault_in}
 use Rattle.git_config.specs.Private.Taking.{Fails}
 use Rattle.git_config.proofs.lemmas.SettingLemmas.{adds, begins, ends, fails, same}
@@ -65,9 +65,6 @@ module _ (Shows : List ℕ → Option (FoundFile (List ℕ)) → Type 0) (around
       c.whole out (subst (λ (w : Reading). Left section w out) (sym h) refl)
 
 -- an entry of a section of a file
-pub setting_as : (s : Setting (Rc (Vec ℕ Global) Global) (Vec ℕ Global)) (path section : List ℕ) (entry : Entry (Vec ℕ Global)) → option_map (λ rc. rc.value.items) s.file ≡ Some path
-    → s.section.value.items ≡ section → s.entry ≡ entry → ◌≡◌ {A = Seen} (seen_setting s) (record { file = Some path; section = section; entry = entry_with vec_items entry })
-setting_as s path section entry f h e =
-    ap (λ (x : Option (List ℕ)). let r : Seen = record { file = x; section = s.section.value.items; entry = entry_with vec_items s.entry } in r) f
-    ∙ ap (λ (x : List ℕ). let r : Seen = record { file = Some path; section = x; entry = entry_with vec_items s.entry } in r) h
-    ∙ ap (λ (x : Entry (Vec ℕ Global)). let r : Seen = record { file = Some path; section = section; entry = entry_with vec_items x } in r) e
+pub told_as : (section : Section) (path : List ℕ) (entry : Entry (Vec ℕ Global)) → file_seen section ≡ Some path
+    → ◌≡◌ {A = Seen} (seen_in section entry) (record { file = Some path; section = section.keys.items; entry = seen_entry entry })
+told_as section path entry f = ap (λ (x : Option (List ℕ)). let r : Seen = record { file = x; section = section.keys.items; entry = seen_entry entry } in r) f

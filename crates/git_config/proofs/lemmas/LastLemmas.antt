@@ -1,7 +1,11 @@
 -- The last value of a key counts, and a wrong one is told.
-use Rattle.std.proofs.Common.{◌≡◌, Bool, List, [], ◌∷◌, ◌++◌, Option, None, Some, Result, Ok, Err, refl, sym, ap, ◌∙◌}
-use Rattle.git_config.specs.Configuration.{Seen, last_said}
+use Rattle.std.proofs.Common.{◌≡◌, ◌<◌, ◌≤◌, ℕ, ◌+◌, ◌-◌, Bool, true, cond, List, [], ◌∷◌, ◌++◌, drop, take, length, arith, Option, None, Some, Result, Ok, Err, refl, sym, ap, ◌∙◌}
+use Rattle.std.specs.Str.{bytes_eq}
+use Rattle.std.proofs.lemmas.List.{take-append-drop}
+use Rattle.std.proofs.lemmas.List.Elements.{filter-append}
+use Rattle.git_config.specs.Configuration.{Seen, key_of, last_said, settings_of}
 use Rattle.git_config.specs.Numbers.{boolean_of}
+use Rattle.git_config.specs.Private.Answering.{IsLast}
 
 abbrev Said : Type 0
 Said = Result (Option Bool) Seen
@@ -39,3 +43,21 @@ pub wrong_told : (last : Option Bool) (front more : List Seen) (w : Seen) → la
 wrong_told last [] more w h = absurd (cc)
 wrong_told last (t ∷ front) more w h =
     said-step last t (front ++ more) ∙ said_wrong (boolean_of t.entry.value) t w (λ next. last_said next front) (λ next. last_said next (front ++ more)) (λ next k. wrong_told next front more w k) (sym (said-step last t front) ∙ h)
+
+-- the last entry of a key: it has the key, and none behind it
+pub last_at : (key : List ℕ) (all : List Seen) (left : ℕ) (s : Seen) → 0 < left → left ≤ length all → drop (left - 1) all ≡ s ∷ drop ((left - 1) + 1) all
+    → settings_of key (drop left all) ≡ [] → bytes_eq (key_of s) key ≡ true → IsLast key all (left - 1)
+last_at key all left s some within at none is =
+    let p = left - 1 in
+    let next : p + 1 ≡ left = omega (arith, some) in
+    let only : settings_of key (drop p all) ≡ s ∷ [] =
+    ap (settings_of key) at ∙ ap (λ (b : Bool). let rest = settings_of key (drop (p + 1) all) in cond b (s ∷ rest) rest) is ∙ ap (λ (n : ℕ). s ∷ settings_of key (drop n all)) next ∙ ap (λ (l : List Seen). s ∷ l) none in
+    record {
+      front = settings_of key (take p all);
+      last = s;
+      rest = drop (p + 1) all;
+      within = omega (arith, some, within);
+      at = at;
+      only = only;
+      all = ap (settings_of key) (sym (take-append-drop p all)) ∙ filter-append (λ (x : Seen). bytes_eq (key_of x) key) (take p all) (drop p all) ∙ ap (λ (l : List Seen). settings_of key (take p all) ++ l) only;
+    }

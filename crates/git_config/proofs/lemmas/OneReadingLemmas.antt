@@ -1,8 +1,8 @@
 -- A configuration has one reading.
 use Rattle.std.proofs.Common.{◌≡◌, ℕ, zero, suc, ◌+◌, List, [], ◌∷◌, Option, None, Some, Result, Ok, Err, sym, subst, ◌∙◌, inl, inr}
 use Rattle.std.specs.Prelude.{MatchOption, MatchResult}
-use Rattle.git_config.specs.declared.config.Source.{Source}
-use Rattle.git_config.specs.declared.config.Source.TheVariants.{File, Word}
+use Rattle.git_config.specs.declared.sources.Source.{Source}
+use Rattle.git_config.specs.declared.sources.Source.TheVariants.{File, Word}
 use Rattle.git_config.specs.declared.files.FoundFile.{FoundFile}
 use Rattle.git_config.specs.declared.fault.Wrong.{Wrong}
 use Rattle.git_config.specs.declared.item.Item.{Item}

@@ -4,8 +4,8 @@ use Rattle.std.specs.Prelude.{IsErrAnd, MatchOption, Vec}
 use Rattle.std.specs.declared.alloc.Global.{Global}
 use Rattle.std.specs.declared.rc.Rc.{Rc}
 use Rattle.std.specs.Option.{option_copied}
-use Rattle.git_config.specs.declared.config.Source.{Source}
-use Rattle.git_config.specs.declared.config.Source.TheVariants.{Word}
+use Rattle.git_config.specs.declared.sources.Source.{Source}
+use Rattle.git_config.specs.declared.sources.Source.TheVariants.{Word}
 use Rattle.git_config.specs.declared.files.FoundFile.{FoundFile}
 use Rattle.git_config.specs.declared.includes.ReadFault.{ReadFault}
 use Rattle.git_config.specs.declared.includes.ReadFault.TheVariants as read

@@ -17,5 +17,5 @@ OnBranch around told = IsSomeAnd around.branch (λ name. SplitsBy name.items (be
 
 -- a section of a file of this real path: what its entries of the name `path` do is as it is said
 pub record IsScope (around : Surroundings) (real : Option (List ℕ)) (scope : Scope) : Type 0 where
-  pub cut : scope.is_cut ≡ list_any (λ b. b == 0) scope.section.value.items
-  pub includes : IsTrue scope.includes ↔ Includes around real (before_zero (scope.section.value.items ++ codes "path"))
+  pub cut : scope.is_cut ≡ list_any (λ b. b == 0) scope.section.value.keys.items
+  pub includes : IsTrue scope.includes ↔ Includes around real (before_zero (scope.section.value.keys.items ++ codes "path"))

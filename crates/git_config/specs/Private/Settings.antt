@@ -8,6 +8,7 @@ use Rattle.git_config.specs.declared.includes.Asked.{Asked}
 use Rattle.git_config.specs.declared.includes.Asked.TheVariants as asked
 use Rattle.git_config.specs.declared.includes.ReadFault.{ReadFault}
 use Rattle.git_config.specs.declared.includes.ReadFault.TheVariants as read
+use Rattle.git_config.specs.declared.setting.SettingFault.{SettingFault}
 use Rattle.git_config.specs.declared.setting.WrongSetting.{WrongSetting}
 use Rattle.git_config.specs.declared.setting.WrongSetting.TheVariants.{Text}
 use Rattle.git_config.specs.declared.surroundings.Surroundings.{Surroundings}
@@ -29,6 +30,12 @@ path_asked (asked.Wrong what) = Some (Err what)
 abbrev pub fault_in : {F : Type 0} → ConfigFault → Rc (Vec ℕ Global) Global → ReadFault F
 fault_in config.Memory path = read.Memory
 fault_in (config.Line line what) path = read.Setting (record { file = Some path; line = line; what = Text what; path = None })
+
+-- a fault tells this, unless memory was refused
+abbrev pub Tells : {F : Type 0} → SettingFault (List ℕ) (List ℕ) → ReadFault F → Type 0
+Tells told read.Memory = Unit {0}
+Tells told (read.File _) = ⊥
+Tells told (read.Setting fault) = seen_fault fault ≡ told
 
 -- A call that adds entries to a list came to an outcome: it added them, or told the fault, unless memory or a file was refused.
 abbrev pub Adds : {F : Type 0} → (Outcome → Type 0) → List Seen → List Seen → Result (Unit {0}) (ReadFault F) → Type 0

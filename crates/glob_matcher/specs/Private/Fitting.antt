@@ -1,10 +1,10 @@
--- What a token takes of the value: a byte that fits it, a stretch that a star token spans, a set that is tested at a byte.
-use Rattle.std.specs.Prelude.{◌≡◌, ◌≢◌, ◌↔◌, ◌⊎◌, ℕ, ◌-◌, ◌<◌, ◌≤◌, ⊤, Bool, IsTrue, List, length, slice_index}
+-- What a token takes of the value: a byte that fits it, a stretch that a star token spans.
+use Rattle.std.specs.Prelude.{◌≡◌, ◌≢◌, ◌⊎◌, ℕ, ◌-◌, ◌<◌, ◌≤◌, ⊤, IsTrue, List, length, slice_index}
 use Rattle.glob_matcher.specs.declared.wildmatch.way.Way.{Way}
 use Rattle.glob_matcher.specs.declared.wildmatch.tokens.TokenKind.{TokenKind}
 use Rattle.glob_matcher.specs.declared.wildmatch.tokens.TokenKind.TheVariants as kind
 use Rattle.glob_matcher.specs.Bytes.{NoSlash, fold, is_path, slash}
-use Rattle.glob_matcher.specs.Sets.{Set, SetAt, set_holds}
+use Rattle.glob_matcher.specs.Sets.{set_holds}
 use Rattle.glob_matcher.specs.Tokens.{Token, Byte, Any, OneOf}
 
 -- place e lies past k and comes directly after a slash
@@ -26,11 +26,3 @@ Spans kind.Free value k e = ⊤
 Spans kind.Local value k e = NoSlash value k e
 Spans kind.Dirs value k e = (e ≡ k) ⊎ AfterSlash value k e
 Spans _ value k e = ⊥
-
--- The set from place i up to place j is tested at place k of the value: whether the value has a byte there that it holds.
-pub record IsSetTested (way : Way) (p v : List ℕ) (i k j : ℕ) (holds : Bool) : Type 0 where
-  pub set : Set
-  pub here : SetAt p i set j
-  pub past : i < j
-  pub inside : j ≤ length p
-  pub answer : IsTrue holds ↔ ((k < length v) × Fits way (OneOf set) (slice_index v k))

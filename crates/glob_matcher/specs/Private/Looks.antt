@@ -23,13 +23,6 @@ pub record LookedOver (n : ℕ) (before after : Counts) (i j : ℕ) : Type 0 whe
   pub looks : after.looks + n * i ≤ before.looks + n * j
   pub low : before.looks ≤ after.looks
 
--- A set from place i up to place j is tested in one step, with one look at the value and at most four for each byte of its
--- spelling.
-pub record IsSetPaid (before after : Counts) (i j : ℕ) : Type 0 where
-  pub steps : after.steps ≡ before.steps + 1
-  pub looks : after.looks + 4 * i ≤ before.looks + 4 * j + 1
-  pub low : before.looks < after.looks
-
 -- what is known of a closing bracket: where it isn't passed yet, it is the first from place i on
 abbrev pub IsKnown : List ℕ → ℕ → Option ℕ → Type 0
 IsKnown text i None = Unit {0}

@@ -1,16 +1,13 @@
 //! Whether a token fits at a place of the value. Each test is exactly one step, also where the value has ended and where the
 //! token matches nothing.
-ghost use Rattle.std.specs.Prelude.{◌≡◌, ◌≢◌, ◌↔◌, ℕ, ◌+◌, ◌-◌, ◌<◌, ◌≤◌, IsTrue, IfSome, IfNone, MatchOption, length, slice_index};
-ghost use Rattle.glob_matcher.specs.Bytes.{HasByte, open_bracket};
-ghost use Rattle.glob_matcher.specs.Sets.{Set, SetAt};
+ghost use Rattle.std.specs.Prelude.{◌≡◌, ◌≢◌, ◌↔◌, ℕ, ◌+◌, ◌-◌, ◌<◌, ◌≤◌, IsTrue, MatchOption, length, slice_index};
+ghost use Rattle.glob_matcher.specs.Bytes.{HasByte};
 ghost use Rattle.glob_matcher.specs.Tokens.{Token, Byte};
 ghost use Rattle.glob_matcher.specs.Private.Reader.{kind_of};
-ghost use Rattle.glob_matcher.specs.Private.Fitting.{Fits, IsSetTested};
-ghost use Rattle.glob_matcher.specs.Private.Looks.{IsSetPaid, read_end};
+ghost use Rattle.glob_matcher.specs.Private.Fitting.{Fits};
 ghost use Rattle.glob_matcher.specs.Private.Takes.{TakesExactly};
 
 use super::engine::Engine;
-use super::sets::SetRead;
 use super::texts::Texts;
 use super::tokens::TokenKind;
 use std::sync::ledger::Ledger;
@@ -77,28 +74,6 @@ impl<'c, 'a, L: Ledger, M: Texts> Engine<'c, 'a, L, M> {
         ensures count { TakesExactly self.old self.new 1 1 }
     {
         self.texts.value_at(at)
-    }
-
-    /// Tests the set whose bracket stands at a place of the pattern: whether it holds the byte of the value. Where the value
-    /// ends, it is read for any byte, and holds none. `None` where no set begins.
-    #[inline(always)]
-    pub fn fits_set(&mut self, place: usize, at: usize) -> Option<SetRead>
-        requires { HasByte M.pattern place open_bracket }
-        ensures found { IfSome result (λ set. IsSetTested M.way M.pattern M.value place at set.end set.holds) }
-        ensures none { IfNone result ((set : Set) (end : ℕ) → ¬ SetAt M.pattern place set end) }
-        ensures count { IsSetPaid self.old self.new place (read_end M.pattern result) }
-        ensures looked { IfSome result (λ set. self.old.looks + 1 < self.new.looks) }
-    {
-        match self.value_at(at) {
-            Some(byte) => self.set_apart(place, byte),
-            None => match self.set_apart(place, 0) {
-                Some(set) => Some(SetRead {
-                    holds: false,
-                    ..set
-                }),
-                None => None,
-            },
-        }
     }
 
     /// Tests a token that matches nothing: it fits no byte, and none is read.

@@ -1,114 +1,109 @@
-//! A set read apart from the engine that asks: out of line, by an engine of its own, so that the one that asks may stay in
-//! registers.
-ghost use Rattle.std.specs.Prelude.{◌≡◌, ◌<◌, IfSome, []};
-ghost use Rattle.glob_matcher.specs.Bytes.{HasByte, open_bracket};
-ghost use Rattle.glob_matcher.specs.Private.Looks.{LookedOver, read_end};
-ghost use Rattle.glob_matcher.specs.Private.Reader.{IsSetRead};
-ghost use Rattle.glob_matcher.specs.Private.SetAnswers.{set_of};
+//! A run of sets read apart from the engine that asks: out of line, by an engine of its own, so that the one that asks may stay in
+//! registers, and what a call takes is paid once for them all.
+ghost use Rattle.std.specs.Prelude.{◌≡◌};
+ghost use Rattle.glob_matcher.specs.Private.SetRuns.{IsSetRun, MeetsBracket};
 
 use super::counted_text::CountedText;
 use super::counted_texts::CountedTexts;
 use super::counted_value::CountedValue;
 use super::engine::Engine;
-use super::sets::SetRead;
 use super::steps::Steps;
 use super::texts::Texts;
 use super::way::Way;
 use std::marker::Brand;
 use std::sync::ledger::Ledger;
 
-/// What is read of a set, as two registers hand it over; an `Option<SetRead>` would go through memory.
+/// Where an engine stands in its two texts: at `place` in the pattern, and at `at` in the value.
 #[derive(Clone, Copy)]
-pub enum SetAnswer {
-    /// A set ends at this place, and holds the byte.
-    Holds(usize),
-    /// A set ends at this place, and doesn't hold the byte.
-    Lacks(usize),
-    /// No set begins.
-    NoSet,
+pub struct Places {
+    pub place: usize,
+    pub at: usize,
 }
 
-impl SetAnswer {
-    /// The answer that hands this over.
-    #[inline(always)]
-    fn of(read: Option<SetRead>) -> SetAnswer
-        ensures { set_of result ≡ read }
-    {
-        match read {
-            Some(SetRead { end, holds: true }) => SetAnswer::Holds(end),
-            Some(SetRead { end, holds: false }) => SetAnswer::Lacks(end),
-            None => SetAnswer::NoSet,
-        }
-    }
-
-    /// What is handed over.
-    #[inline(always)]
-    pub(super) fn read(self) -> Option<SetRead>
-        ensures { result ≡ set_of self }
-    {
-        match self {
-            SetAnswer::Holds(end) => Some(SetRead { end, holds: true }),
-            SetAnswer::Lacks(end) => Some(SetRead { end, holds: false }),
-            SetAnswer::NoSet => None,
-        }
-    }
+/// What a run of sets comes to, of which each is tested at a byte of the value.
+#[derive(Clone, Copy)]
+pub enum SetRun {
+    /// Each holds its byte.
+    Held,
+    /// The set that is met lacks its byte.
+    Lacks,
+    /// No set begins where the next would.
+    Broken,
 }
 
 impl<'c, 'a, L: Ledger, M: Texts> Engine<'c, 'a, L, M> {
-    /// Reads the set whose bracket stands at a place of the pattern, apart from this engine; `None` where no set begins.
+    /// Tests the sets that stand from these places on, apart from this engine, and moves the places to where the run ends, or to the
+    /// set that lacks its byte.
     #[inline(always)]
-    pub fn set_apart(&mut self, place: usize, byte: u8) -> Option<SetRead>
-        requires { HasByte M.pattern place open_bracket }
-        ensures read { IsSetRead M.way M.pattern place byte result }
-        ensures count { LookedOver 4 self.old self.new place (read_end M.pattern result) }
-        ensures looked { IfSome result (λ set. self.old.looks < self.new.looks) }
+    pub fn sets_apart(&mut self, places: &mut Places) -> SetRun
+        requires { MeetsBracket M.pattern M.value places.old }
+        ensures { IsSetRun M.way M.pattern M.value places.old places.new result self.old self.new }
     {
         let way = self.way();
         let texts = &mut self.texts;
-        read_set::<L, M>(texts.pattern.again(), place, byte, way, &mut *texts.counts).read()
+        let (pattern, value) = (texts.pattern.again(), texts.value.again());
+        read_sets::<L, M>(pattern, value, places, way, &mut *texts.counts)
+    }
+
+    /// Tests the sets that stand from these places on.
+    #[inline(always)]
+    fn pass_sets(&mut self, places: &mut Places) -> SetRun
+        requires { MeetsBracket M.pattern M.value places.old }
+        ensures { IsSetRun M.way M.pattern M.value places.old places.new result self.old self.new }
+    {
+        'sets: while places.at < self.texts.value_len() && self.has_byte(places.place, b'[') {
+            let byte = self.texts.value_byte(places.at);
+            let Some(set) = self.set_at(places.place, byte) else {
+                return SetRun::Broken;
+            };
+            if !set.holds {
+                return SetRun::Lacks;
+            }
+            places.place = set.end;
+            places.at += 1;
+        }
+        SetRun::Held
     }
 }
 
-/// Reads a set, out of line.
+/// Tests a run of sets, out of line; and cold, so that the engine that asks keeps its registers for the turns at other tokens.
+#[cold]
 #[inline(never)]
-pub(super) fn read_set<'a, L: Ledger, M: Texts>(
+fn read_sets<'a, L: Ledger, M: Texts>(
     pattern: CountedText<'a, L>,
-    place: usize,
-    byte: u8,
+    value: CountedValue<'a, L>,
+    places: &mut Places,
     way: Way,
     counts: &mut Steps<L>,
-) -> SetAnswer
+) -> SetRun
     requires pattern { pattern ≡ M.pattern }
+    requires value { value ≡ M.value }
     requires way { way ≡ M.way }
-    requires bracket { HasByte M.pattern place open_bracket }
-    ensures read { IsSetRead M.way M.pattern place byte (set_of result) }
-    ensures count { LookedOver 4 counts.old counts.new place (read_end M.pattern (set_of result)) }
-    ensures looked { IfSome (set_of result) (λ set. counts.old.looks < counts.new.looks) }
+    requires bracket { MeetsBracket M.pattern M.value places.old }
+    ensures { IsSetRun M.way M.pattern M.value places.old places.new result counts.old counts.new }
 {
-    SetAnswer::of(read_by::<L, Brand>(pattern, place, byte, way, counts).0)
+    read_by::<L, Brand>(pattern, value, places, way, counts).0
 }
 
-/// Reads a set by an engine without a value, and hands the counts back.
+/// Tests a run of sets by an engine of its own, and hands the counts back.
 #[inline(always)]
 fn read_by<'c, 'a, L: Ledger, M: Texts>(
     pattern: CountedText<'a, L>,
-    place: usize,
-    byte: u8,
+    value: CountedValue<'a, L>,
+    places: &mut Places,
     way: Way,
     counts: &'c mut Steps<L>,
-) -> (Option<SetRead>, &'c mut Steps<L>)
+) -> (SetRun, &'c mut Steps<L>)
     requires pattern { pattern ≡ M.pattern }
-    requires value { M.value ≡ [] }
+    requires value { value ≡ M.value }
     requires way { way ≡ M.way }
     requires counts { counts.ghost_name ≡ M.counts }
-    requires bracket { HasByte M.pattern place open_bracket }
-    ensures read { IsSetRead M.way M.pattern place byte result.0 }
+    requires bracket { MeetsBracket M.pattern M.value places.old }
     ensures same { result.1.ghost_name ≡ counts.entry.ghost_name }
-    ensures count { LookedOver 4 counts.old result.1.now place (read_end M.pattern result.0) }
-    ensures looked { IfSome result.0 (λ set. counts.old.looks < result.1.now.looks) }
+    ensures run { IsSetRun M.way M.pattern M.value places.old places.new result.0 counts.old result.1.now }
 {
-    let texts = CountedTexts::<'c, 'a, L, M>::of(pattern, CountedValue::new(&[]), counts);
+    let texts = CountedTexts::<'c, 'a, L, M>::of(pattern, value, counts);
     let mut engine = Engine::new(texts, way);
-    let set = engine.set_at(place, byte);
-    (set, engine.into_counts())
+    let run = engine.pass_sets(places);
+    (run, engine.into_counts())
 }

@@ -446,23 +446,18 @@ impl<'c, 'a, L: Ledger, M: Texts> Engine<'c, 'a, L, M> {
         let Some(next) = self.look_at(part.cursor.place) else {
             return None;
         };
-        let member = Spelled {
-            item: Item::Member(next),
-            next: part.cursor.place + 1,
-            close: part.cursor.close,
-        };
-        let with_member = part.past(member, byte, Way::Plain);
-        // most are letters, which lie past the brackets
-        if next > b']' {
-            return Some(with_member);
+        match next {
+            b'-' => self.past_plain_range(part, byte),
+            b'[' | b'\\' | b']' => None,
+            _ => {
+                let member = Spelled {
+                    item: Item::Member(next),
+                    next: part.cursor.place + 1,
+                    close: part.cursor.close,
+                };
+                Some(part.past(member, byte, Way::Plain))
+            }
         }
-        if next == b'-' {
-            return self.past_plain_range(part, byte);
-        }
-        if next >= b'[' {
-            return None;
-        }
-        Some(with_member)
     }
 
     /// Reads the items of a set up to the first that isn't plain. Most sets have no others, and a loop without them is short.
@@ -486,7 +481,6 @@ impl<'c, 'a, L: Ledger, M: Texts> Engine<'c, 'a, L, M> {
     fn closes_at(&mut self, cursor: Cursor) -> bool
         ensures answer { IsTrue result ↔ (IsTrue (not cursor.is_first) × HasByte M.pattern cursor.place close_bracket) }
         ensures count { Takes self.old self.new 0 1 }
-        ensures looked { IsTrue result → self.old.looks < self.new.looks }
     {
         !cursor.is_first && matches!(self.look_at(cursor.place), Some(b']'))
     }
@@ -498,7 +492,6 @@ impl<'c, 'a, L: Ledger, M: Texts> Engine<'c, 'a, L, M> {
         requires alike { (item : Item) → item_holds way byte item ≡ item_holds M.way byte item }
         ensures read { IsSetRead M.way M.pattern first.place byte result }
         ensures count { (before : Counts) → IsPartPaid 0 before self.old first → LookedOver 4 before self.new first.place (read_end M.pattern result) }
-        ensures looked { IfSome result (λ set. self.old.looks < self.new.looks) }
     {
         let mut part = first;
         'items: loop {
@@ -515,18 +508,28 @@ impl<'c, 'a, L: Ledger, M: Texts> Engine<'c, 'a, L, M> {
         }
     }
 
-    /// The set whose bracket stands at this place, read for this byte; `None` where no set begins.
+    /// The set whose bracket stands at this place, read item by item for this byte; `None` where no set begins.
+    #[inline(always)]
+    pub fn set_by_items(&mut self, place: usize, byte: u8) -> Option<SetRead>
+        requires { HasByte M.pattern place open_bracket }
+        ensures read { IsSetRead M.way M.pattern place byte result }
+        ensures count { LookedOver 4 self.old self.new place (read_end M.pattern result) }
+    {
+        let opening = self.set_opening(place);
+        self.rest_of_set(opening, byte, self.way())
+    }
+
+    /// The same, with its plain items in a loop of their own where case counts.
     #[inline(always)]
     pub fn set_at(&mut self, place: usize, byte: u8) -> Option<SetRead>
         requires { HasByte M.pattern place open_bracket }
         ensures read { IsSetRead M.way M.pattern place byte result }
         ensures count { LookedOver 4 self.old self.new place (read_end M.pattern result) }
-        ensures looked { IfSome result (λ set. self.old.looks < self.new.looks) }
     {
-        let opening = self.set_opening(place);
         if self.folds() {
-            return self.rest_of_set(opening, byte, self.way());
+            return self.set_by_items(place, byte);
         }
+        let opening = self.set_opening(place);
         let part = self.plain_part(opening, byte);
         if self.closes_at(part.cursor) {
             return Some(SetRead {

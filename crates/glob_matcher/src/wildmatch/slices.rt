@@ -1,15 +1,13 @@
 //! The readers of tokens over slices, for what counts nothing: each asks an engine with new counts that no one looks at.
-ghost use Rattle.std.specs.Prelude.{◌≡◌, ◌↔◌, ℕ, ◌<◌, IsTrue, [], length};
+ghost use Rattle.std.specs.Prelude.{◌≡◌, ◌≢◌, ◌↔◌, ℕ, ◌<◌, IsTrue, [], length, slice_index};
 ghost use Rattle.glob_matcher.specs.Bytes.{HasByte, open_bracket};
 ghost use Rattle.glob_matcher.specs.Tokens.{Token, TokenAt};
 ghost use Rattle.glob_matcher.specs.Private.Reader.{IsSetRead, IsToken, kind_of};
 ghost use Rattle.glob_matcher.specs.Private.Fitting.{Fits};
 ghost use Rattle.glob_matcher.specs.Steps.{IsBlankOf};
 
-use super::counted_text::CountedText;
 use super::counted_texts::CountedTexts;
 use super::engine::Engine;
-use super::set_apart::read_set;
 use super::sets::SetRead;
 use super::steps::Steps;
 use super::texts::{Texts, text_is_short};
@@ -23,7 +21,19 @@ pub fn token_at(pattern: &[u8], place: usize, way: Way) -> TokenRead
     requires { place < length pattern.now }
     ensures { IsToken way pattern.now place result.kind result.end }
 {
-    token_with_counts::<Brand>(pattern, place, way, Blank::new(2))
+    if pattern[place] != b'[' {
+        return token_with_counts::<Brand>(pattern, place, way, Blank::new(2));
+    }
+    match set_with_counts::<Brand>(pattern, place, 0, way, Blank::new(2)) {
+        Some(set) => TokenRead {
+            kind: TokenKind::Set,
+            end: set.end,
+        },
+        None => TokenRead {
+            kind: TokenKind::Nothing,
+            end: pattern.len(),
+        },
+    }
 }
 
 /// The same, with new counts.
@@ -31,6 +41,7 @@ pub fn token_at(pattern: &[u8], place: usize, way: Way) -> TokenRead
 fn token_with_counts<L: Ledger>(pattern: &[u8], place: usize, way: Way, blank: Blank) -> TokenRead
     requires blank { IsBlankOf L.name L.parts blank }
     requires inside { place < length pattern.now }
+    requires other { slice_index pattern.now place ≢ open_bracket }
     ensures { IsToken way pattern.now place result.kind result.end }
 {
     text_is_short(pattern);
@@ -51,6 +62,7 @@ fn token_over<'c, 'a, L: Ledger, M: Texts>(
     requires way { way ≡ M.way }
     requires counts { counts.ghost_name ≡ M.counts }
     requires inside { place < length pattern.now }
+    requires other { slice_index pattern.now place ≢ open_bracket }
     ensures { IsToken way pattern.now place result.0.kind result.0.end }
 {
     let texts = CountedTexts::<'c, 'a, L, M>::new(pattern, &[], counts);
@@ -73,8 +85,30 @@ fn set_with_counts<L: Ledger>(
     ensures { IsSetRead way pattern.now place byte result }
 {
     text_is_short(pattern);
-    let counted = CountedText::new(pattern);
-    read_set::<L, Brand>(counted, place, byte, way, &mut Steps::new(blank)).read()
+    let mut counts = Steps::new(blank);
+    set_over::<L, Brand>(pattern, place, byte, way, &mut counts).0
+}
+
+/// The same, of the pattern in counted looks; and the counts.
+#[inline(always)]
+fn set_over<'c, 'a, L: Ledger, M: Texts>(
+    pattern: &'a [u8],
+    place: usize,
+    byte: u8,
+    way: Way,
+    counts: &'c mut Steps<L>,
+) -> (Option<SetRead>, &'c mut Steps<L>)
+    requires pattern { pattern.now ≡ M.pattern }
+    requires value { M.value ≡ [] }
+    requires way { way ≡ M.way }
+    requires counts { counts.ghost_name ≡ M.counts }
+    requires bracket { HasByte pattern.now place open_bracket }
+    ensures { IsSetRead way pattern.now place byte result.0 }
+{
+    let texts = CountedTexts::<'c, 'a, L, M>::new(pattern, &[], counts);
+    let mut engine = Engine::new(texts, way);
+    let set = engine.set_by_items(place, byte);
+    (set, engine.into_counts())
 }
 
 impl TokenKind {

@@ -1,9 +1,9 @@
 //! The reader of tokens: what stands at a place of the pattern, and the place after it.
-ghost use Rattle.std.specs.Prelude.{◌≡◌, ◌≢◌, ◌↔◌, ◌+◌, ◌<◌, ◌≤◌, IsTrue, length};
+ghost use Rattle.std.specs.Prelude.{◌≡◌, ◌≢◌, ◌↔◌, ◌+◌, ◌<◌, ◌≤◌, IsTrue, length, slice_index};
 ghost use Rattle.glob_matcher.specs.declared.wildmatch.tokens.TokenKind.TheVariants as kind;
 ghost use Rattle.glob_matcher.specs.Tokens.{Token, IsRun, IsBounded};
 ghost use Rattle.glob_matcher.specs.Private.Spelling.{IsAfterSlash, IsBeforeSlash};
-ghost use Rattle.glob_matcher.specs.Bytes.{HasByte, slash, star};
+ghost use Rattle.glob_matcher.specs.Bytes.{HasByte, open_bracket, slash, star};
 ghost use Rattle.glob_matcher.specs.Private.Takes.{Takes};
 ghost use Rattle.glob_matcher.specs.Private.Looks.{LookedOver};
 ghost use Rattle.glob_matcher.specs.Private.Reader.{IsToken, IsTokenRead, IsRunRead, is_star, kind_of};
@@ -117,8 +117,7 @@ impl<'c, 'a, L: Ledger, M: Texts> Engine<'c, 'a, L, M> {
         ensures count { Takes self.old self.new 0 2 }
     {
         match self.look_at(place) {
-            None => true,
-            Some(b'/') => true,
+            None | Some(b'/') => true,
             Some(b'\\') => self.has_byte(place + 1, b'/'),
             Some(_) => false,
         }
@@ -172,9 +171,10 @@ impl<'c, 'a, L: Ledger, M: Texts> Engine<'c, 'a, L, M> {
         }
     }
 
-    /// The token at this place, and the place after it.
+    /// The token at this place, which is no bracket, and the place after it.
     pub fn token_at(&mut self, place: usize) -> TokenRead
-        requires { place < length M.pattern }
+        requires place { place < length M.pattern }
+        requires other { slice_index M.pattern place ≢ open_bracket }
         ensures token { IsToken M.way M.pattern place result.kind result.end }
         ensures count { IsTokenRead self.old self.new place result.kind result.end }
     {
@@ -196,16 +196,6 @@ impl<'c, 'a, L: Ledger, M: Texts> Engine<'c, 'a, L, M> {
             b'?' => TokenRead {
                 kind: TokenKind::Any,
                 end: place + 1,
-            },
-            b'[' => match self.set_apart(place, 0) {
-                Some(set) => TokenRead {
-                    kind: TokenKind::Set,
-                    end: set.end,
-                },
-                None => TokenRead {
-                    kind: TokenKind::Nothing,
-                    end: self.pattern_len(),
-                },
             },
             b'*' => self.run_at(place),
             byte => TokenRead {

@@ -12,6 +12,7 @@ use super::engine::Engine;
 use super::marks::Mark;
 use super::needle::{ExactByte, stands_for_itself};
 use super::scan::Scan;
+use super::set_apart::{Places, SetRun};
 use super::state::{Crossing, State, Turn};
 use super::texts::Texts;
 use super::tokens::TokenKind;
@@ -56,24 +57,27 @@ impl<'c, 'a, L: Ledger, M: Texts> Engine<'c, 'a, L, M> {
         Turn::On(next)
     }
 
-    /// A turn at a set, or at a bracket that begins none.
+    /// Turns at sets, up to another token, or a bracket that begins none: the marks stay. Where the value ends, none is read.
     #[inline(always)]
     fn set_turn(&mut self, state: State) -> Turn
         requires stands { StandsAt M.way M.pattern M.value state }
         requires bracket { HasByte M.pattern state.place open_bracket }
         ensures { IsTurn M.way M.pattern M.value state 1 result self.old self.new }
     {
-        let Some(set) = self.fits_set(state.place, state.at) else {
-            return Turn::NoMatch;
-        };
-        if !set.holds {
+        if state.at >= self.texts.value_len() {
+            self.texts.step();
             return Turn::Miss(state);
         }
-        Turn::On(State {
-            place: set.end,
-            at: state.at + 1,
-            ..state
-        })
+        let State { place, at, .. } = state;
+        let mut places = Places { place, at };
+        let run = self.sets_apart(&mut places);
+        let Places { place, at } = places;
+        let reached = State { place, at, ..state };
+        match run {
+            SetRun::Held => Turn::On(reached),
+            SetRun::Lacks => Turn::Miss(reached),
+            SetRun::Broken => Turn::NoMatch,
+        }
     }
 
     /// A turn at a run of stars that crosses slashes: both marks are forgotten, and one is set. At the pattern's end it takes

@@ -1,5 +1,5 @@
 -- The topmost ignored folder above a path, looked for from the front.
-use Rattle.std.proofs.Common.{◌≡◌, ⊎_elim, ℕ, ◌+◌, ◌<◌, ◌≤◌, List, length, take, ap, subst, ◌∙◌, arith}
+use Rattle.std.proofs.Common.{◌≡◌, ⊎_elim, ℕ, ◌+◌, ◌<◌, ◌≤◌, List, length, take, ap, refl, subst, ◌∙◌, arith}
 use Rattle.std.proofs.lemmas.Bool.{cases_lt}
 use Rattle.std.proofs.lemmas.List.{length-take-le}
 use Rattle.glob_lists.specs.declared.rules.Rules.{Rules}
@@ -14,18 +14,21 @@ module _ {V : Type 0} (lists : List (EntryList V)) (rules : Rules) (path : List 
   NoneIgnoredBefore place = (folder : List ℕ) (pair : ℕ × ℕ) → IsAbove folder path → length folder < place → ¬ Ignores lists rules folder pair
 
   module _ (place : ℕ) (none : NoneIgnoredBefore place) where
-    pub topmost_here : (pair : ℕ × ℕ) → HasByte path place slash → Ignores lists rules (take place path) pair → IsBelowIgnored lists rules path pair
+    pub topmost_here : (pair : ℕ × ℕ) → HasByte path place slash → Ignores lists rules (take place path) pair → (by : IsBelowIgnored lists rules path pair) × (by.folder ≡ take place path) × HasByte path place slash
     topmost_here pair here ignored =
         let above = above_slash path place here in
-        let inside : place < length path = here.inside in
-        record {
-          folder = take place path;
-          above = above;
-          ignored = ignored;
-          topmost = λ top by higher.
-              let shorter = above_is_shorter top (take place path) higher in
-              none top by (above_above top (take place path) path higher above) (omega (arith, shorter, length-take-le place path (omega arith)));
-        }
+        let inside : place < length path = here.inside in (
+          record {
+            folder = take place path;
+            above = above;
+            ignored = ignored;
+            topmost = λ top by higher.
+                let shorter = above_is_shorter top (take place path) higher in
+                none top by (above_above top (take place path) path higher above) (omega (arith, shorter, length-take-le place path (omega arith)));
+          },
+          refl,
+          here,
+        )
 
     -- a folder that ends up to the place ends before it, or there
     one_more : ((folder : List ℕ) (pair : ℕ × ℕ) → IsAbove folder path → length folder ≡ place → ¬ Ignores lists rules folder pair) → NoneIgnoredBefore (place + 1)

@@ -1,16 +1,12 @@
 -- What is answered of paths in turn.
-use Rattle.std.proofs.Common.{◌≡◌, ℕ, suc, ◌+◌, ◌<◌, List, [], ◌∷◌, ◌++◌, map, take, drop, length, get_or, sym, ap, ◌∙◌, append_assoc}
+use Rattle.std.proofs.Common.{◌≡◌, ℕ, suc, ◌+◌, ◌<◌, List, [], ◌∷◌, ◌++◌, map, take, drop, length, get_or, refl, sym, ap, ◌∙◌}
 use Rattle.std.proofs.Math.Seq.{drop-cons}
-use Rattle.std.specs.List.{AllZip}
 use Rattle.std.proofs.lemmas.List.{map-append, take-append-drop, take_more}
-use Rattle.byte_streams.specs.Records.{Adds, GrowsBy, StaysAllowed, TextOf, TextOfAnswered}
-use Rattle.byte_streams.proofs.lemmas.RecordLemmas.{answered_further, answered_no_more, answered_one}
-
-pub AllZip-weaker : {A B : Type 0} (R S : A → B → Type 0) → ((x : A) (y : B) → R x y → S x y) → (xs : List A) (ys : List B) → AllZip R xs ys → AllZip S xs ys
-AllZip-weaker R S on [] [] h = tt
-AllZip-weaker R S on [] (y ∷ ys) h = absurd h
-AllZip-weaker R S on (x ∷ xs) [] h = absurd h
-AllZip-weaker R S on (x ∷ xs) (y ∷ ys) h = (on x y h.0, AllZip-weaker R S on xs ys h.1)
+use Rattle.byte_streams.specs.Records.{TextOf}
+use Rattle.byte_streams.proofs.lemmas.RecordLemmas.{AllZip-append, TextOf-more, TextOf-one, TextOf-weaker}
+use Rattle.tree_answers.specs.declared.form.Form.{Form}
+use Rattle.tree_answers.specs.Records.{IsTextOf, NamesPath}
+use Rattle.tree_commands.specs.Answering.{TextOfNamed}
 
 -- the elements up to a place, and the next one
 module _ {X Y : Type 0} (f : X → Y) (xs : List X) (i : ℕ) (d : X) (low : i < length xs) where
@@ -23,21 +19,25 @@ module _ {X Y : Type 0} (f : X → Y) (xs : List X) (i : ℕ) (d : X) (low : i <
       ∙ (map-append f (take i xs) (drop i xs)
       ∙ ap (λ rest. map f (take i xs) ++ map f rest) (drop-cons xs i d low))
 
-module _ (Before After : List ℕ → List ℕ → Type 0) (stays : StaysAllowed Before After) (a b c : List (List ℕ) → Type 0) (first : List (List ℕ)) (old held : List ℕ) (adds : Adds (TextOfAnswered Before a b first) old held) where
-  -- one path more was answered
-  pub adds_more : (told grown : List ℕ) → Adds (After told) held grown → GrowsBy b c (told ∷ []) → Adds (TextOfAnswered After a c (first ++ told ∷ [])) old grown
-  adds_more told grown next grows =
-      let one = answered_one After b c told held grown next grows in
-      record {
-        added = adds.added ++ one.added;
-        allowed = (answered_further Before After stays a b c).join first (told ∷ []) adds.added one.added adds.allowed one.allowed;
-        grown = one.grown ∙ (ap (λ t. t ++ one.added) adds.grown ∙ append_assoc old adds.added one.added);
-      }
+pub map_parts : {X Y : Type 0} (f : X → Y) (xs : List X) (i : ℕ) → map f xs ≡ map f (take i xs) ++ map f (drop i xs)
+map_parts f xs i = sym (ap (map f) (take-append-drop i xs)) ∙ map-append f (take i xs) (drop i xs)
 
-  -- the next one wasn't
-  pub adds_kept : (left : List ℕ) → left ≡ held → GrowsBy b c [] → Adds (TextOf After first) old left
-  adds_kept left same grows = record {
-    added = adds.added;
-    allowed = ((answered_no_more Before After stays a b c grows).weaken first adds.added adds.allowed).of_records;
-    grown = same ∙ adds.grown;
-  }
+module _ (Before After : List ℕ → List ℕ → Type 0) (stays : (told text : List ℕ) → Before told text → After told text) where
+  -- one more was answered
+  pub text_more : (first : List (List ℕ)) (text : List ℕ) → TextOf Before first text → (told added : List ℕ) → After told added → TextOf After (first ++ told ∷ []) (text ++ added)
+  text_more first text texts told added answer = TextOf-more After first (told ∷ []) text added (TextOf-weaker Before After stays first text texts) (TextOf-one After told added answer)
+
+  pub named_stays : (form : Form) (bytes text : List ℕ) → IsTextOf Before form bytes text → IsTextOf After form bytes text
+  named_stays form bytes text (told, names, answer) = (told, names, stays told text answer)
+
+-- the same, where nothing is kept in mind of the paths
+module _ (Answers : List ℕ → List ℕ → Type 0) where
+  pub none_told : (form : Form) → TextOfNamed Answers (λ _. Unit {0}) form [] []
+  none_told form = (record { written = []; each = tt; joined = refl }, ([], tt, tt))
+
+  pub one_more_told : (form : Form) (bytes added : List ℕ) → IsTextOf Answers form bytes added → (records : List (List ℕ)) (text : List ℕ) → TextOfNamed Answers (λ _. Unit {0}) form records text
+      → TextOfNamed Answers (λ _. Unit {0}) form (records ++ bytes ∷ []) (text ++ added)
+  one_more_told form bytes added (told, names, answer) records text (texts, (paths, each, none)) = (
+    text_more (IsTextOf Answers form) (IsTextOf Answers form) (λ _ _ same. same) records text texts bytes added (told, names, answer),
+    (paths ++ told ∷ [], AllZip-append (NamesPath form) records (bytes ∷ []) paths (told ∷ []) each (names, tt), tt),
+  )

@@ -17,7 +17,7 @@ use Rattle.glob_attributes.specs.States.{Assigned, IsAssigned, states_in}
 use Rattle.glob_attributes.specs.Views.{seen_assignments}
 use Rattle.glob_trees.specs.Ways.{Folder, unless_empty}
 use Rattle.glob_trees.proofs.lemmas.WithEntries.{empty_or_not}
-use Rattle.byte_streams.specs.Records.{Adds}
+use Rattle.tree_commands.specs.Private.Answering.{Adds}
 use Rattle.git_paths.specs.Paths.{names_folder, parts_of}
 use Rattle.git_paths.specs.Standpoints.{led}
 use Rattle.tree_answers.specs.declared.form.Form.{Form}

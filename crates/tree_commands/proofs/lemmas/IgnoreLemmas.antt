@@ -14,7 +14,8 @@ use Rattle.gix_glob.specs.EntryLists.{EntryList, entry_list_of}
 use Rattle.glob_lists.specs.Paths.{IsPlainPath}
 use Rattle.glob_trees.specs.TreeParts.{HasMappingAt, TreeParts}
 use Rattle.glob_trees.specs.Ways.{AreOnTheWay, Folder, IsListOf}
-use Rattle.byte_streams.specs.Records.{Adds, GrowsBy, StaysAllowed, answered_by}
+use Rattle.byte_streams.specs.Records.{TextOf}
+use Rattle.byte_streams.proofs.lemmas.RecordLemmas.{AllZip-append, AllZip-weaker, TextOf-weaker}
 use Rattle.pathspecs.specs.Leading.{word_front, word_leads}
 use Rattle.git_paths.specs.declared.standpoint.Standpoint.{Standpoint}
 use Rattle.git_paths.specs.Paths.{parts_of, walk}
@@ -22,15 +23,17 @@ use Rattle.git_paths.specs.Standpoints.{is_absolute, led}
 use Rattle.git_index.specs.Holding.{IsHeld, LiesIn, LiesInSubmodule}
 use Rattle.tree_answers.specs.Lines.{Decision}
 use Rattle.tree_commands.specs.declared.check_ignore.flags.IgnoreFlags.{IgnoreFlags}
+use Rattle.tree_answers.specs.declared.form.Form.{Form}
+use Rattle.tree_answers.specs.declared.records.NameFault.{NameFault}
 use Rattle.tree_answers.specs.declared.records.NameFault.TheVariants as name
-use Rattle.tree_answers.specs.Records.{IsRefusal}
+use Rattle.tree_answers.specs.Records.{IsTextOf, NamesPath}
 use Rattle.tree_commands.specs.declared.check_ignore.fault.IgnoreFault.{IgnoreFault}
-use Rattle.tree_commands.specs.declared.check_ignore.fault.IgnoreFault.TheVariants.{BadlyQuoted}
+use Rattle.tree_commands.specs.Answering.{TextOfNamed, TextOfPaths}
+use Rattle.tree_commands.specs.Private.Asking.{IsRecordFault, TellsLine}
 use Rattle.tree_commands.specs.Private.Faults.{IsOfName}
 use Rattle.tree_commands.specs.CheckIgnore.{IsDeciding, IsDecidingForTop, IsIgnoreAnswer, IsLineAt, IsLineFor, IsLineIn, IsLineOf, IsStatus, Known, LeadsTo, Question, Refuses, asked_path, counted, question_of, text_about, told_path}
 use Rattle.tree_commands.specs.Private.Finding.{Finds, FindsIn, FindsTold, IsFound, IsFoundForTop, KeepsTree, lists_of}
-use Rattle.tree_answers.proofs.lemmas.RecordLemmas.{AllZip-append}
-use Rattle.tree_commands.proofs.lemmas.AnswerLemmas.{AllZip-weaker}
+use Rattle.tree_commands.proofs.lemmas.AnswerLemmas.{named_stays, text_more}
 use Rattle.tree_commands.proofs.lemmas.FindingLemmas.{stands_for_top, stands_there}
 
 -- ---- what leads where it is told
@@ -109,16 +112,16 @@ module _ (before after : Folder → EntryList (Unit {0}) → Type 0) (on : (fold
       decided = held_stays (question.literal told) (told_path told h.path) (question.known.kind_of h.path) line h.decided;
     }
 
-    pub answers_stay : StaysAllowed (IsIgnoreAnswer question before) (IsIgnoreAnswer question after)
+    pub answers_stay : (told text : List ℕ) → IsIgnoreAnswer question before told text → IsIgnoreAnswer question after told text
     answers_stay told text (line, for, same) = (line, line_stays told line for, same)
 
     status_stays : (is_any : Bool) (paths : List (List ℕ)) → IsStatus question before is_any paths → IsStatus question after is_any paths
     status_stays is_any paths (lines, each, same) = (lines, AllZip-weaker (IsLineFor question before) (IsLineFor question after) line_stays paths lines each, same)
 
     -- one path more was answered
-    pub status_grows : (was_any : Bool) (told : List ℕ) (line : Option Decision) → IsLineFor question after told line
-        → GrowsBy (IsStatus question before was_any) (IsStatus question after (was_any || is_some (counted question.flags.verbose line))) (told ∷ [])
-    status_grows was_any told line for paths (lines, each, same) =
+    status_grows : (was_any : Bool) (paths : List (List ℕ)) (told : List ℕ) (line : Option Decision) → IsLineFor question after told line
+        → IsStatus question before was_any paths → IsStatus question after (was_any || is_some (counted question.flags.verbose line)) (paths ++ told ∷ [])
+    status_grows was_any paths told line for (lines, each, same) =
         let stays = AllZip-weaker (IsLineFor question before) (IsLineFor question after) line_stays paths lines each in
         let any : list_any (λ l. is_some (counted question.flags.verbose l)) (lines ++ line ∷ []) ≡ (list_any (λ l. is_some (counted question.flags.verbose l)) lines || list_any (λ l. is_some (counted question.flags.verbose l)) (line ∷ []))
         = list_any-append (λ l. is_some (counted question.flags.verbose l)) lines (line ∷ []) in (
@@ -129,14 +132,33 @@ module _ (before after : Folder → EntryList (Unit {0}) → Type 0) (on : (fold
               ∙ sym any),
         )
 
-    -- nothing was
-    status_kept : (is_any : Bool) → GrowsBy (IsStatus question before is_any) (IsStatus question after is_any) []
-    status_kept is_any paths held = subst (IsStatus question after is_any) (sym (append-nil paths)) (status_stays is_any paths held)
+    module _ (told : List ℕ) (line : Option Decision) (decides : IsLineFor question after told line) (was_any is_any : Bool) (any : is_any ≡ (was_any || is_some (counted question.flags.verbose line))) where
+      pub word_told : (paths : List (List ℕ)) (text : List ℕ) → TextOfPaths (IsIgnoreAnswer question before) (IsStatus question before was_any) paths text
+          → TextOfPaths (IsIgnoreAnswer question after) (IsStatus question after is_any) (paths ++ told ∷ []) (text ++ text_about question.flags told (counted question.flags.verbose line))
+      word_told paths text (texts, status) = (
+        text_more (IsIgnoreAnswer question before) (IsIgnoreAnswer question after) answers_stay paths text texts told (text_about question.flags told (counted question.flags.verbose line)) (line, decides, refl),
+        subst (λ (b : Bool). IsStatus question after b (paths ++ told ∷ [])) (sym any) (status_grows was_any paths told line decides status),
+      )
 
-    -- a path got no answer
-    pub status_failed : {T E : Type 0} (result : Result T E) (was_any is_any : Bool) (told : List ℕ) → IsErr result → is_any ≡ was_any → GrowsBy (IsStatus question before was_any) (IsStatus question after is_any) (answered_by result told)
-    status_failed (Ok x) was_any is_any told failed same = absurd (false≢true failed)
-    status_failed (Err fault) was_any is_any told failed same = subst (λ (b : Bool). GrowsBy (IsStatus question before was_any) (IsStatus question after b) []) (sym same) (status_kept was_any)
+      pub record_told : (form : Form) (bytes : List ℕ) → NamesPath form bytes told → (records : List (List ℕ)) (text : List ℕ) → TextOfNamed (IsIgnoreAnswer question before) (IsStatus question before was_any) form records text
+          → TextOfNamed (IsIgnoreAnswer question after) (IsStatus question after is_any) form (records ++ bytes ∷ []) (text ++ text_about question.flags told (counted question.flags.verbose line))
+      record_told form bytes names records text (texts, (paths, each, status)) = (
+        text_more (IsTextOf (IsIgnoreAnswer question before) form) (IsTextOf (IsIgnoreAnswer question after) form) (named_stays (IsIgnoreAnswer question before) (IsIgnoreAnswer question after) answers_stay form) records text texts bytes
+            (text_about question.flags told (counted question.flags.verbose line)) (told, names, (line, decides, refl)),
+        (
+          paths ++ told ∷ [],
+          AllZip-append (NamesPath form) records (bytes ∷ []) paths (told ∷ []) each (names, tt),
+          subst (λ (b : Bool). IsStatus question after b (paths ++ told ∷ [])) (sym any) (status_grows was_any paths told line decides status),
+        ),
+      )
+
+    -- what was told of records stays so, whatever the status is
+    pub records_stay : (is_any : Bool) (form : Form) (records : List (List ℕ)) (text : List ℕ) → TextOfNamed (IsIgnoreAnswer question before) (IsStatus question before is_any) form records text → TextOf (IsTextOf (IsIgnoreAnswer question after) form) records text
+    records_stay is_any form records text told =
+        TextOf-weaker (IsTextOf (IsIgnoreAnswer question before) form) (IsTextOf (IsIgnoreAnswer question after) form) (named_stays (IsIgnoreAnswer question before) (IsIgnoreAnswer question after) answers_stay form) records text told.0
+
+    pub words_stay : (is_any : Bool) (paths : List (List ℕ)) (text : List ℕ) → TextOfPaths (IsIgnoreAnswer question before) (IsStatus question before is_any) paths text → TextOf (IsIgnoreAnswer question after) paths text
+    words_stay is_any paths text told = TextOf-weaker (IsIgnoreAnswer question before) (IsIgnoreAnswer question after) answers_stay paths text told.0
 
 -- ---- the question stays
 
@@ -243,14 +265,16 @@ module _ {S T X : Type 0} (shows : S → Folder → EntryList (Unit {0}) → Typ
       subst (λ (q : Question). FindsTold shows q told tree pair → IsLineAt (lists_of tree) pair line
       → IsLineFor q (shows tree.source) told line) same line_here
 
-  -- what is appended is an answer
-  pub answer_found : (question : Question) → question_of standpoint flags tracked tree so_far ≡ question
+  -- the text about it was appended
+  pub told_line : (question : Question) → question_of standpoint flags tracked tree so_far ≡ question
       → FindsTold shows question told tree pair → IsLineAt (lists_of tree) pair line
-      → (old new : List ℕ) → new ≡ old ++ text_about flags told (counted flags.verbose line) → Adds (IsIgnoreAnswer question (shows tree.source) told) old new
-  answer_found question same finds there old new grown = record {
-    added = text_about flags told (counted flags.verbose line);
-    allowed = (line, line_found question same finds there, ap (λ (q : Question). text_about q.flags told (counted q.flags.verbose line)) same);
-    grown = grown;
+      → (was_any is_counted : Bool) → is_counted ≡ is_some (counted flags.verbose line) → (mid_any : Bool) → mid_any ≡ was_any → (old new : List ℕ) → new ≡ old ++ text_about flags told (counted flags.verbose line)
+      → TellsLine question (shows tree.source) told was_any (mid_any || is_counted) old new
+  told_line question same finds there was_any is_counted counts mid_any kept old new grown = record {
+    line = line;
+    decides = line_found question same finds there;
+    written = grown ∙ ap (λ (q : Question). old ++ text_about q.flags told (counted q.flags.verbose line)) same;
+    any = ap (λ (b : Bool). b || is_counted) kept ∙ ap (λ (b : Bool). was_any || b) (counts ∙ ap (λ (q : Question). is_some (counted q.flags.verbose line)) same);
   }
 
 -- ---- where a told path leads
@@ -319,9 +343,23 @@ held_as_asked tracked own asked literal front same here is_held held =
 
 -- ---- faults
 
--- a fault of a run is that of a path, or that a record names none
-pub refusal_told : {F : Type 0} (question : Question) (fault : IgnoreFault F) → IsRefusal (Refuses question) IsOfName fault
-    → ((told : List ℕ) × Refuses question told fault) ⊎ (fault ≡ BadlyQuoted)
-refusal_told question fault (inl told) = inl told
-refusal_told question fault (inr (name.Memory, same)) = inl ([], subst (Refuses question []) (sym same) tt)
-refusal_told question fault (inr (name.BadlyQuoted, same)) = inr same
+-- why a record names no path
+pub unnamed_told : {F : Type 0} (question : Question) (unnamed : NameFault) (fault : IgnoreFault F) → IsOfName unnamed fault → IsRecordFault question fault
+unnamed_told question name.Memory fault same = inl ([], subst (Refuses question []) (sym same) tt)
+unnamed_told question name.BadlyQuoted fault same = inr same
+
+-- ---- before the first path
+
+-- no record was answered, and no line counted
+pub no_record_told : (question : Question) (shows : Folder → EntryList (Unit {0}) → Type 0) (form : Form) (is_any : Bool) → is_any ≡ false → TextOfNamed (IsIgnoreAnswer question shows) (IsStatus question shows is_any) form [] []
+no_record_told question shows form is_any none = (record { written = []; each = tt; joined = refl }, ([], tt, ([], tt, none)))
+
+-- no word was
+pub no_word_told : (question : Question) (shows : Folder → EntryList (Unit {0}) → Type 0) (is_any : Bool) → is_any ≡ false → TextOfPaths (IsIgnoreAnswer question shows) (IsStatus question shows is_any) [] []
+no_word_told question shows is_any none = (record { written = []; each = tt; joined = refl }, ([], tt, none))
+
+-- the same tree, of which as much is known
+pub question_same : {S T X : Type 0} (standpoint : Standpoint) (flags : IgnoreFlags) (tracked : List Tracked) (old new : TreeParts S T X) → new ≡ old → (before after : Known) → after ≡ before
+    → question_of standpoint flags tracked new after ≡ question_of standpoint flags tracked old before
+question_same standpoint flags tracked old new tree before after known =
+    ap (λ t. question_of standpoint flags tracked t after) tree ∙ ap (λ k. question_of standpoint flags tracked old k) known

@@ -1,19 +1,26 @@
 //! What answers each told path by the states of its attributes.
-ghost use Rattle.std.specs.Prelude.{◌≡◌, ◌≢◌, ◌++◌, ℕ, List, [], Some, IfOk, IsTrue, OnOk, false, map};
+ghost use Rattle.std.specs.Prelude.{◌≡◌, ◌≢◌, ◌++◌, ℕ, List, [], Some, IfOk, IsTrue, OnErr, OnOk, false, map, true};
 ghost use Rattle.std.specs.Io.{StartsWith};
-ghost use Rattle.std.specs.List.{list_any};
+ghost use Rattle.std.specs.Io.KnownBytes.{Appends};
+ghost use Rattle.std.specs.List.{AllByRecursion, list_any};
 ghost use Rattle.std.specs.Vec.{vec_items};
 ghost use Rattle.glob_attributes.specs.Views.{assignment_with};
 ghost use Rattle.glob_attributes.specs.States.{state_in};
 ghost use Rattle.glob_lists.specs.Paths.{IsPlainPath};
-ghost use Rattle.byte_streams.specs.Records.{Adds};
+ghost use Rattle.byte_streams.specs.Watched.{has_failed, inner};
+ghost use Rattle.byte_streams.specs.Transfers.{AppendsFront};
+ghost use Rattle.byte_streams.specs.Faults.{is_write_fault, told_refusal};
+ghost use Rattle.byte_streams.specs.Records.{TextOf};
+ghost use Rattle.byte_streams.specs.Runs.{EndsRun};
 ghost use Rattle.git_paths.specs.declared.quoting.Quoting.TheVariants.{Full};
 ghost use Rattle.git_paths.specs.Paths.{names_folder, parts_of};
 ghost use Rattle.git_paths.specs.Quoting.{is_unusual};
 ghost use Rattle.git_paths.specs.Standpoints.{led};
 ghost use Rattle.tree_answers.specs.Attributes.{label_text};
-ghost use Rattle.tree_answers.specs.Lines.{name_text};
-ghost use Rattle.tree_answers.specs.Records.{LeadsAsTold};
+ghost use Rattle.tree_answers.specs.Lines.{behind, name_text};
+ghost use Rattle.tree_answers.specs.Records.{IsTextOf};
+ghost use Rattle.tree_commands.specs.Answering.{IsTextOfFirst, StopsAt, TextOfNamed, TextOfPaths, Writes};
+ghost use Rattle.tree_commands.specs.Private.Answering.{Adds};
 ghost use Rattle.tree_commands.specs.CheckAttr.{or_dot, states_text, told_states};
 ghost use Rattle.tree_commands.specs.Private.AttributeWays.{HasGoneTo, HasRead, asked_by};
 ghost use Rattle.tree_commands.specs.Private.AttributeAnswers.{IsReady, labels_of, shown_text, unspecified_text};
@@ -22,58 +29,14 @@ use crate::check_attr::fault::AttributeFault;
 use crate::check_attr::folders::AttributeFolders;
 use crate::check_attr::question::Question;
 use crate::check_attr::walk::{Asking, FolderAttributes};
+use byte_streams::{RecordFault, Records, Watched, write_text};
 use git_paths::Standpoint;
 use gix_glob::search::pattern;
 use glob_attributes::{Assignment, AttributeLines, PathAttributes, State};
 use glob_lists::{PreparedStack, RepositoryPath, plain_path};
 use std::alloc::{AllocError, Global};
-use std::marker::Model;
-use tree_answers::{Form, PathAnswerer, append_answer, append_label, path_text};
-
-/// What answers each told path by the states of its attributes. Contracts see whether a path got no answer: then none gets one any more.
-#[derive(Drop)]
-pub(crate) struct AttributeAnswerer<'q, 'm, S: AttributeFolders, Q: Question> {
-    asker: AttributeAsker<'q, 'm, S, Q>,
-}
-
-impl<'q, 'm, S: AttributeFolders, Q: Question> Model for AttributeAnswerer<'q, 'm, S, Q> {
-    ghost use Rattle.std.specs.Prelude.{Bool};
-    ghost use Rattle.tree_commands.specs.Private.AttributeAnswers.{IsReady};
-
-    ghost Value = { Bool };
-
-    ghost view = { λ answerer. answerer.asker.is_spent };
-
-    ghost invariant = { λ answerer. IsReady Q.files Q.asked Q.case Q.shows Q.allows S.shows answerer.asker };
-}
-
-impl<'q, 'm, S: AttributeFolders, Q: Question> PathAnswerer for AttributeAnswerer<'q, 'm, S, Q> {
-    type Fault = AttributeFault<S::Fault>;
-
-    ghost answers = { λ _ told text. Q.allows told text };
-
-    ghost answered = { λ _ _. Unit {0} };
-
-    ghost refuses = { λ _ _. Unit {0} };
-
-    fn answer_path(
-        &mut self,
-        text: &mut Vec<u8>,
-        told: &[u8],
-        is_usual: bool,
-    ) -> Result<(), AttributeFault<S::Fault>> {
-        self.asker.answer_path(text, told, is_usual)
-    }
-}
-
-impl<'q, 'm, S: AttributeFolders, Q: Question> AttributeAnswerer<'q, 'm, S, Q> {
-    /// What answers by an asker.
-    pub(crate) fn new(asker: AttributeAsker<'q, 'm, S, Q>) -> AttributeAnswerer<'q, 'm, S, Q>
-        requires { IsReady Q.files Q.asked Q.case Q.shows Q.allows S.shows asker }
-    {
-        AttributeAnswerer { asker }
-    }
-}
+use std::io::{Read, Write};
+use tree_answers::{Form, ToldPath, append_answer, append_label, path_text};
 
 /// What is asked of each path, and what is known of folders.
 #[derive(Drop)]
@@ -95,31 +58,107 @@ pub(crate) struct AttributeAsker<'q, 'm, S, Q> {
 }
 
 impl<'q, 'm, S: AttributeFolders, Q: Question> AttributeAsker<'q, 'm, S, Q> {
-    /// Appends what is written about a told path. Usual names that are told from the top are the path itself.
+    /// Reads records to the reader's end, and writes for each the states of the attributes of the path that it names.
+    pub(crate) fn answer_records<R: Read, W: Write>(
+        &mut self,
+        reader: &mut Watched<R>,
+        writer: &mut Watched<W>,
+    ) -> Result<(), RecordFault<AttributeFault<S::Fault>>>
+        requires ready { IsReady Q.files Q.asked Q.case Q.shows Q.allows S.shows self.old }
+        requires readable { has_failed reader.old ≡ false }
+        requires writable { has_failed writer.old ≡ false }
+        ensures { EndsRun (λ _. TextOfNamed Q.allows (λ _. Unit {0}) self.old.form)
+            (TextOf (IsTextOf Q.allows self.old.form)) (behind self.old.form 10) result
+            (R.remaining (inner reader.old)) (R.remaining (inner reader.new)) (W.contents (inner writer.old)) (W.contents (inner writer.new))
+            (has_failed reader.new) (has_failed writer.new) }
+    {
+        let mut records = Records::new(self.form.end());
+        let mut text = Vec::new(self.alloc);
+        let mut bytes = Vec::new(self.alloc);
+        'records: while records.next(reader, writer, &mut text, &mut bytes)? {
+            let answered = text.len();
+            if let Err(fault) = self.answer_record(&mut text, &bytes) {
+                return records.stop(writer, &mut text, answered, fault);
+            }
+        }
+        Ok(())
+    }
+
+    /// Writes the states of the attributes of each of these paths, in order. All are answered before anything is written. Where one gets
+    /// no answer, the text of those before it is written.
+    pub(crate) fn answer_words<W: Write>(
+        &mut self,
+        paths: &[&[u8]],
+        writer: &mut Watched<W>,
+    ) -> Result<(), RecordFault<AttributeFault<S::Fault>>>
+        requires ready { IsReady Q.files Q.asked Q.case Q.shows Q.allows S.shows self.old }
+        requires writable { has_failed writer.old ≡ false }
+        ensures ok { OnOk result
+            (Writes (TextOfPaths Q.allows (λ _. Unit {0}) (map (λ path. path.now) paths.now))
+            (Appends (W.contents (inner writer.old)) (W.contents (inner writer.new)))) }
+        ensures refused { AllByRecursion
+            (StopsAt Q.allows (λ _ _. Unit {0}) (map (λ path. path.now) paths.now) true (W.contents (inner writer.old)) (W.contents (inner writer.new)))
+            (told_refusal result) }
+        ensures cut { OnErr result
+            (Writes (IsTextOfFirst Q.allows (map (λ path. path.now) paths.now))
+            (AppendsFront (W.contents (inner writer.old)) (W.contents (inner writer.new)))) }
+        ensures write { is_write_fault result ≡ has_failed writer.new }
+    {
+        let mut text = Vec::new(self.alloc);
+        'paths: for path in paths {
+            let answered = text.len();
+            if let Err(fault) = self.answer(&mut text, &ToldPath::of_word(path)) {
+                text.truncate(answered);
+                write_text(writer, &text)?;
+                return Err(RecordFault::Answer(fault));
+            }
+        }
+        write_text(writer, &text)
+    }
+
+    /// Appends what is written about the path that a record names. Where this fails, what was appended doesn't count.
+    ///
+    /// # Errors
+    /// Where it names none, and those of [`answer`](AttributeAsker::answer).
+    fn answer_record(
+        &mut self,
+        text: &mut Vec<u8>,
+        bytes: &[u8],
+    ) -> Result<(), AttributeFault<S::Fault>>
+        requires ready { IsReady Q.files Q.asked Q.case Q.shows Q.allows S.shows self.old }
+        ensures ready { IsReady Q.files Q.asked Q.case Q.shows Q.allows S.shows self.new }
+        ensures written { OnOk result (Adds (IsTextOf Q.allows self.old.form bytes.now) text.old.items text.new.items) }
+        ensures kept { StartsWith text.new.items text.old.items }
+        ensures form { self.new.form ≡ self.old.form }
+    {
+        let mut spelt = Vec::new(self.alloc);
+        let told = ToldPath::named_by(self.alloc, self.form, bytes, &mut spelt)?;
+        self.answer(text, &told)
+    }
+
+    /// Appends what is written about a told path. Usual names that are told from the top are the path itself. Where this fails, what was
+    /// appended doesn't count.
     ///
     /// # Errors
     /// Where the path leads nowhere, the source fails, or memory was refused.
-    fn answer_path(
+    fn answer(
         &mut self,
         text: &mut Vec<u8>,
-        told: &[u8],
-        is_usual: bool,
+        told: &ToldPath<'_>,
     ) -> Result<(), AttributeFault<S::Fault>>
         requires ready { IsReady Q.files Q.asked Q.case Q.shows Q.allows S.shows self.old }
-        requires plain { IsTrue is_usual → IsPlainPath told.now }
-        requires usual { IsTrue is_usual → list_any (is_unusual Full) told.now ≡ false }
-        requires leads { IsTrue is_usual → LeadsAsTold told.now }
         ensures ready { IsReady Q.files Q.asked Q.case Q.shows Q.allows S.shows self.new }
-        ensures written { OnOk result (Adds (Q.allows told.now) text.old.items text.new.items) }
+        ensures written { OnOk result (Adds (Q.allows told.now.bytes.now) text.old.items text.new.items) }
         ensures kept { StartsWith text.new.items text.old.items }
+        ensures form { self.new.form ≡ self.old.form }
     {
         if self.is_spent {
             return Err(AttributeFault::Spent);
         }
-        if is_usual && self.standpoint.is_at_top() {
-            return self.answer_usual(text, told);
+        if told.is_usual && self.standpoint.is_at_top() {
+            return self.answer_usual(text, told.bytes);
         }
-        self.answer_led(text, told)
+        self.answer_led(text, told.bytes)
     }
 
     /// Appends what is written about a path that is told by usual names, and leads where it is told.
@@ -140,6 +179,7 @@ impl<'q, 'm, S: AttributeFolders, Q: Question> AttributeAsker<'q, 'm, S, Q> {
         ensures ready { IsReady Q.files Q.asked Q.case Q.shows Q.allows S.shows self.new }
         ensures written { OnOk result (Adds (Q.allows told.now) text.old.items text.new.items) }
         ensures kept { StartsWith text.new.items text.old.items }
+        ensures form { self.new.form ≡ self.old.form }
     {
         self.path.clear();
         self.path.extend_from_slice(told)?;
@@ -163,6 +203,7 @@ impl<'q, 'm, S: AttributeFolders, Q: Question> AttributeAsker<'q, 'm, S, Q> {
         ensures ready { IsReady Q.files Q.asked Q.case Q.shows Q.allows S.shows self.new }
         ensures written { OnOk result (Adds (Q.allows told.now) text.old.items text.new.items) }
         ensures kept { StartsWith text.new.items text.old.items }
+        ensures form { self.new.form ≡ self.old.form }
     {
         let is_folder = self.lead(told)?;
         if self.path.is_empty() {

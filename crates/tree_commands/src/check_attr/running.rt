@@ -16,12 +16,11 @@ ghost use Rattle.tree_answers.specs.Records.{IsTextOf};
 ghost use Rattle.byte_streams.specs.Runs.{EndsRun};
 ghost use Rattle.tree_commands.specs.Answering.{IsTextOfFirst, StopsAt, TextOfNamed, TextOfPaths, Writes};
 ghost use Rattle.tree_commands.specs.CheckAttr.{IsStatesText, macros_for};
-ghost use Rattle.tree_commands.specs.Private.AttributeAnswers.{labels_of};
+ghost use Rattle.tree_commands.specs.Private.AttributeAnswers.{IsReady, labels_of};
 ghost use Rattle.tree_commands.specs.Private.AttributeRuns.{AsksFor};
 ghost use Rattle.tree_commands.specs.Private.AttributeWays.{IsEntered, asked_of, front_lists};
 
-use crate::answering::{answer_paths, answer_records};
-use crate::check_attr::answering::{AttributeAnswerer, AttributeAsker};
+use crate::check_attr::answering::AttributeAsker;
 use crate::check_attr::fault::AttributeFault;
 use crate::check_attr::folders::AttributeFolders;
 use crate::check_attr::kept_lists::kept_list;
@@ -42,11 +41,11 @@ use tree_answers::{Form, append_label};
 ///
 /// The files that count for a path are those of the question, and those that the source has of the folders on the way to it. The source is
 /// asked for a folder when a path first lies there, and again only where folders were so many that all were forgotten; for none below one
-/// that doesn't stand there. How records are read and answers written, [`RecordStream::run`](byte_streams::RecordStream::run) tells. No
+/// that doesn't stand there. How records are read and answers written, [`Records::next`](byte_streams::Records::next) tells. No
 /// call on the reader or the writer may have failed before, and none that fails is tried again.
 ///
 /// # Errors
-/// Those of `RecordStream::run`; its [`RecordFault::Answer`] has why a record got no answer. All records before it have their text
+/// Those of `Records::next`; its [`RecordFault::Answer`] has why a record got no answer. All records before it have their text
 /// written, and nothing else is.
 pub fn run_check_attr<R: Read, W: Write, S: AttributeFolders>(
     alloc: Global,
@@ -81,7 +80,6 @@ fn run_question<R: Read, W: Write, S: AttributeFolders, Q: Question>(
         (R.remaining (inner records.old)) (R.remaining (inner records.new)) (W.contents (inner writer.old)) (W.contents (inner writer.new))
         (has_failed records.new) (has_failed writer.new) }
 {
-    let form = question.form;
     let Ok(macros) = macros_of_files(alloc, question.files) else {
         return Err(RecordFault::Memory);
     };
@@ -91,11 +89,10 @@ fn run_question<R: Read, W: Write, S: AttributeFolders, Q: Question>(
     let Ok(fronts) = PreparedStack::new(alloc, &lists, Rules::by_git(question.case)) else {
         return Err(RecordFault::Memory);
     };
-    let Ok(answerer) = answerer_of::<S, Q>(alloc, question, source, &macros, &fronts) else {
+    let Ok(mut asker) = asker_of::<S, Q>(alloc, question, source, &macros, &fronts) else {
         return Err(RecordFault::Memory);
     };
-    let (_answerer, told) = answer_records(alloc, answerer, form, records, writer);
-    told
+    asker.answer_records(records, writer)
 }
 
 /// Writes for each told path the states of its attributes, in order, as [`run_check_attr`] does for those that records name. Where a path
@@ -158,30 +155,31 @@ fn check_paths<W: Write, S: AttributeFolders, Q: Question>(
     let Ok(fronts) = PreparedStack::new(alloc, &lists, Rules::by_git(question.case)) else {
         return Err(RecordFault::Memory);
     };
-    let Ok(answerer) = answerer_of::<S, Q>(alloc, question, source, &macros, &fronts) else {
+    let Ok(mut asker) = asker_of::<S, Q>(alloc, question, source, &macros, &fronts) else {
         return Err(RecordFault::Memory);
     };
-    let (_answerer, told) = answer_paths(alloc, answerer, paths, true, writer);
-    told
+    asker.answer_words(paths, writer)
 }
 
 /// What answers each path by a question.
-fn answerer_of<'q, 'm, S: AttributeFolders, Q: Question>(
+fn asker_of<'q, 'm, S: AttributeFolders, Q: Question>(
     alloc: Global,
     question: &AttributeQuestion<'q>,
     source: S,
     macros: &'m MacroTable,
     fronts: &'m PreparedStack<'m, AttributeLines>,
-) -> Result<AttributeAnswerer<'q, 'm, S, Q>, AllocError>
+) -> Result<AttributeAsker<'q, 'm, S, Q>, AllocError>
     requires asks { AsksFor Q.files Q.asked Q.case Q.shows Q.allows question.now (S.shows source) }
     requires macros { macros.now ≡ macros_for Q.files }
     requires lists { map (entry_list_of seen_assignments) fronts.now.lists ≡ front_lists Q.asked (macros_for Q.files) Q.files }
     requires rules { fronts.now.rules ≡ by_git Q.case }
+    ensures ready { IfOk result (IsReady Q.files Q.asked Q.case Q.shows Q.allows S.shows) }
+    ensures form { IfOk result (λ asker. asker.form ≡ question.now.form) }
 {
     let walk = walk_of::<S, Q>(alloc, question, source, macros)?;
     let labels = labels_of(alloc, question.asked, question.form)?;
     let top = top_lists(alloc, question.files, question.asked, macros)?;
-    Ok(AttributeAnswerer::new(AttributeAsker {
+    Ok(AttributeAsker {
         alloc,
         standpoint: question.standpoint,
         form: question.form,
@@ -191,7 +189,7 @@ fn answerer_of<'q, 'm, S: AttributeFolders, Q: Question>(
         labels,
         path: Vec::new(alloc),
         is_spent: false,
-    }))
+    })
 }
 
 /// A walk that has entered the top.

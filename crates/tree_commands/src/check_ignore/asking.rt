@@ -1,22 +1,30 @@
 //! What answers each told path by the line that decides about it.
-ghost use Rattle.std.specs.Prelude.{◌≡◌, ◌↔◌, ℕ, ◌≤◌, ◌++◌, false, IfErr, IfOk, IfSome, IsOk, IsTrue, List, None, Option, Some, is_some, [], length, option_map, take};
+ghost use Rattle.std.specs.Prelude.{◌≡◌, ◌↔◌, ℕ, ◌≤◌, ◌++◌, false, IfErr, IfOk, IfSome, IsTrue, List, None, OnErr, OnOk, Option, Some, is_some, [], length, map, option_map, take};
 ghost use Rattle.std.specs.Io.{StartsWith};
-ghost use Rattle.std.specs.List.{list_any};
+ghost use Rattle.std.specs.Io.KnownBytes.{Appends};
+ghost use Rattle.std.specs.List.{AllByRecursion, list_any};
 ghost use Rattle.std.specs.Option.{unwrap_or};
 ghost use Rattle.std.specs.String.{string_bytes};
+ghost use Rattle.byte_streams.specs.Watched.{has_failed, inner};
+ghost use Rattle.byte_streams.specs.Transfers.{AppendsFront};
+ghost use Rattle.byte_streams.specs.Faults.{is_write_fault, told_refusal};
+ghost use Rattle.byte_streams.specs.Records.{TextOf};
+ghost use Rattle.byte_streams.specs.Runs.{EndsRun};
 ghost use Rattle.gix_glob.specs.Entries.{entry_of};
 ghost use Rattle.gix_glob.specs.EntryLists.{entry_list_of};
 ghost use Rattle.glob_lists.specs.Paths.{IsPlainPath};
 ghost use Rattle.glob_trees.specs.TreeParts.{HasMappingAt};
 ghost use Rattle.glob_trees.specs.Ways.{GoesOn};
-ghost use Rattle.pathspecs.specs.Leading.{word_names_folder};
+ghost use Rattle.pathspecs.specs.Leading.{word_front, word_leads, word_names_folder};
 ghost use Rattle.pathspecs.specs.Spelling.{Spelt, seen, spelt_by};
 ghost use Rattle.git_paths.specs.declared.quoting.Quoting.TheVariants.{Full};
 ghost use Rattle.git_paths.specs.Quoting.{is_unusual};
 ghost use Rattle.git_index.specs.Holding.{IsHeld, LiesInSubmodule};
-ghost use Rattle.tree_answers.specs.Lines.{Decision};
-ghost use Rattle.tree_answers.specs.Records.{LeadsAsTold};
-ghost use Rattle.tree_commands.specs.CheckIgnore.{IsLineAt, LeadsNowhere, LeadsTo, Refuses, counted, question_of, text_about, told_path};
+ghost use Rattle.tree_answers.specs.Lines.{Decision, behind};
+ghost use Rattle.tree_answers.specs.Records.{IsTextOf, LeadsAsTold, NamesPath};
+ghost use Rattle.tree_commands.specs.Answering.{IsTextOfFirst, StopsAt, TextOfNamed, TextOfPaths, Writes};
+ghost use Rattle.tree_commands.specs.CheckIgnore.{IsIgnoreAnswer, IsLineAt, IsStatus, LeadsNowhere, LeadsTo, Refuses, counted, question_of, text_about, told_path};
+ghost use Rattle.tree_commands.specs.Private.Asking.{IsRecordFault, TellsLine, asked_by};
 ghost use Rattle.tree_commands.specs.Private.Finding.{FindsTold, line_of, lists_of};
 
 use crate::check_ignore::fault::IgnoreFault;
@@ -25,6 +33,7 @@ use crate::check_ignore::flags::IgnoreFlags;
 use crate::check_ignore::kinds::{PathKinds, left_behind_top};
 use crate::check_ignore::running::IgnoreSources;
 use crate::check_ignore::unlinked::UnlinkedFolders;
+use byte_streams::{RecordFault, Records, Watched, write_text};
 use git_index::TrackedPaths;
 use git_paths::Standpoint;
 use gix_glob::search::pattern;
@@ -34,30 +43,12 @@ use glob_lists::plain_path;
 use glob_trees::FolderLists;
 use pathspecs::{Pathspec, is_path};
 use std::alloc::{AllocError, Global};
-use std::marker::{Brand, PhantomData};
-use tree_answers::{DecidingLine, PathAnswerer, append_line};
+use std::io::{Read, Write};
+use tree_answers::{DecidingLine, ToldPath, append_line};
 
-/// What is asked, in words that contracts alone have.
-pub(crate) trait AskedQuestion {
-    ghost use Rattle.tree_commands.specs.CheckIgnore.{Question};
-
-    ghost question: { Question };
-}
-
-impl AskedQuestion for Brand {
-    ghost use Rattle.std.specs.Prelude.{None, [], false};
-    ghost use Rattle.gix_glob.specs.declared.pattern.Case.TheVariants.{Sensitive};
-    ghost use Rattle.glob_lists.specs.Rules.{by_git};
-    ghost use Rattle.git_paths.specs.declared.quoting.Quoting.TheVariants.{Full};
-    ghost use Rattle.tree_answers.specs.declared.form.Form.TheVariants.{Lines};
-    ghost use Rattle.tree_commands.specs.CheckIgnore.{nothing_known};
-
-    ghost question = { record { leads = λ _. None; literal = λ _. 0; tracked = []; known = nothing_known; front_count = 0; fronts = []; rules = by_git Sensitive; flags = record { form = Lines Full; verbose = false; non_matching = false; quiet = false } } };
-}
-
-/// What answers each told path by the tree. Its type names what is asked: so a run keeps the question, whatever it does to the answerer.
+/// What answers each told path by the tree.
 #[derive(Drop)]
-pub(crate) struct IgnoreAsker<'a, S: FolderLists<GitIgnoreLines>, K: PathKinds, Q: AskedQuestion> {
+pub(crate) struct IgnoreAsker<'a, S: FolderLists<GitIgnoreLines>, K: PathKinds> {
     alloc: Global,
     standpoint: &'a Standpoint,
     flags: IgnoreFlags,
@@ -68,54 +59,22 @@ pub(crate) struct IgnoreAsker<'a, S: FolderLists<GitIgnoreLines>, K: PathKinds, 
     path: Vec<u8>,
     /// Whether a line that counts decided about some path.
     is_any: bool,
-    question: PhantomData<Q>,
-    ghost asked: { question_of standpoint.now flags tracked finder.tree (K.known finder.kinds) ≡ Q.question },
 }
 
-impl<
+impl<'a, S: FolderLists<GitIgnoreLines> + Drop, K: PathKinds<Fault = S::Fault> + Drop> IgnoreAsker<
     'a,
-    S: FolderLists<GitIgnoreLines> + Drop,
-    K: PathKinds<Fault = S::Fault> + Drop,
-    Q: AskedQuestion,
-> PathAnswerer for IgnoreAsker<'a, S, K, Q> {
-    ghost use Rattle.tree_commands.specs.CheckIgnore.{IsIgnoreAnswer, IsStatus, Refuses};
-
-    type Fault = IgnoreFault<S::Fault>;
-
-    ghost answers = { λ self. IsIgnoreAnswer Q.question (S.shows (Unit {0}) self.finder.tree.source) };
-
-    ghost answered = { λ self. IsStatus Q.question (S.shows (Unit {0}) self.finder.tree.source) self.is_any };
-
-    ghost refuses = { Refuses Q.question };
-
-    fn answer_path(
-        &mut self,
-        text: &mut Vec<u8>,
-        told: &[u8],
-        is_usual: bool,
-    ) -> Result<(), IgnoreFault<S::Fault>> {
-        let pair = self.find(told, is_usual)?;
-        let is_counted = self.append(text, told, is_usual, pair)?;
-        self.is_any |= is_counted;
-        Ok(())
-    }
-}
-
-impl<
-    'a,
-    S: FolderLists<GitIgnoreLines> + Drop,
-    K: PathKinds<Fault = S::Fault> + Drop,
-    Q: AskedQuestion,
-> IgnoreAsker<'a, S, K, Q> {
+    S,
+    K,
+> {
     /// What answers paths from a standpoint. None was answered yet.
     pub(crate) fn new(
         alloc: Global,
         standpoint: &'a Standpoint,
         flags: IgnoreFlags,
         sources: IgnoreSources<S, K>,
-    ) -> IgnoreAsker<'a, S, K, Q>
-        requires { question_of standpoint.now flags sources.tracked sources.tree (K.known sources.kinds) ≡ Q.question }
-        ensures { result.is_any ≡ false }
+    ) -> IgnoreAsker<'a, S, K>
+        ensures asks { asked_by K.known result ≡ question_of standpoint.now flags sources.tracked sources.tree (K.known sources.kinds) }
+        ensures none { result.is_any ≡ false }
     {
         let IgnoreSources {
             tree,
@@ -135,15 +94,7 @@ impl<
             tracked,
             path: Vec::new(alloc),
             is_any: false,
-            question: PhantomData,
         }
-    }
-
-    /// Whether a line that counts decided about some path.
-    pub(crate) fn is_any(&self) -> bool
-        ensures { result ≡ self.now.is_any }
-    {
-        self.is_any
     }
 
     /// Gives the sources back.
@@ -163,6 +114,103 @@ impl<
         }
     }
 
+    /// Reads records to the reader's end, and writes for each the text about the path that it names. The answer is whether a line that
+    /// counts decides about some path. No path was answered before.
+    pub(crate) fn answer_records<R: Read, W: Write>(
+        &mut self,
+        reader: &mut Watched<R>,
+        writer: &mut Watched<W>,
+    ) -> Result<bool, RecordFault<IgnoreFault<S::Fault>>>
+        requires none { self.old.is_any ≡ false }
+        requires readable { has_failed reader.old ≡ false }
+        requires writable { has_failed writer.old ≡ false }
+        ensures ends { EndsRun (λ is_any. TextOfNamed (IsIgnoreAnswer (asked_by K.known self.old) (S.shows (Unit {0}) self.new.finder.tree.source)) (IsStatus (asked_by K.known self.old) (S.shows (Unit {0}) self.new.finder.tree.source) is_any) self.old.flags.form)
+            (TextOf (IsTextOf (IsIgnoreAnswer (asked_by K.known self.old) (S.shows (Unit {0}) self.new.finder.tree.source)) self.old.flags.form)) (behind self.old.flags.form 10) result
+            (R.remaining (inner reader.old)) (R.remaining (inner reader.new)) (W.contents (inner writer.old)) (W.contents (inner writer.new))
+            (has_failed reader.new) (has_failed writer.new) }
+        ensures refused { AllByRecursion (IsRecordFault (asked_by K.known self.old)) (told_refusal result) }
+        ensures asks { asked_by K.known self.new ≡ asked_by K.known self.old }
+    {
+        let mut records = Records::new(self.flags.form.end());
+        let mut text = Vec::new(self.alloc);
+        let mut bytes = Vec::new(self.alloc);
+        'records: while records.next(reader, writer, &mut text, &mut bytes)? {
+            let answered = text.len();
+            if let Err(fault) = self.answer_record(&mut text, &bytes) {
+                return records.stop(writer, &mut text, answered, fault);
+            }
+        }
+        Ok(self.is_any)
+    }
+
+    /// Writes the text about each of these paths, in order. All are answered before anything is written, and where one gets no answer,
+    /// nothing is. The answer is that of [`answer_records`](IgnoreAsker::answer_records).
+    pub(crate) fn answer_words<W: Write>(
+        &mut self,
+        paths: &[&[u8]],
+        writer: &mut Watched<W>,
+    ) -> Result<bool, RecordFault<IgnoreFault<S::Fault>>>
+        requires none { self.old.is_any ≡ false }
+        requires writable { has_failed writer.old ≡ false }
+        ensures ok { IfOk result (λ is_any.
+            Writes (TextOfPaths (IsIgnoreAnswer (asked_by K.known self.old) (S.shows (Unit {0}) self.new.finder.tree.source)) (IsStatus (asked_by K.known self.old) (S.shows (Unit {0}) self.new.finder.tree.source) is_any) (map (λ path. path.now) paths.now))
+            (Appends (W.contents (inner writer.old)) (W.contents (inner writer.new)))) }
+        ensures refused { AllByRecursion
+            (StopsAt (IsIgnoreAnswer (asked_by K.known self.old) (S.shows (Unit {0}) self.new.finder.tree.source)) (Refuses (asked_by K.known self.old)) (map (λ path. path.now) paths.now) false
+            (W.contents (inner writer.old)) (W.contents (inner writer.new)))
+            (told_refusal result) }
+        ensures cut { OnErr result
+            (Writes (IsTextOfFirst (IsIgnoreAnswer (asked_by K.known self.old) (S.shows (Unit {0}) self.new.finder.tree.source)) (map (λ path. path.now) paths.now))
+            (AppendsFront (W.contents (inner writer.old)) (W.contents (inner writer.new)))) }
+        ensures write { is_write_fault result ≡ has_failed writer.new }
+        ensures asks { asked_by K.known self.new ≡ asked_by K.known self.old }
+    {
+        let mut text = Vec::new(self.alloc);
+        'paths: for path in paths {
+            if let Err(fault) = self.answer(&mut text, &ToldPath::of_word(path)) {
+                return Err(RecordFault::Answer(fault));
+            }
+        }
+        write_text(writer, &text)?;
+        Ok(self.is_any)
+    }
+
+    /// Appends what is written about the path that a record names. Where this fails, what was appended doesn't count.
+    fn answer_record(
+        &mut self,
+        text: &mut Vec<u8>,
+        bytes: &[u8],
+    ) -> Result<(), IgnoreFault<S::Fault>>
+        ensures answered { OnOk result ((told : List ℕ) × NamesPath self.old.flags.form bytes.now told
+            × TellsLine (asked_by K.known self.old) (S.shows (Unit {0}) self.new.finder.tree.source) told self.old.is_any self.new.is_any text.old.items text.new.items) }
+        ensures kept { StartsWith text.new.items text.old.items }
+        ensures goes_on { GoesOn (S.shows (Unit {0})) self.old.finder.tree.source self.new.finder.tree.source }
+        ensures asks { asked_by K.known self.new ≡ asked_by K.known self.old }
+        ensures faults { IfErr result (IsRecordFault (asked_by K.known self.old)) }
+    {
+        let mut spelt = Vec::new(self.alloc);
+        let told = ToldPath::named_by(self.alloc, self.flags.form, bytes, &mut spelt)?;
+        self.answer(text, &told)
+    }
+
+    /// Appends what is written about a told path. Where this fails, what was appended doesn't count.
+    fn answer(
+        &mut self,
+        text: &mut Vec<u8>,
+        told: &ToldPath<'_>,
+    ) -> Result<(), IgnoreFault<S::Fault>>
+        ensures answered { OnOk result (TellsLine (asked_by K.known self.old) (S.shows (Unit {0}) self.new.finder.tree.source) told.now.bytes.now self.old.is_any self.new.is_any text.old.items text.new.items) }
+        ensures kept { StartsWith text.new.items text.old.items }
+        ensures goes_on { GoesOn (S.shows (Unit {0})) self.old.finder.tree.source self.new.finder.tree.source }
+        ensures asks { asked_by K.known self.new ≡ asked_by K.known self.old }
+        ensures faults { IfErr result (Refuses (asked_by K.known self.old) told.now.bytes.now) }
+    {
+        let pair = self.find(told.bytes, told.is_usual)?;
+        let is_counted = self.append(text, told.bytes, told.is_usual, pair)?;
+        self.is_any |= is_counted;
+        Ok(())
+    }
+
     /// Which pattern decides about a told path. Usual names that are told from the top are the path itself, where no colon
     /// stands in front; without an index nothing is tracked.
     fn find(
@@ -172,10 +220,11 @@ impl<
     ) -> Result<Option<(usize, usize)>, IgnoreFault<S::Fault>>
         requires plain { IsTrue is_usual → IsPlainPath told.now }
         requires leads { IsTrue is_usual → LeadsAsTold told.now }
-        ensures found { IfOk result (FindsTold (S.shows (Unit {0})) Q.question told.now self.new.finder.tree) }
+        ensures found { IfOk result (FindsTold (S.shows (Unit {0})) (asked_by K.known self.old) told.now self.new.finder.tree) }
         ensures goes_on { GoesOn (S.shows (Unit {0})) self.old.finder.tree.source self.new.finder.tree.source }
+        ensures asks { asked_by K.known self.new ≡ asked_by K.known self.old }
         ensures same { self.new.is_any ≡ self.old.is_any }
-        ensures faults { IfErr result (Refuses Q.question told.now) }
+        ensures faults { IfErr result (Refuses (asked_by K.known self.old) told.now) }
     {
         if is_usual && is_path(told) && self.standpoint.is_at_top() && self.tracked.is_empty() {
             return self.finder.find(told, told);
@@ -186,10 +235,11 @@ impl<
     /// The same, of a path that has to be led to.
     #[inline(never)]
     fn find_led(&mut self, told: &[u8]) -> Result<Option<(usize, usize)>, IgnoreFault<S::Fault>>
-        ensures found { IfOk result (FindsTold (S.shows (Unit {0})) Q.question told.now self.new.finder.tree) }
+        ensures found { IfOk result (FindsTold (S.shows (Unit {0})) (asked_by K.known self.old) told.now self.new.finder.tree) }
         ensures goes_on { GoesOn (S.shows (Unit {0})) self.old.finder.tree.source self.new.finder.tree.source }
+        ensures asks { asked_by K.known self.new ≡ asked_by K.known self.old }
         ensures same { self.new.is_any ≡ self.old.is_any }
-        ensures faults { IfErr result (Refuses Q.question told.now) }
+        ensures faults { IfErr result (Refuses (asked_by K.known self.old) told.now) }
     {
         let spelt = self.spell(told)?;
         let bare = self.lead(told, &spelt)?;
@@ -210,15 +260,16 @@ impl<
         told: &[u8],
         bare: usize,
     ) -> Result<Option<(usize, usize)>, IgnoreFault<S::Fault>>
-        requires leads { LeadsTo Q.question told.now (take bare self.old.path.items) }
+        requires leads { LeadsTo (asked_by K.known self.old) told.now (take bare self.old.path.items) }
         requires asked { self.old.path.items ≡ told_path told.now (take bare self.old.path.items) }
         requires whole { bare ≤ length self.old.path.items }
-        requires outside { ¬ LiesInSubmodule Q.question.tracked self.old.path.items }
-        requires free { ¬ IsHeld Q.question.tracked self.old.path.items (Q.question.literal told.now) }
-        ensures found { IfOk result (FindsTold (S.shows (Unit {0})) Q.question told.now self.new.finder.tree) }
+        requires outside { ¬ LiesInSubmodule self.old.tracked self.old.path.items }
+        requires free { ¬ IsHeld self.old.tracked self.old.path.items (word_front self.old.standpoint.now told.now) }
+        ensures found { IfOk result (FindsTold (S.shows (Unit {0})) (asked_by K.known self.old) told.now self.new.finder.tree) }
         ensures goes_on { GoesOn (S.shows (Unit {0})) self.old.finder.tree.source self.new.finder.tree.source }
+        ensures asks { asked_by K.known self.new ≡ asked_by K.known self.old }
         ensures same { self.new.is_any ≡ self.old.is_any }
-        ensures faults { IfErr result (Refuses Q.question told.now) }
+        ensures faults { IfErr result (Refuses (asked_by K.known self.old) told.now) }
     {
         if self.path.is_empty() {
             return self.finder.find_top();
@@ -231,7 +282,7 @@ impl<
 
     /// Whether what is asked about lies in a submodule.
     fn is_in_submodule(&self) -> bool
-        ensures { IsTrue result ↔ LiesInSubmodule Q.question.tracked self.now.path.items }
+        ensures { IsTrue result ↔ LiesInSubmodule self.now.tracked self.now.path.items }
     {
         self.tracked.submodule_of(&self.path).is_some()
     }
@@ -239,7 +290,7 @@ impl<
     /// Whether an entry of the index is what is asked about, so that no pattern decides.
     fn is_held(&self, told: &[u8], spelt: &Pathspec<'_>) -> bool
         requires { spelt_by told.now ≡ Some (seen spelt.now) }
-        ensures { IsTrue result ↔ IsHeld Q.question.tracked self.now.path.items (Q.question.literal told.now) }
+        ensures { IsTrue result ↔ IsHeld self.now.tracked self.now.path.items (word_front self.now.standpoint.now told.now) }
     {
         let literal = spelt.literal_front(self.standpoint);
         self.tracked.holds(&self.path, literal)
@@ -247,10 +298,10 @@ impl<
 
     /// The fault of a told path that leads into a submodule.
     fn in_submodule(&self, told: &[u8], bare: usize) -> IgnoreFault<S::Fault>
-        requires leads { LeadsTo Q.question told.now (take bare self.now.path.items) }
+        requires leads { LeadsTo (asked_by K.known self.now) told.now (take bare self.now.path.items) }
         requires asked { self.now.path.items ≡ told_path told.now (take bare self.now.path.items) }
-        requires below { LiesInSubmodule Q.question.tracked self.now.path.items }
-        ensures { Refuses Q.question told.now result }
+        requires below { LiesInSubmodule self.now.tracked self.now.path.items }
+        ensures { Refuses (asked_by K.known self.now) told.now result }
     {
         match Vec::from_slice(self.alloc, told) {
             Ok(path) => IgnoreFault::InSubmodule(path),
@@ -261,7 +312,7 @@ impl<
     /// What a told word spells.
     fn spell<'t>(&self, told: &'t [u8]) -> Result<Pathspec<'t>, IgnoreFault<S::Fault>>
         ensures spells { IfOk result (λ spelt. spelt_by told.entry.now ≡ Some (seen spelt)) }
-        ensures faults { IfErr result (Refuses Q.question told.entry.now) }
+        ensures faults { IfErr result (Refuses (asked_by K.known self.now) told.entry.now) }
     {
         if told.is_empty() {
             return Err(IgnoreFault::Empty);
@@ -279,12 +330,13 @@ impl<
     /// is how many of its bytes come before that slash.
     fn lead(&mut self, told: &[u8], spelt: &Pathspec<'_>) -> Result<usize, IgnoreFault<S::Fault>>
         requires { spelt_by told.now ≡ Some (seen spelt.now) }
-        ensures leads { IfOk result (λ bare. LeadsTo Q.question told.now (take bare self.new.path.items)
+        ensures leads { IfOk result (λ bare. LeadsTo (asked_by K.known self.old) told.now (take bare self.new.path.items)
             × (self.new.path.items ≡ told_path told.now (take bare self.new.path.items)) × (bare ≤ length self.new.path.items)) }
         ensures tracked { self.new.tracked ≡ self.old.tracked }
         ensures tree { self.new.finder.tree ≡ self.old.finder.tree }
+        ensures asks { asked_by K.known self.new ≡ asked_by K.known self.old }
         ensures same { self.new.is_any ≡ self.old.is_any }
-        ensures faults { IfErr result (Refuses Q.question told.now) }
+        ensures faults { IfErr result (Refuses (asked_by K.known self.old) told.now) }
     {
         let is_folder = self.go(told, spelt)?;
         let bare = self.path.len();
@@ -299,11 +351,12 @@ impl<
     /// Goes where a told path leads. It answers whether the path is told as a folder.
     fn go(&mut self, told: &[u8], spelt: &Pathspec<'_>) -> Result<bool, IgnoreFault<S::Fault>>
         requires { spelt_by told.now ≡ Some (seen spelt.now) }
-        ensures leads { IfOk result (λ is_folder. LeadsTo Q.question told.now self.new.path.items × (is_folder ≡ word_names_folder told.now)) }
+        ensures leads { IfOk result (λ is_folder. LeadsTo (asked_by K.known self.old) told.now self.new.path.items × (is_folder ≡ word_names_folder told.now)) }
         ensures tracked { self.new.tracked ≡ self.old.tracked }
         ensures tree { self.new.finder.tree ≡ self.old.finder.tree }
+        ensures asks { asked_by K.known self.new ≡ asked_by K.known self.old }
         ensures same { self.new.is_any ≡ self.old.is_any }
-        ensures faults { IfErr result (Refuses Q.question told.now) }
+        ensures faults { IfErr result (Refuses (asked_by K.known self.old) told.now) }
     {
         match spelt.lead(self.alloc, self.standpoint, &mut self.path) {
             Ok(Some(is_folder)) => Ok(is_folder),
@@ -320,12 +373,13 @@ impl<
         spelt: &Pathspec<'_>,
     ) -> Result<bool, IgnoreFault<S::Fault>>
         requires spelt { spelt_by told.now ≡ Some (seen spelt.now) }
-        requires nowhere { Q.question.leads told.now ≡ None }
-        ensures leads { IfOk result (λ is_folder. LeadsTo Q.question told.now self.new.path.items × (is_folder ≡ word_names_folder told.now)) }
+        requires nowhere { word_leads self.old.standpoint.now told.now ≡ None }
+        ensures leads { IfOk result (λ is_folder. LeadsTo (asked_by K.known self.old) told.now self.new.path.items × (is_folder ≡ word_names_folder told.now)) }
         ensures tracked { self.new.tracked ≡ self.old.tracked }
         ensures tree { self.new.finder.tree ≡ self.old.finder.tree }
+        ensures asks { asked_by K.known self.new ≡ asked_by K.known self.old }
         ensures same { self.new.is_any ≡ self.old.is_any }
-        ensures faults { IfErr result (Refuses Q.question told.now) }
+        ensures faults { IfErr result (Refuses (asked_by K.known self.old) told.now) }
     {
         let Some(is_folder) = spelt.lead_from_root(&mut self.path)? else {
             return Err(self.outside(told));
@@ -340,8 +394,8 @@ impl<
     /// The fault of a told path that leads out of the work tree.
     fn outside(&self, told: &[u8]) -> IgnoreFault<S::Fault>
         requires spelt { (spelt : Spelt) × (spelt_by told.now ≡ Some spelt) }
-        requires nowhere { LeadsNowhere Q.question told.now }
-        ensures { Refuses Q.question told.now result }
+        requires nowhere { LeadsNowhere (asked_by K.known self.now) told.now }
+        ensures { Refuses (asked_by K.known self.now) told.now result }
     {
         match Vec::from_slice(self.alloc, told) {
             Ok(path) => IgnoreFault::Outside(path),

@@ -1,5 +1,5 @@
 //! A run of `check-ignore`, over records that are read or over paths that are told.
-ghost use Rattle.std.specs.Prelude.{◌≡◌, ◌⊎◌, ℕ, List, false, map, Err, IfOk, MatchResult, Ok, OnErr};
+ghost use Rattle.std.specs.Prelude.{◌≡◌, ◌⊎◌, ℕ, List, false, map, IfOk, OnErr};
 ghost use Rattle.std.specs.Io.KnownBytes.{Appends};
 ghost use Rattle.std.specs.List.{AllByRecursion};
 ghost use Rattle.byte_streams.specs.Watched.{has_failed, inner};
@@ -13,13 +13,10 @@ ghost use Rattle.tree_commands.specs.Answering.{IsTextOfFirst, StopsAt, TextOfNa
 ghost use Rattle.tree_commands.specs.declared.check_ignore.fault.IgnoreFault.TheVariants.{BadlyQuoted};
 ghost use Rattle.tree_commands.specs.CheckIgnore.{IsIgnoreAnswer, IsStatus, Refuses, question_of};
 
-use crate::answering::{answer_paths, answer_records};
-use crate::check_ignore::asking::{AskedQuestion, IgnoreAsker};
+use crate::check_ignore::asking::IgnoreAsker;
 use crate::check_ignore::fault::IgnoreFault;
-use crate::check_ignore::finding::Finder;
 use crate::check_ignore::flags::IgnoreFlags;
 use crate::check_ignore::kinds::PathKinds;
-use crate::check_ignore::unlinked::UnlinkedFolders;
 use byte_streams::{RecordFault, Watched};
 use git_index::TrackedPaths;
 use git_paths::Standpoint;
@@ -27,7 +24,6 @@ use glob_lines::GitIgnoreLines;
 use glob_trees::{FolderLists, Tree};
 use std::alloc::Global;
 use std::io::{Read, Write};
-use std::marker::{Brand, PhantomData};
 
 /// Where answers come from.
 #[derive(Drop)]
@@ -48,11 +44,11 @@ pub struct IgnoreSources<S: FolderLists<GitIgnoreLines>, K> {
 /// pattern that [`Tree::find`] answers, by the rules of the tree; about the top only patterns for names decide. A slash at the end of a path belongs to it. What stands at a path is asked only where the answer depends
 /// on it; links are looked for where the tree didn't enter the folders of a path.
 ///
-/// How records are read and answers written, [`RecordStream::run`](byte_streams::RecordStream::run) tells. No call on the reader or
+/// How records are read and answers written, [`Records::next`](byte_streams::Records::next) tells. No call on the reader or
 /// the writer may have failed before, and none that fails is tried again.
 ///
 /// # Errors
-/// Those of `RecordStream::run`; its [`RecordFault::Answer`] has why a record got no answer. All records before it have their text
+/// Those of `Records::next`; its [`RecordFault::Answer`] has why a record got no answer. All records before it have their text
 /// written, and nothing else is.
 pub fn run_check_ignore<
     S: FolderLists<GitIgnoreLines> + Drop,
@@ -80,40 +76,8 @@ pub fn run_check_ignore<
     ensures refused { AllByRecursion (λ fault. ((told : List ℕ) × Refuses (question_of standpoint.now flags sources.tracked sources.tree (K.known sources.kinds)) told fault) ⊎ (fault ≡ BadlyQuoted)) (told_refusal result.1) }
     ensures again { question_of standpoint.now flags result.0.tracked result.0.tree (K.known result.0.kinds) ≡ question_of standpoint.now flags sources.tracked sources.tree (K.known sources.kinds) }
 {
-    run_question::<S, K, R, W, Brand>(alloc, standpoint, flags, sources, records, writer)
-}
-
-/// The same, by a question that a type names.
-fn run_question<
-    S: FolderLists<GitIgnoreLines> + Drop,
-    K: PathKinds<Fault = S::Fault> + Drop,
-    R: Read,
-    W: Write,
-    Q: AskedQuestion,
->(
-    alloc: Global,
-    standpoint: &Standpoint,
-    flags: IgnoreFlags,
-    sources: IgnoreSources<S, K>,
-    records: &mut Watched<R>,
-    writer: &mut Watched<W>,
-) -> (
-    IgnoreSources<S, K>,
-    Result<bool, RecordFault<IgnoreFault<S::Fault>>>,
-)
-    requires asked { question_of standpoint.now flags sources.tracked sources.tree (K.known sources.kinds) ≡ Q.question }
-    requires readable { has_failed records.old ≡ false }
-    requires writable { has_failed writer.old ≡ false }
-    ensures ends { EndsRun (λ is_any. TextOfNamed (IsIgnoreAnswer Q.question (S.shows (Unit {0}) result.0.tree.source)) (IsStatus Q.question (S.shows (Unit {0}) result.0.tree.source) is_any) flags.form)
-        (TextOf (IsTextOf (IsIgnoreAnswer Q.question (S.shows (Unit {0}) result.0.tree.source)) flags.form)) (behind flags.form 10) result.1
-        (R.remaining (inner records.old)) (R.remaining (inner records.new)) (W.contents (inner writer.old)) (W.contents (inner writer.new))
-        (has_failed records.new) (has_failed writer.new) }
-    ensures refused { AllByRecursion (λ fault. ((told : List ℕ) × Refuses Q.question told fault) ⊎ (fault ≡ BadlyQuoted)) (told_refusal result.1) }
-    ensures again { question_of standpoint.now flags result.0.tracked result.0.tree (K.known result.0.kinds) ≡ Q.question }
-{
-    let asker = IgnoreAsker::<'_, S, K, Q>::new(alloc, standpoint, flags, sources);
-    let (asker, told) = answer_records(alloc, asker, flags.form, records, writer);
-    let outcome = outcome_of(told, asker.is_any());
+    let mut asker = IgnoreAsker::new(alloc, standpoint, flags, sources);
+    let outcome = asker.answer_records(records, writer);
     (asker.into_sources(), outcome)
 }
 
@@ -154,55 +118,7 @@ pub fn check_ignore_paths<
     ensures write { is_write_fault result.1 ≡ has_failed writer.new }
     ensures again { question_of standpoint.now flags result.0.tracked result.0.tree (K.known result.0.kinds) ≡ question_of standpoint.now flags sources.tracked sources.tree (K.known sources.kinds) }
 {
-    check_paths::<S, K, W, Brand>(alloc, standpoint, flags, sources, paths, writer)
-}
-
-/// The same, by a question that a type names.
-fn check_paths<
-    S: FolderLists<GitIgnoreLines> + Drop,
-    K: PathKinds<Fault = S::Fault> + Drop,
-    W: Write,
-    Q: AskedQuestion,
->(
-    alloc: Global,
-    standpoint: &Standpoint,
-    flags: IgnoreFlags,
-    sources: IgnoreSources<S, K>,
-    paths: &[&[u8]],
-    writer: &mut Watched<W>,
-) -> (
-    IgnoreSources<S, K>,
-    Result<bool, RecordFault<IgnoreFault<S::Fault>>>,
-)
-    requires asked { question_of standpoint.now flags sources.tracked sources.tree (K.known sources.kinds) ≡ Q.question }
-    requires writable { has_failed writer.old ≡ false }
-    ensures ok { IfOk result.1 (λ is_any.
-        Writes (TextOfPaths (IsIgnoreAnswer Q.question (S.shows (Unit {0}) result.0.tree.source)) (IsStatus Q.question (S.shows (Unit {0}) result.0.tree.source) is_any) (map (λ path. path.now) paths.now))
-        (Appends (W.contents (inner writer.old)) (W.contents (inner writer.new)))) }
-    // After the fault of a path, nothing was written.
-    ensures refused { AllByRecursion
-        (StopsAt (IsIgnoreAnswer Q.question (S.shows (Unit {0}) result.0.tree.source)) (Refuses Q.question) (map (λ path. path.now) paths.now) false
-        (W.contents (inner writer.old)) (W.contents (inner writer.new)))
-        (told_refusal result.1) }
-    // After one of the writer's, a beginning of the text was.
-    ensures cut { OnErr result.1
-        (Writes (IsTextOfFirst (IsIgnoreAnswer Q.question (S.shows (Unit {0}) result.0.tree.source)) (map (λ path. path.now) paths.now))
-        (AppendsFront (W.contents (inner writer.old)) (W.contents (inner writer.new)))) }
-    ensures write { is_write_fault result.1 ≡ has_failed writer.new }
-    ensures again { question_of standpoint.now flags result.0.tracked result.0.tree (K.known result.0.kinds) ≡ Q.question }
-{
-    let asker = IgnoreAsker::<'_, S, K, Q>::new(alloc, standpoint, flags, sources);
-    let (asker, told) = answer_paths(alloc, asker, paths, false, writer);
-    let outcome = outcome_of(told, asker.is_any());
+    let mut asker = IgnoreAsker::new(alloc, standpoint, flags, sources);
+    let outcome = asker.answer_words(paths, writer);
     (asker.into_sources(), outcome)
-}
-
-/// How a run ended in which a line counted, or none.
-fn outcome_of<F>(told: Result<(), F>, is_any: bool) -> Result<bool, F>
-    ensures { MatchResult told (λ _. result ≡ Ok is_any) (λ fault. result ≡ Err fault) }
-{
-    match told {
-        Ok(()) => Ok(is_any),
-        Err(fault) => Err(fault),
-    }
 }

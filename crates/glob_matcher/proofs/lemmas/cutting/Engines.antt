@@ -62,7 +62,7 @@ pub byte_in : (way : Way) (p v : List ℕ) (i : ℕ) (s : TokenKind) (j k : ℕ)
 byte_in way p v i s j k x inside fits later = one_in way p v i j k x.token x.here inside fits later
 
 -- a cutting that begins with no star token takes one byte
-token_byte_out : (way : Way) (p v : List ℕ) (i j k : ℕ) (t : Token) → TokenAt way p i t j → is_star (kind_of t) ≡ false
+pub token_byte_out : (way : Way) (p v : List ℕ) (i j k : ℕ) (t : Token) → TokenAt way p i t j → is_star (kind_of t) ≡ false
     → k ≤ length v → SplitsFrom v k p i way → (k < length v) × Fits way t (get_or v k 0) × SplitsFrom v (k + 1) p j way
 token_byte_out way p v i j k (Byte b) here star inside all = one_out way p v i j k (Byte b) tt here all
 token_byte_out way p v i j k Any here star inside all = one_out way p v i j k Any tt here all

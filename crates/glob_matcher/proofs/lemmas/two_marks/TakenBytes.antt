@@ -1,13 +1,13 @@
 -- The engine with two marks at a token of one byte: where it stands once the token takes the byte, and that it misses otherwise.
-use Rattle.std.proofs.Common.{◌≡◌, ◌≢◌, inl, inr, ℕ, ◌+◌, ◌-◌, ◌<◌, ◌≤◌, true, false, IsTrue, List, length, get_or, Option, Some, None, sym, ◌∙◌, ap, subst, arith}
+use Rattle.std.proofs.Common.{◌≡◌, ◌≢◌, inl, inr, ℕ, ◌+◌, ◌-◌, ◌<◌, ◌≤◌, true, false, IsTrue, List, [], ◌∷◌, refl, length, get_or, Option, Some, None, sym, ◌∙◌, ap, subst, arith}
 use Rattle.std.proofs.lemmas.Bool.{cases_lt}
 use Rattle.glob_matcher.specs.declared.wildmatch.way.Way.{Way}
 use Rattle.glob_matcher.specs.declared.wildmatch.tokens.TokenKind.{TokenKind}
 use Rattle.glob_matcher.specs.declared.wildmatch.marks.Mark.{Mark}
 use Rattle.glob_matcher.specs.declared.wildmatch.state.Crossing.{Crossing}
 use Rattle.glob_matcher.specs.declared.wildmatch.state.State.{State}
-use Rattle.glob_matcher.specs.Bytes.{NoSlash, is_path, slash}
-use Rattle.glob_matcher.specs.Tokens.{Token, Byte}
+use Rattle.glob_matcher.specs.Bytes.{HasByte, NoSlash, is_path, open_bracket, slash, star}
+use Rattle.glob_matcher.specs.Tokens.{Token, Byte, Free, Local, Dirs, From}
 use Rattle.glob_matcher.specs.Private.Spelling.{IsAfterSlash}
 use Rattle.glob_matcher.specs.Matching.{SplitsFrom}
 use Rattle.glob_matcher.specs.Private.Reader.{IsToken, is_star}
@@ -15,7 +15,8 @@ use Rattle.glob_matcher.specs.Private.Fitting.{Fits}
 use Rattle.glob_matcher.specs.Private.Components.{ends, separates, next_component}
 use Rattle.glob_matcher.specs.Private.States.{SuccessAhead, SuccessNear, LocalKnownIfSet, StandsAt}
 use Rattle.glob_matcher.proofs.lemmas.cutting.CutLemmas.{fits_one}
-use Rattle.glob_matcher.proofs.lemmas.cutting.Engines.{byte_in, byte_out}
+use Rattle.glob_matcher.proofs.lemmas.cutting.Engines.{byte_in, byte_out, token_byte_out}
+use Rattle.glob_matcher.proofs.lemmas.reading.SetLemmas.{two_bytes}
 use Rattle.glob_matcher.proofs.lemmas.cutting.SlashLemmas.{ends_in_slash_byte, fold_slash}
 use Rattle.glob_matcher.proofs.lemmas.two_marks.Components.{IsInner, separates-fits, separates-slash, ends-inner, ends-at_slash, ends-or_not, next-inner, next-before_end}
 use Rattle.glob_matcher.proofs.lemmas.two_marks.States.{local_near}
@@ -39,6 +40,18 @@ pub misses_byte : {way : Way} {p : List ℕ} (v : List ℕ) {i : ℕ} {kind : To
     → is_star kind ≡ false → k ≤ length v → ((k < length v) × Fits way x.token (get_or v k 0) → ⊥) → ¬ SplitsFrom v k p i way
 misses_byte {way} {p} v {i} {kind} {j} k x single inside unfit all =
     let out = byte_out way p v i kind j k x single inside all in unfit (out.0, out.1)
+
+-- Where the value ends, nothing that begins with a bracket takes a byte.
+pub set_missed : (way : Way) (p v : List ℕ) (i k : ℕ) (ts : List Token) → From way p i ts → HasByte p i open_bracket → length v ≡ k → ¬ SplitsFrom v k p i way
+set_missed way p v i k [] read bracket at_end all = let inside = bracket.inside in omega (arith, read)
+set_missed way p v i k (Free ∷ ts) read bracket at_end all =
+    two_bytes p i star open_bracket (read.1.0.stars i (omega arith) read.1.0.some) bracket (λ h. omega arith)
+set_missed way p v i k (Local ∷ ts) read bracket at_end all =
+    two_bytes p i star open_bracket (read.1.0.stars i (omega arith) read.1.0.some) bracket (λ h. omega arith)
+set_missed way p v i k (Dirs ∷ ts) read bracket at_end all =
+    two_bytes p i star open_bracket (read.1.run.stars i (omega arith) read.1.run.some) bracket (λ h. omega arith)
+set_missed way p v i k (t ∷ ts) read bracket at_end all =
+    let out = token_byte_out way p v i read.0 k t read.1 refl (omega (arith, at_end)) all in omega (arith, at_end, out.0)
 
 inner_by : (way : Way) (p v : List ℕ) (i k : ℕ) (c : Crossing) (l : Option Mark) (t : Token) → LocalKnownIfSet way p v i k c l
     → Fits way t (get_or v k 0) → t ≢ Byte slash → IsInner way v k l

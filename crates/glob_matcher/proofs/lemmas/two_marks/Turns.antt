@@ -7,7 +7,7 @@ use Rattle.glob_matcher.specs.declared.wildmatch.state.Turn.TheVariants as turn
 use Rattle.glob_matcher.specs.Steps.{Counts}
 use Rattle.glob_matcher.specs.Private.Takes.{Takes}
 use Rattle.glob_matcher.specs.declared.wildmatch.tokens.TokenKind.{TokenKind}
-use Rattle.glob_matcher.specs.Private.Looks.{IsSetPaid}
+use Rattle.glob_matcher.specs.Private.Looks.{LookedOver}
 use Rattle.glob_matcher.specs.Private.Reader.{IsTokenRead, is_star}
 use Rattle.glob_matcher.specs.Private.Budget.{AllowsAt, CountsOutcome}
 use Rattle.glob_matcher.specs.Private.Prices.{Measure, amount, amount_of}
@@ -44,8 +44,13 @@ pub star_looks : {before after : Counts} {i : ℕ} {kind : TokenKind} {j : ℕ} 
     → Takes before after 0 (5 * (j - i) - 3)
 star_looks {i = i} {j = j} past star read = record { steps = omega (arith, read.steps); looks = omega (arith, read.run star); low = read.low }
 
-pub set_looks : {before after : Counts} {i j : ℕ} → i ≤ j → IsSetPaid before after i j → Takes before after 1 (4 * (j - i) + 1)
-set_looks {i = i} {j} inside paid = record { steps = paid.steps; looks = omega (arith, paid.looks); low = omega (arith, paid.low) }
+-- a set is looked for, and tested at a byte
+pub set_looks : {x y z end : Counts} {i j : ℕ} → Takes x y 0 1 → Takes y z 1 1 → i ≤ j → LookedOver 4 z end i j → Takes x end 1 (4 * (j - i) + 2)
+set_looks {i = i} {j} looked tested inside paid = record {
+  steps = omega (arith, looked.steps, tested.steps, paid.steps);
+  looks = omega (arith, looked.looks, tested.looks, paid.looks);
+  low = omega (arith, looked.low, tested.low, paid.low);
+}
 
 -- The front of both texts is passed, each byte by a step and two looks, and the next one was looked at, and maybe tested.
 pub front_passed : {way : Way} {p v : List ℕ} {k tests : ℕ} {before after : Counts} → StandsAt way p v (at_front k)

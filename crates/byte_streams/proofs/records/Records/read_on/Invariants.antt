@@ -1,7 +1,8 @@
 use Rattle.std.proofs.Common.{◌≡◌, ◌≤◌, [], false, length}
 use Rattle.byte_streams.specs.Watched.{has_failed, inner}
 use Rattle.byte_streams.specs.Records.{HasNo}
-use Rattle.byte_streams.specs.Private.Pulling.{HoldsSome, held}
+use Rattle.byte_streams.specs.Progress.{held}
+use Rattle.byte_streams.specs.Private.Pulling.{HoldsSome}
 use Rattle.byte_streams.proofs.lemmas.PullLemmas.{IsReading}
 use Rattle.byte_streams.proofs.records.Records.read_on.Given as goal
 

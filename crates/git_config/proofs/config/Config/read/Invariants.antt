@@ -1,5 +1,5 @@
-use Rattle.std.proofs.Common.{◌≡◌, ◌+◌, [], drop, map}
-use Rattle.git_config.specs.Configuration.{FromSources, seen_setting}
+use Rattle.std.proofs.Common.{◌≡◌, ◌+◌, [], drop}
+use Rattle.git_config.specs.Configuration.{FromSources}
 use Rattle.git_config.specs.Private.Settings.{Continues}
 use Rattle.git_config.proofs.config.Config.read.Given as goal
 
@@ -9,5 +9,5 @@ invariant-loop-source g l =
     let Shows = g.F.ConfigFiles.shows l.files in
     record {
       place : l.place ≡ l.source-index;
-      rest : Continues (FromSources Shows l.around 1 l.sources) (FromSources Shows l.around (l.place + 1) (drop l.source-index l.sources)) [] (map seen_setting l.settings.items);
+      rest : Continues (FromSources Shows l.around 1 l.sources) (FromSources Shows l.around (l.place + 1) (drop l.source-index l.sources)) [] l.config;
     }

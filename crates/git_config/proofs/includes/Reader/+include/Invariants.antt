@@ -1,9 +1,10 @@
-use Rattle.std.proofs.Common.{◌+◌, ◌*◌, Some, length, map}
+use Rattle.std.proofs.Common.{◌≡◌, ◌+◌, ◌*◌, Some, length}
 use Rattle.std.specs.Vec.{vec_items}
-use Rattle.git_config.specs.Configuration.{FromFile, FromItems, Within, seen_setting}
+use Rattle.git_config.specs.Configuration.{FromFile, FromItems, Within}
 use Rattle.git_config.specs.Grammar.{between, read, text_of}
 use Rattle.git_config.specs.Items.{found_with}
 use Rattle.git_config.specs.Private.Scopes.{IsScope}
+use Rattle.git_config.specs.Private.Sections.{file_seen}
 use Rattle.git_config.specs.Private.Settings.{Continues}
 use Rattle.git_config.proofs.includes.Reader.+include.Given as goal
 
@@ -23,9 +24,10 @@ invariant-add_file-items g l =
     let rest = read (text_of l.text.rest.now) l.text.line between in
     record {
       scope : IsScope around (Some l.real) l.scope;
+      file : file_seen l.scope.section.value ≡ Some path;
       rest : Continues (FromFile Shows around (Within Shows around l.left) path (found_with vec_items l.fn.found))
-          (λ out. FromItems Shows around (Within Shows around l.left) path l.real l.scope.section.value.items rest.0 rest.1 out)
-          (map seen_setting l.initial.out.items) (map seen_setting l.out.items);
+          (λ out. FromItems Shows around (Within Shows around l.left) path l.real l.scope.section.value.keys.items rest.0 rest.1 out)
+          l.initial.out l.out;
     }
 
 abbrev pub decreases-add_file-items : goal.decreases-add_file-items

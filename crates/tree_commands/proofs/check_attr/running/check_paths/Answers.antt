@@ -10,5 +10,5 @@ returns-in_default-front_lists-clause-cut g c = none_first g.Q.Question.allows (
 pub returns-in_default-new-clause-cut : goal.returns-in_default-new-clause-cut
 returns-in_default-new-clause-cut g c = none_first g.Q.Question.allows (map (λ path. path.now) c.args.paths.now) (g.W.Write.contents (inner c.args.writer.now))
 
-pub returns-in_default-answerer_of-clause-cut : goal.returns-in_default-answerer_of-clause-cut
-returns-in_default-answerer_of-clause-cut g c = none_first g.Q.Question.allows (map (λ path. path.now) c.args.paths.now) (g.W.Write.contents (inner c.args.writer.now))
+pub returns-in_default-asker_of-clause-cut : goal.returns-in_default-asker_of-clause-cut
+returns-in_default-asker_of-clause-cut g c = none_first g.Q.Question.allows (map (λ path. path.now) c.args.paths.now) (g.W.Write.contents (inner c.args.writer.now))

@@ -11,10 +11,8 @@ returns-in_default-front_lists g c = refused_run (IsTextOf g.Q.Question.allows c
 pub returns-in_default-new : goal.returns-in_default-new
 returns-in_default-new g c = refused_run (IsTextOf g.Q.Question.allows c.args.question.now.form) _ _ _ _ _ _ c.requires.readable c.requires.writable
 
-pub returns-in_default-answerer_of : goal.returns-in_default-answerer_of
-returns-in_default-answerer_of g c = refused_run (IsTextOf g.Q.Question.allows c.args.question.now.form) _ _ _ _ _ _ c.requires.readable c.requires.writable
+pub returns-in_default-asker_of : goal.returns-in_default-asker_of
+returns-in_default-asker_of g c = refused_run (IsTextOf g.Q.Question.allows c.args.question.now.form) _ _ _ _ _ _ c.requires.readable c.requires.writable
 
 pub returns : goal.returns
-returns g c =
-    let form : c.args.question.now.form ≡ c.question.inside.form = sym (ap (λ (q : Query). q.form) c.question.view_is) in
-    rw form c.answer_records-answerer.ensures.ends
+returns g c = rw (sym c.in-Ok-asker_of.ensures.form) c.answer_records.ensures

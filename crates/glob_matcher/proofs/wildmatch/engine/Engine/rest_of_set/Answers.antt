@@ -8,7 +8,7 @@ use Rattle.glob_matcher.proofs.lemmas.reading.LookLemmas.{paid_next, part_broken
 use Rattle.glob_matcher.proofs.wildmatch.engine.Engine.rest_of_set.Goals as goal
 
 pub items-init : goal.items-init
-items-init g c = record { read = c.requires.read; place = refl; paid = λ before paid. paid; low = omega arith }
+items-init g c = record { read = c.requires.read; place = refl; paid = λ before paid. paid }
 
 pub items-preserved : goal.items-preserved
 items-preserved g c =
@@ -21,7 +21,6 @@ items-preserved g c =
       paid = λ before paid.
           subst (λ (x : SetPart). IsPartPaid 0 before c.next_item.new.self x) (sym is)
           (paid_next g.M.Texts.way c.args.byte s (so_far.paid before paid) c.in-Item.ensures.count);
-      low = omega (arith, so_far.low, c.in-Item.ensures.count.low);
     }
 
 pub items-smaller : goal.items-smaller
@@ -50,9 +49,6 @@ returns-in-Close-clause-count g c = λ before first.
       looks = omega (arith, paid.looks, takes.looks, ahead, so_far.place);
       low = omega (arith, paid.low, takes.looks);
     }
-
-pub returns-in-Close-clause-looked : goal.returns-in-Close-clause-looked
-returns-in-Close-clause-looked g c = omega (arith, c.items.invariant.low, c.in-Close.ensures.count.looks)
 
 pub returns-in-Broken-clause-read : goal.returns-in-Broken-clause-read
 returns-in-Broken-clause-read g c =

@@ -1,10 +1,10 @@
-use Rattle.std.proofs.Common.{◌≡◌, ℕ, inr, true, false, sym, ap, ◌∙◌, subst, arith}
+use Rattle.std.proofs.Common.{◌≡◌, ℕ, true, false, sym, ap, ◌∙◌, subst, arith}
 use Rattle.glob_matcher.specs.declared.wildmatch.way.Way.{Way}
 use Rattle.glob_matcher.specs.ExactFolding.{is_dead}
 use Rattle.glob_matcher.specs.declared.wildmatch.tokens.TokenKind.TheVariants as kind
 use Rattle.glob_matcher.specs.Private.Reader.{IsToken}
 use Rattle.glob_matcher.proofs.lemmas.reading.TokenLemmas.{stands_for_itself}
-use Rattle.glob_matcher.proofs.lemmas.reading.Reading.{escaped_token, bare_token, any_token, set_token, broken_token, dead_backslash, lone_backslash}
+use Rattle.glob_matcher.proofs.lemmas.reading.Reading.{escaped_token, bare_token, any_token, broken_token, dead_backslash, lone_backslash}
 use Rattle.glob_matcher.proofs.wildmatch.engine.Engine.token_at.Goals as goal
 
 pub returns-in-Some-clause-token : goal.returns-in-Some-clause-token
@@ -13,7 +13,7 @@ returns-in-Some-clause-token g c =
     let byte = c.in-Some.byte in
     let dead : is_dead way byte ≡ true = ap (λ (w : Way). is_dead w byte) (sym c.way.ensures) ∙ sym c.is_dead.ensures ∙ c.if-is_dead.true in
     subst (λ (n : ℕ). IsToken way g.M.Texts.pattern c.args.place kind.Nothing n) (sym c.pattern_len.ensures)
-    (broken_token way g.M.Texts.pattern c.args.place c.requires (dead_backslash way g.M.Texts.pattern c.args.place byte c.in-Some.ensures.byte dead))
+    (broken_token way g.M.Texts.pattern c.args.place c.requires.place (dead_backslash way g.M.Texts.pattern c.args.place byte c.in-Some.ensures.byte dead))
 
 pub returns-in-Some-2-clause-token : goal.returns-in-Some-2-clause-token
 returns-in-Some-2-clause-token g c =
@@ -25,25 +25,14 @@ returns-in-Some-2-clause-token g c =
 pub returns-in-None-clause-token : goal.returns-in-None-clause-token
 returns-in-None-clause-token g c =
     subst (λ (n : ℕ). IsToken g.M.Texts.way g.M.Texts.pattern c.args.place kind.Nothing n) (sym c.pattern_len-in-None.ensures)
-    (broken_token g.M.Texts.way g.M.Texts.pattern c.args.place c.requires
-    (lone_backslash g.M.Texts.way g.M.Texts.pattern c.args.place (record { inside = c.requires; is = sym c.pattern_byte.ensures.here ∙ c.in-92.is }) c.in-None.ensures.byte))
+    (broken_token g.M.Texts.way g.M.Texts.pattern c.args.place c.requires.place
+    (lone_backslash g.M.Texts.way g.M.Texts.pattern c.args.place (record { inside = c.requires.place; is = sym c.pattern_byte.ensures.here ∙ c.in-92.is }) c.in-None.ensures.byte))
 
 pub returns-in-63-clause-token : goal.returns-in-63-clause-token
-returns-in-63-clause-token g c = any_token g.M.Texts.way g.M.Texts.pattern c.args.place (record { inside = c.requires; is = sym c.pattern_byte.ensures.here ∙ c.in-63.is })
-
-pub returns-in-Some-set_apart-clause-token : goal.returns-in-Some-set_apart-clause-token
-returns-in-Some-set_apart-clause-token g c =
-    let found = c.in-Some-set_apart.ensures.read in
-    set_token g.M.Texts.way g.M.Texts.pattern c.args.place found.set c.in-Some-set_apart.set.end found.here found.past found.inside
-
-pub returns-in-None-set_apart-clause-token : goal.returns-in-None-set_apart-clause-token
-returns-in-None-set_apart-clause-token g c =
-    subst (λ (n : ℕ). IsToken g.M.Texts.way g.M.Texts.pattern c.args.place kind.Nothing n) (sym c.pattern_len-in-None-set_apart.ensures)
-    (broken_token g.M.Texts.way g.M.Texts.pattern c.args.place c.requires
-    (inr (record { inside = c.requires; is = sym c.pattern_byte.ensures.here ∙ c.in-91.is }, c.in-None-set_apart.ensures.read)))
+returns-in-63-clause-token g c = any_token g.M.Texts.way g.M.Texts.pattern c.args.place (record { inside = c.requires.place; is = sym c.pattern_byte.ensures.here ∙ c.in-63.is })
 
 pub returns-in_default-clause-token : goal.returns-in_default-clause-token
 returns-in_default-clause-token g c =
     bare_token g.M.Texts.way g.M.Texts.pattern c.args.place c.pattern_byte.result
-    (record { inside = c.requires; is = sym c.pattern_byte.ensures.here })
-    (stands_for_itself c.pattern_byte.result (λ e. omega arith) (λ e. omega arith) (λ e. omega arith) (λ e. omega arith))
+    (record { inside = c.requires.place; is = sym c.pattern_byte.ensures.here })
+    (stands_for_itself c.pattern_byte.result (λ e. omega arith) (λ e. omega arith) (λ e. c.requires.other (sym c.pattern_byte.ensures.here ∙ e)) (λ e. omega arith))

@@ -7,5 +7,5 @@ returns-in-Ok g c = (
   search rules,
   take c.args.bare c.args.self.now.path.items,
   c.requires.leads,
-  subst (λ (asked : List ℕ). LiesInSubmodule g.Q.AskedQuestion.question.tracked asked) c.requires.asked c.requires.below,
+  subst (λ (asked : List ℕ). LiesInSubmodule c.args.self.now.tracked asked) c.requires.asked c.requires.below,
 )

@@ -1,0 +1,58 @@
+-- What is found behind a front tells how a path is met.
+use Rattle.std.proofs.Common.{◌≡◌, ◌≢◌, ◌⊎◌, inl, inr, ℕ, Bool, Bor, true, false, IsTrue, List, [], ◌∷◌, length, Option, None, Some, refl, sym, ap, ◌∙◌, subst, arith, eqb}
+use Rattle.std.specs.Prelude.{◌↔◌, MatchOption, is_some, not}
+use Rattle.std.proofs.lemmas.Bool.{eq-eqb, eqb-true, false≢true}
+use Rattle.glob_matcher.specs.declared.wildmatch.way.Way.{Way}
+use Rattle.glob_matcher.specs.Matching.{SplitsBy}
+use Rattle.pathspecs.specs.declared.magic.Magic.{Magic}
+use Rattle.pathspecs.specs.Elements.{IsCut, is_below, way_of_item}
+
+-- what is found is the one rest that there is
+abbrev IsOnlyRest : Bool → List ℕ → List ℕ → List ℕ → Type 0
+IsOnlyRest icase path front rest = (other : List ℕ) → IsCut icase path front other → other ≡ rest
+
+pub begins_by : (icase : Bool) (path front : List ℕ) (found : Option (Bor (List ℕ))) (r : Bool) → r ≡ is_some found
+    → MatchOption found ((rest : List ℕ) → ¬ IsCut icase path front rest) (λ rest. IsCut icase path front rest.now × ((other : List ℕ) → IsCut icase path front other → other ≡ rest.now))
+    → IsTrue r ↔ ((rest : List ℕ) × IsCut icase path front rest)
+begins_by icase path front None r is not_cut = (λ so. absurd (false≢true (sym is ∙ so)), λ cut. absurd (not_cut cut.0 cut.1))
+begins_by icase path front (Some rest) r is cut = (λ so. (rest.now, cut.0), λ other. is)
+
+-- ---- bytes
+
+no_bytes : (xs : List ℕ) → length xs ≡ 0 → xs ≡ []
+no_bytes [] none = refl
+no_bytes (x ∷ xs) none = absurd (omega (arith, none))
+
+pub has_bytes_by : (xs : List ℕ) (r : Bool) → r ≡ eqb (length xs) 0 → IsTrue (not r) ↔ (xs ≢ [])
+has_bytes_by xs true is = (λ so. absurd (false≢true so), λ some. absurd (some (no_bytes xs (eqb-true _ _ (sym is)))))
+has_bytes_by xs false is = (λ so none. false≢true (is ∙ eq-eqb _ _ (ap length none)), λ some. refl)
+
+-- ---- a text
+
+pub below_by : (icase : Bool) (path text rest : List ℕ) (empty r : Bool) → IsCut icase path text rest → IsOnlyRest icase path text rest → empty ≡ eqb (length rest) 0 → empty ≡ false → r ≡ is_below text rest
+    → IsTrue r ↔ (IsCut icase path text [] ⊎ ((other : List ℕ) × IsCut icase path text other × IsTrue (is_below text other)))
+below_by icase path text rest empty r cut one tested some is = (
+  λ so. inr (rest, cut, sym is ∙ so),
+  λ met. elim met [
+    | inl whole ↦ absurd (false≢true (sym some ∙ tested ∙ eq-eqb _ _ (ap length (sym (one [] whole)))))
+    | inr below ↦ is ∙ subst (λ (w : List ℕ). IsTrue (is_below text w)) (one below.0 below.1) below.2
+  ],
+)
+
+pub neither : (icase : Bool) (path text : List ℕ) → ((rest : List ℕ) → ¬ IsCut icase path text rest)
+    → IsTrue false ↔ (IsCut icase path text [] ⊎ ((other : List ℕ) × IsCut icase path text other × IsTrue (is_below text other)))
+neither icase path text not_cut = (λ so. absurd (false≢true so), λ met. absurd (elim met [ inl whole ↦ not_cut [] whole | inr below ↦ not_cut below.0 below.1 ]))
+
+-- ---- a pattern
+
+pub fits_by : (magic : Magic) (path front pattern rest : List ℕ) (way : Way) (r : Bool) → pattern ≢ [] → IsCut magic.icase path front rest → IsOnlyRest magic.icase path front rest
+    → way ≡ way_of_item magic → (IsTrue r ↔ SplitsBy rest pattern way)
+    → IsTrue r ↔ ((pattern ≢ []) × (other : List ℕ) × IsCut magic.icase path front other × SplitsBy other pattern (way_of_item magic))
+fits_by magic path front pattern rest way r some cut one is splits = (
+  λ so. (some, rest, cut, subst (λ (w : Way). SplitsBy rest pattern w) is (splits.0 so)),
+  λ met. splits.1 (subst (λ (w : Way). SplitsBy rest pattern w) (sym is) (subst (λ (w : List ℕ). SplitsBy w pattern (way_of_item magic)) (one met.1 met.2) met.3)),
+)
+
+pub fits_none : (magic : Magic) (path front pattern : List ℕ) → ((rest : List ℕ) → ¬ IsCut magic.icase path front rest)
+    → IsTrue false ↔ ((pattern ≢ []) × (other : List ℕ) × IsCut magic.icase path front other × SplitsBy other pattern (way_of_item magic))
+fits_none magic path front pattern not_cut = (λ so. absurd (false≢true so), λ met. absurd (not_cut met.1 met.2))

@@ -1,0 +1,146 @@
+//! Words are read to elements.
+ghost use Rattle.std.specs.Prelude.{◌≡◌, ◌∷◌, ◌++◌, [], IfErr, IfOk, map, option_map, Some};
+ghost use Rattle.std.specs.List.{list_all};
+ghost use Rattle.std.specs.Result.{result_ok};
+ghost use Rattle.pathspecs.specs.Reading.{AreRead, IsFault, item_by, item_of, text_of, with_slash};
+ghost use Rattle.pathspecs.specs.Spelling.{head_seen, seen};
+
+use crate::elements::Element;
+use crate::faults::{ReadFault, WordFault};
+use crate::heads::Head;
+use crate::leading::lead_from_here;
+use crate::lists::PathspecList;
+use crate::settings::Settings;
+use crate::spelling::Pathspec;
+use git_paths::Standpoint;
+use std::alloc::{AllocError, Global};
+
+impl PathspecList {
+    /// The elements of words. Where all of them are excludes, or there are no words, the element of the current folder follows.
+    ///
+    /// # Errors
+    /// [`ReadFault::Word`] for the first word that is no element, or, with the place behind the last, where the current folder would follow
+    /// and doesn't lie in the work tree; [`ReadFault::Memory`] where memory was refused.
+    pub fn read(
+        alloc: Global,
+        standpoint: &Standpoint,
+        settings: Settings,
+        words: &[&[u8]],
+    ) -> Result<PathspecList, ReadFault>
+        ensures read { IfOk result (λ list. AreRead standpoint.now settings (map (λ word. word.now) words.now) list) }
+        ensures fault { IfErr result (IsFault standpoint.now settings (map (λ word. word.now) words.now)) }
+    {
+        let mut elements = read_words(alloc, standpoint, settings, words)?;
+        if !are_excludes(&elements) {
+            return Ok(PathspecList::new(elements));
+        }
+        let place = words.len();
+        match read_word(alloc, standpoint, settings, b".")? {
+            Ok(here) => push(&mut elements, here)?,
+            Err(fault) => return Err(ReadFault::Word { place, fault }),
+        }
+        Ok(PathspecList::new(elements))
+    }
+}
+
+/// The elements of words.
+fn read_words(
+    alloc: Global,
+    standpoint: &Standpoint,
+    settings: Settings,
+    words: &[&[u8]],
+) -> Result<Vec<Element>, ReadFault>
+    ensures read { IfOk result (λ elements. map (item_of standpoint.now settings) (map (λ word. word.now) words.now) ≡ map Some elements.items) }
+    ensures fault { IfErr result (IsFault standpoint.now settings (map (λ word. word.now) words.now)) }
+{
+    let mut elements = Vec::new(alloc);
+    'words: for word in words {
+        let place = elements.len();
+        match read_word(alloc, standpoint, settings, word)? {
+            Ok(element) => push(&mut elements, element)?,
+            Err(fault) => return Err(ReadFault::Word { place, fault }),
+        }
+    }
+    Ok(elements)
+}
+
+/// Adds an element.
+fn push(elements: &mut Vec<Element>, element: Element) -> Result<(), AllocError>
+    ensures { IfOk result (λ _. elements.new.items ≡ elements.old.items ++ element ∷ []) }
+{
+    elements.push(element)?;
+    Ok(())
+}
+
+/// Whether all elements are excludes.
+fn are_excludes(elements: &[Element]) -> bool
+    ensures { result ≡ list_all (λ item. item.magic.exclude) elements.now }
+{
+    elements.iter().all(|element| element.magic().exclude)
+}
+
+/// The element of a word.
+fn read_word(
+    alloc: Global,
+    standpoint: &Standpoint,
+    settings: Settings,
+    word: &[u8],
+) -> Result<Result<Element, WordFault>, AllocError>
+    ensures { IfOk result (λ read. result_ok read ≡ item_of standpoint.now settings word.now) }
+{
+    match Head::of_word(settings.literal, word) {
+        Ok(head) => read_head(alloc, standpoint, settings, head),
+        Err(fault) => Ok(Err(fault)),
+    }
+}
+
+/// The element of a head and a path.
+fn read_head(
+    alloc: Global,
+    standpoint: &Standpoint,
+    settings: Settings,
+    head: Head<'_>,
+) -> Result<Result<Element, WordFault>, AllocError>
+    ensures { IfOk result (λ read. result_ok read ≡ item_by standpoint.now settings (head_seen head.entry)) }
+{
+    if !settings.agree() {
+        return Ok(Err(WordFault::Settings));
+    }
+    let spelt = head.pathspec();
+    let Some(text) = text_of(alloc, standpoint, spelt)? else {
+        return Ok(Err(WordFault::Outside));
+    };
+    let kept = spelt.literal_front(standpoint);
+    Ok(Ok(Element::new(settings.marked(head.magic), text, kept)))
+}
+
+/// The text of an element, which is told from the top; `None` where the path leads out of the work tree.
+fn text_of(
+    alloc: Global,
+    standpoint: &Standpoint,
+    spelt: Pathspec<'_>,
+) -> Result<Option<Vec<u8>>, AllocError>
+    ensures { IfOk result (λ text. option_map (λ bytes. bytes.items) text ≡ text_of standpoint.now (seen spelt.entry)) }
+{
+    if spelt.is_from_top {
+        return Ok(Some(Vec::from_slice(alloc, spelt.path)?));
+    }
+    let mut path = Vec::new(alloc);
+    match lead_from_here(alloc, standpoint, &mut path, spelt.path)? {
+        Some(is_folder) => {
+            end_folder(&mut path, is_folder)?;
+            Ok(Some(path))
+        }
+        None => Ok(None),
+    }
+}
+
+/// Puts a slash behind the path of a folder, but for the top.
+fn end_folder(path: &mut Vec<u8>, is_folder: bool) -> Result<(), AllocError>
+    ensures { IfOk result (λ _. path.new.items ≡ with_slash is_folder path.old.items) }
+{
+    if is_folder && !path.is_empty() {
+        path.push(b'/')?;
+    }
+    Ok(())
+}

@@ -1,0 +1,17 @@
+use Rattle.std.proofs.Common.{◌≡◌, false}
+use Rattle.byte_streams.specs.Progress.{fuel}
+use Rattle.byte_streams.specs.Watched.{has_failed, inner}
+use Rattle.byte_streams.proofs.lemmas.ProgressLemmas.{IsRunning}
+use Rattle.rows.proofs.others.put_in_brackets.Given as goal
+
+-- no call failed
+abbrev pub invariant-records : goal.invariant-records
+invariant-records g l = record {
+  readable : has_failed l.reader ≡ false;
+  writable : has_failed l.writer ≡ false;
+  running : IsRunning (λ _ _. Unit {0}) l.end l.records l.text.items
+      (g.R.Read.remaining (inner l.fn.reader)) (g.R.Read.remaining (inner l.reader)) (g.W.Write.contents (inner l.fn.writer)) (g.W.Write.contents (inner l.writer));
+}
+
+abbrev pub decreases-records : goal.decreases-records
+decreases-records g l = fuel l.records

@@ -1,3 +1,0 @@
--- Words that only private clauses cite: what the functions of the crate say to one another.
-pub mod Options
-pub mod WordFaults
