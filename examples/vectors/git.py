@@ -288,9 +288,13 @@ def listed(ran, start):
     return b"".join(lines)
 
 
+# paths that Git writes over while it reads them, as `./a/../../b`: a fault here
+WRITTEN_OVER = re.compile(rb"GIT_CONFIG_SYSTEM=(?:\.|\w+/)/\S*/\.\./\.\./")
+
+
 def config_sources(variables, repository, work_tree, words):
     """Which files and words Git reads: each file that variables name has an entry."""
-    if not IS_GIT or b"installed=" in variables:
+    if not IS_GIT or b"installed=" in variables or WRITTEN_OVER.search(variables):
         return ()
     with rows.folder_of([]) as folder:
         top = os.path.realpath(os.fsencode(folder))

@@ -1,4 +1,5 @@
 pub mod GitFolders
+pub mod Private
 pub mod Safety
 pub mod UserFiles
 pub mod Values

@@ -3,9 +3,10 @@
 use bstr::BStr;
 use git_config::{ReadFault, SettingFault, WrongSetting};
 use std::alloc::{AllocError, AllocFailed};
-use std::error::Error;
 use std::fmt;
+use std::fmt::Display;
 use std::rc::Rc;
+use thiserror::Error;
 
 /// What is wrong with a path.
 #[derive(Debug, Clone, Copy, PartialEq, Eq)]
@@ -41,7 +42,8 @@ pub enum Wrong {
 }
 
 /// A path of which can't be told what stands there, so that a repository may.
-#[derive(Debug, Drop)]
+#[derive(Debug, Drop, Error)]
+#[error("unable to access '{path}': {reason}", path = BStr::new(.path), reason = BStr::new(.reason))]
 pub struct Hidden {
     /// `GIT_DIR`, where the repository is looked for there.
     pub named: Option<Vec<u8>>,
@@ -52,90 +54,123 @@ pub struct Hidden {
 }
 
 /// Why no repository was found.
-#[derive(Debug, Drop)]
+#[derive(Debug, Drop, Error)]
 pub enum FindFault {
     /// Memory was refused.
+    #[error("no memory")]
     Memory,
     /// None is in the current folder or above it.
+    #[error("not a git repository (or any of the parent directories): .git")]
     NotFound,
     /// The same, or none is where `GIT_DIR` tells one, but one may be.
+    #[error("{}", At::of_hidden(.0))]
     Hidden(Hidden),
     /// Something is wrong with this path, and the search ended there.
+    #[error("{}", At {words: words_of(*.0), path: .1})]
     At(Wrong, Vec<u8>),
 }
 
 /// What is wrong with the variables of the environment.
-#[derive(Debug, Drop)]
+#[derive(Debug, Drop, Error)]
 pub enum VariableFault {
     /// Memory was refused.
+    #[error("no memory")]
     Memory,
     /// The variable of this name is set to this text, which is no boolean.
+    #[error("bad boolean config value '{value}' for '{0}'", value = BStr::new(.1))]
     NoBoolean(&'static str, Vec<u8>),
+    /// `GIT_CONFIG_SYSTEM` tells this path, over which Git writes while it reads it, so that it is read as another one.
+    #[error("GIT_CONFIG_SYSTEM is '{path}', a path that leads above its front behind other folders: this isn't read", path = BStr::new(.0))]
+    SystemPath(Vec<u8>),
     /// `GIT_CONFIG_COUNT` is no number.
+    #[error("bogus count in GIT_CONFIG_COUNT")]
     Count,
     /// `GIT_CONFIG_COUNT` is larger than 2,147,483,647.
+    #[error("too many entries in GIT_CONFIG_COUNT")]
     TooMany,
     /// The key of this number is missing.
+    #[error("missing config key GIT_CONFIG_KEY_{0}")]
     NoKey(usize),
     /// The value of this number is missing.
+    #[error("missing config value GIT_CONFIG_VALUE_{0}")]
     NoValue(usize),
     /// `GIT_CONFIG_PARAMETERS` spells no words.
+    #[error("bogus format in GIT_CONFIG_PARAMETERS")]
     Parameters,
 }
 
 /// Why a repository can't be opened. `F` is the fault of the source of its files. A file is `None` where a word is told in place of a line; the
 /// line is from 1, and a word's its place among the sources, from 1.
-#[derive(Debug, Drop)]
+#[derive(Debug, Drop, Error)]
+#[error_bound(F: Display)]
 pub enum OpenFault<F> {
     /// Memory was refused.
+    #[error("no memory")]
     Memory,
     /// A file of configuration can't be read.
+    #[error("{0}")]
     File(F),
     /// A line or a word of the configuration is wrong.
+    #[error("{}", SettingText(.0))]
     Setting(SettingFault<Rc<Vec<u8>>, Vec<u8>>),
     /// The variables are wrong that tell of configuration.
+    #[error("{}", VariableText(.0))]
     Variable(VariableFault),
     /// There is none, or it may not be taken, or one of its paths is wrong.
+    #[error("{0}")]
     Find(FindFault),
     /// The value of a key, which is in lower case, is no boolean.
+    #[error("bad boolean config value '{value}' for '{key}'", value = BStr::new(.value), key = BStr::new(.key))]
     Boolean {
         key: Vec<u8>,
         value: Vec<u8>,
     },
     /// An entry of a key, which is in lower case, says what it can't: a path has no value, or a word is none of those that Git knows there.
+    #[error("{}", EntryText {key: .key, file: .file, line: *.line})]
     Entry {
         key: Vec<u8>,
         file: Option<Vec<u8>>,
         line: usize,
     },
     /// This path begins with a folder that isn't known.
+    #[error("failed to expand user dir in: '{value}'", value = BStr::new(.0))]
     NoFolder(Vec<u8>),
     /// This line of the repository's own file can't be read, or says what it can't: `core.worktree` without a value, or an unknown
     /// `extensions.objectFormat`.
+    #[error("bad config line {line} in file {file}", file = BStr::new(bytes_of(.file)))]
     Line {
         file: Option<Vec<u8>>,
         line: usize,
     },
     /// The version of the repository's format is no number.
+    #[error("bad numeric config value '{value}' for 'core.repositoryformatversion' in file {file}: invalid unit", value = BStr::new(.value), file = BStr::new(bytes_of(.file)))]
     Number {
         value: Vec<u8>,
         file: Option<Vec<u8>>,
     },
     /// The version of the repository's format is above 1.
+    #[error("Expected git repo version <= 1, found {0}")]
     Version(u32),
     /// This extension isn't known, and with version 1 each has to be.
+    #[error("unknown repository extension found: {name}", name = BStr::new(.0))]
     Unknown(Vec<u8>),
     /// This extension counts with version 1 alone, and the version is 0.
+    #[error("repo version is 0, but v1-only extension found: {name}", name = BStr::new(.0))]
     OnlyVersion1(Vec<u8>),
     /// There is no work tree, and the command needs one.
+    #[error("this operation must be run in a work tree")]
     NoWorkTree,
     /// The URL of a remote stands in a file that is included under a condition, while a condition asks for the URLs.
+    #[error("remote URLs cannot be configured in file directly or indirectly included by includeIf.hasconfig:remote.*.url")]
     RemoteUrl,
     /// A condition asks for the branch, but Git may refuse this reference that `HEAD` names, or follow it to another: this isn't read.
+    #[error("HEAD names '{reference}', which isn't followed: no condition 'onbranch' can be answered", reference = BStr::new(.0))]
     Branch(Vec<u8>),
     /// This file of configuration is told by a relative path, and Git works in another folder than the current one: this isn't read.
+    #[error("'{path}' is a relative path of a file of configuration, which isn't followed to the top of the work tree", path = BStr::new(.0))]
     RelativeFile(Vec<u8>),
     /// `GIT_COMMON_DIR` is this relative path, and Git works in another folder than the current one: this isn't read.
+    #[error("GIT_COMMON_DIR is a relative path, '{path}', which isn't followed to the top of the work tree", path = BStr::new(.0))]
     RelativeFolder(Vec<u8>),
 }
 
@@ -182,42 +217,36 @@ impl<F> From<ReadFault<F>> for OpenFault<F> {
     }
 }
 
-impl fmt::Display for FindFault {
-    fn fmt<W: fmt::Write>(&self, f: &mut fmt::Formatter<W>) -> fmt::Result {
-        match self {
-            FindFault::Memory => write!(f, "no memory"),
-            FindFault::NotFound => write_not_found(f),
-            FindFault::Hidden(hidden) => match &hidden.named {
-                Some(told) => write_at(f, Wrong::NotNamed, told),
-                None => write_not_found(f),
+/// A path, with what is said before it and behind it.
+struct At<'a> {
+    words: (&'static str, &'static str),
+    path: &'a [u8],
+}
+
+impl<'a> At<'a> {
+    /// What is told of a path that can't be looked at.
+    fn of_hidden(hidden: &'a Hidden) -> At<'a> {
+        match &hidden.named {
+            Some(path) => At {
+                words: words_of(Wrong::NotNamed),
+                path,
             },
-            FindFault::At(wrong, path) => write_at(f, *wrong, path),
+            None => At {
+                words: (
+                    "not a git repository (or any of the parent directories): .git",
+                    "",
+                ),
+                path: b"",
+            },
         }
     }
 }
 
-impl Error for FindFault {}
-
-impl fmt::Display for Hidden {
+impl<'a> Display for At<'a> {
     fn fmt<W: fmt::Write>(&self, f: &mut fmt::Formatter<W>) -> fmt::Result {
-        let (path, reason) = (BStr::new(&self.path), BStr::new(&self.reason));
-        write!(f, "unable to access '{path}': {reason}")
+        let ((front, back), path) = (self.words, BStr::new(self.path));
+        write!(f, "{front}{path}{back}")
     }
-}
-
-/// Tells that no repository was found.
-fn write_not_found<W: fmt::Write>(f: &mut fmt::Formatter<W>) -> fmt::Result {
-    write!(
-        f,
-        "not a git repository (or any of the parent directories): .git"
-    )
-}
-
-/// Tells what is wrong with a path.
-fn write_at<W: fmt::Write>(f: &mut fmt::Formatter<W>, wrong: Wrong, path: &[u8]) -> fmt::Result {
-    let (front, back) = words_of(wrong);
-    let path = BStr::new(path);
-    write!(f, "{front}{path}{back}")
 }
 
 /// What is said before a path and behind it.
@@ -248,154 +277,62 @@ fn words_of(wrong: Wrong) -> (&'static str, &'static str) {
     }
 }
 
-impl fmt::Display for VariableFault {
+/// What is told of variables. What is wrong with pairs and parameters Git tells in a line before.
+struct VariableText<'a>(&'a VariableFault);
+
+impl<'a> Display for VariableText<'a> {
     fn fmt<W: fmt::Write>(&self, f: &mut fmt::Formatter<W>) -> fmt::Result {
-        match self {
-            VariableFault::Memory => write!(f, "no memory"),
-            VariableFault::NoBoolean(name, value) => {
-                let value = BStr::new(value);
-                write!(f, "bad boolean config value '{value}' for '{name}'")
+        match self.0 {
+            VariableFault::Memory | VariableFault::NoBoolean(..) | VariableFault::SystemPath(_) => {
+                write!(f, "{}", self.0)
             }
-            VariableFault::Count => write!(f, "bogus count in GIT_CONFIG_COUNT"),
-            VariableFault::TooMany => write!(f, "too many entries in GIT_CONFIG_COUNT"),
-            VariableFault::NoKey(number) => {
-                write!(f, "missing config key GIT_CONFIG_KEY_{number}")
-            }
-            VariableFault::NoValue(number) => {
-                write!(f, "missing config value GIT_CONFIG_VALUE_{number}")
-            }
-            VariableFault::Parameters => write!(f, "bogus format in GIT_CONFIG_PARAMETERS"),
+            _ => write!(f, "unable to parse command-line config"),
         }
     }
 }
 
-impl Error for VariableFault {}
+/// What is told of a line or a word of the configuration.
+struct SettingText<'a>(&'a SettingFault<Rc<Vec<u8>>, Vec<u8>>);
 
-impl<F: fmt::Display> fmt::Display for OpenFault<F> {
+impl<'a> Display for SettingText<'a> {
     fn fmt<W: fmt::Write>(&self, f: &mut fmt::Formatter<W>) -> fmt::Result {
-        match self {
-            OpenFault::Memory => write!(f, "no memory"),
-            OpenFault::File(fault) => write!(f, "{fault}"),
-            OpenFault::Setting(fault) => write_setting(f, fault),
-            OpenFault::Variable(fault) => write_variable(f, fault),
-            OpenFault::Find(fault) => write!(f, "{fault}"),
-            OpenFault::Boolean { key, value } => {
-                let (key, value) = (BStr::new(key), BStr::new(value));
-                write!(f, "bad boolean config value '{value}' for '{key}'")
-            }
-            OpenFault::Entry { key, file, line } => write_entry(f, key, file, *line),
-            OpenFault::NoFolder(value) => {
-                write!(f, "failed to expand user dir in: '{}'", BStr::new(value))
-            }
-            OpenFault::Line { file, line } => write_line(f, bytes_of(file), *line),
-            OpenFault::Number { value, file } => {
-                let (value, file) = (BStr::new(value), BStr::new(bytes_of(file)));
+        let fault = self.0;
+        let file = fault.file.as_ref().map(|file| BStr::new(file));
+        match file {
+            _ if fault.what == WrongSetting::TooDeep => {
+                let path = BStr::new(bytes_of(&fault.path));
+                let file = file.unwrap_or(BStr::new(b"the command line"));
                 write!(
                     f,
-                    "bad numeric config value '{value}' for 'core.repositoryformatversion' in file {file}: invalid unit"
+                    "exceeded maximum include depth (10) while including\n\t{path}\nfrom\n\t{file}\nThis might be due to circular includes."
                 )
             }
-            OpenFault::Version(version) => {
-                write!(f, "Expected git repo version <= 1, found {version}")
-            }
-            OpenFault::Unknown(name) => {
-                write!(f, "unknown repository extension found: {}", BStr::new(name))
-            }
-            OpenFault::OnlyVersion1(name) => {
-                let name = BStr::new(name);
-                write!(f, "repo version is 0, but v1-only extension found: {name}")
-            }
-            OpenFault::NoWorkTree => write!(f, "this operation must be run in a work tree"),
-            OpenFault::RemoteUrl => write!(
-                f,
-                "remote URLs cannot be configured in file directly or indirectly included by includeIf.hasconfig:remote.*.url"
-            ),
-            OpenFault::Branch(reference) => {
-                let reference = BStr::new(reference);
-                write!(
-                    f,
-                    "HEAD names '{reference}', which isn't followed: no condition 'onbranch' can be answered"
-                )
-            }
-            OpenFault::RelativeFile(path) => {
-                let path = BStr::new(path);
-                write!(
-                    f,
-                    "'{path}' is a relative path of a file of configuration, which isn't followed to the top of the work tree"
-                )
-            }
-            OpenFault::RelativeFolder(path) => {
-                let path = BStr::new(path);
-                write!(
-                    f,
-                    "GIT_COMMON_DIR is a relative path, '{path}', which isn't followed to the top of the work tree"
-                )
-            }
+            Some(file) => write!(f, "bad config line {} in file {file}", fault.line),
+            None => write!(f, "unable to parse command-line config"),
         }
     }
 }
 
-/// Tells of variables. What is wrong with pairs and parameters Git tells in a line before.
-fn write_variable<W: fmt::Write>(f: &mut fmt::Formatter<W>, fault: &VariableFault) -> fmt::Result {
-    match fault {
-        VariableFault::Memory | VariableFault::NoBoolean(..) => write!(f, "{fault}"),
-        _ => write!(f, "unable to parse command-line config"),
-    }
-}
-
-/// Tells of a line or a word of the configuration.
-fn write_setting<W: fmt::Write>(
-    f: &mut fmt::Formatter<W>,
-    fault: &SettingFault<Rc<Vec<u8>>, Vec<u8>>,
-) -> fmt::Result {
-    if fault.what == WrongSetting::TooDeep {
-        return write_too_deep(f, fault);
-    }
-    match &fault.file {
-        Some(file) => write_line(f, file, fault.line),
-        None => write!(f, "unable to parse command-line config"),
-    }
-}
-
-/// Tells of a file that is included too deep.
-fn write_too_deep<W: fmt::Write>(
-    f: &mut fmt::Formatter<W>,
-    fault: &SettingFault<Rc<Vec<u8>>, Vec<u8>>,
-) -> fmt::Result {
-    let path = BStr::new(bytes_of(&fault.path));
-    let file = match &fault.file {
-        Some(file) => BStr::new(file.as_slice()),
-        None => BStr::new(b"the command line"),
-    };
-    write!(
-        f,
-        "exceeded maximum include depth (10) while including\n\t{path}\nfrom\n\t{file}\nThis might be due to circular includes."
-    )
-}
-
-/// Tells of a line.
-fn write_line<W: fmt::Write>(f: &mut fmt::Formatter<W>, file: &[u8], line: usize) -> fmt::Result {
-    let file = BStr::new(file);
-    write!(f, "bad config line {line} in file {file}")
-}
-
-/// Tells of an entry.
-fn write_entry<W: fmt::Write>(
-    f: &mut fmt::Formatter<W>,
-    key: &[u8],
-    file: &Option<Vec<u8>>,
+/// What is told of an entry.
+struct EntryText<'a> {
+    key: &'a [u8],
+    file: &'a Option<Vec<u8>>,
     line: usize,
-) -> fmt::Result {
-    let key = BStr::new(key);
-    match file {
-        Some(file) => {
-            let file = BStr::new(file);
-            write!(
-                f,
-                "bad config variable '{key}' in file '{file}' at line {line}"
-            )
+}
+
+impl<'a> Display for EntryText<'a> {
+    fn fmt<W: fmt::Write>(&self, f: &mut fmt::Formatter<W>) -> fmt::Result {
+        let (key, line) = (BStr::new(self.key), self.line);
+        match self.file {
+            Some(file) => {
+                let file = BStr::new(file);
+                write!(
+                    f,
+                    "bad config variable '{key}' in file '{file}' at line {line}"
+                )
+            }
+            None => write!(f, "unable to parse '{key}' from command-line config"),
         }
-        None => write!(f, "unable to parse '{key}' from command-line config"),
     }
 }
 

@@ -14,6 +14,11 @@ pub enum Held {
 
 /// What stands at paths. A path that doesn't begin with a slash is told from the current folder.
 pub trait FileSystem {
+    ghost use Rattle.std.specs.Prelude.{Bool, IfOk, List, ℕ};
+
+    // What the source may say of whether a path belongs to the user who asks. Of real files nothing is known: it may say either.
+    ghost owned: { Self → List ℕ → Bool → Type 0 };
+
     /// Whether a file of bytes stands there, where links are followed.
     ///
     /// # Errors
@@ -45,7 +50,8 @@ pub trait FileSystem {
     fn users(&self) -> Result<Vec<UserFolder>, AllocError>;
 
     /// Whether what stands there belongs to the user who asks. A link isn't followed.
-    fn is_ours(&self, path: &[u8]) -> Result<bool, AllocError>;
+    fn is_ours(&self, path: &[u8]) -> Result<bool, AllocError>
+        ensures { IfOk result (owned self.now path.now) };
 
     /// The number of the device that the folder lies on.
     fn device(&self, path: &[u8]) -> Result<u64, AllocError>;

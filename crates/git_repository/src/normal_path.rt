@@ -4,20 +4,31 @@ ghost use Rattle.std.specs.Prelude.{◌≤◌, length};
 use crate::paths::joined;
 use std::alloc::{AllocError, Global};
 
-/// A path without `.`, `..` and slashes in a row; links aren't followed. One that leads above its front is as Git leaves it.
-pub(crate) fn normal_path(alloc: Global, path: &[u8]) -> Result<Vec<u8>, AllocError> {
-    let parts = parts_of(alloc, path)?;
+/// A path without `.`, `..` and slashes in a row; links aren't followed. One that leads above its front stays as it is told; `None` where a
+/// name behind one of these stands before that place, since Git has written the name over the path by then.
+pub(crate) fn normal_path(alloc: Global, path: &[u8]) -> Result<Option<Vec<u8>>, AllocError> {
     let root = root_of(path);
-    let behind = match walk(alloc, &parts)? {
-        Some(names) => spelled(alloc, ends_in_folder(&parts), &names)?,
-        None => overwritten(alloc, &path[root.len()..], &parts)?,
-    };
-    joined(alloc, root, &behind)
+    let parts: Vec<&[u8]> = path[root.len()..].split(|b| *b == b'/').collect(alloc)?;
+    match walk(alloc, &parts)? {
+        Walk::To(names) => {
+            let text = spelled(alloc, ends_in_folder(&parts), &names)?;
+            Ok(Some(joined(alloc, root, &text)?))
+        }
+        Walk::Above { is_moved: false } => Ok(Some(Vec::from_slice(alloc, path)?)),
+        Walk::Above { is_moved: true } => Ok(None),
+    }
 }
 
-/// What stands between the slashes.
-fn parts_of(alloc: Global, path: &[u8]) -> Result<Vec<&[u8]>, AllocError> {
-    path.split(|b| *b == b'/').collect(alloc)
+/// Where parts lead.
+#[derive(Drop)]
+enum Walk<'a> {
+    /// To these names.
+    To(Vec<&'a [u8]>),
+    /// Above their front.
+    Above {
+        /// Whether a name before that stands behind a part that is none.
+        is_moved: bool,
+    },
 }
 
 /// The slash of a path that is told from the root.
@@ -27,57 +38,23 @@ fn root_of(path: &[u8]) -> &[u8]
     if path.starts_with(b"/") { b"/" } else { b"" }
 }
 
-/// The names that are left of parts; none where they lead above the front.
-fn walk<'a>(alloc: Global, parts: &[&'a [u8]]) -> Result<Option<Vec<&'a [u8]>>, AllocError> {
+/// Where parts lead.
+fn walk<'a>(alloc: Global, parts: &[&'a [u8]]) -> Result<Walk<'a>, AllocError> {
     let mut names = Vec::new(alloc);
-    for part in parts {
-        if !step(&mut names, part)? {
-            return Ok(None);
-        }
-    }
-    Ok(Some(names))
-}
-
-/// Goes where a part leads, if that isn't above the front.
-fn step<'a>(names: &mut Vec<&'a [u8]>, part: &'a [u8]) -> Result<bool, AllocError> {
-    if stays(part) {
-        return Ok(true);
-    }
-    if goes_up(part) {
-        return Ok(names.pop().is_some());
-    }
-    names.push(part)?;
-    Ok(true)
-}
-
-/// What is left of a text whose parts lead above its front, once Git has written over it.
-fn overwritten(alloc: Global, text: &[u8], parts: &[&[u8]]) -> Result<Vec<u8>, AllocError> {
-    let mut names: Vec<&[u8]> = Vec::new(alloc);
-    let mut rest = Vec::from_slice(alloc, text)?;
+    let (mut is_behind, mut is_moved) = (false, false);
     for part in parts {
         if stays(part) {
-            continue;
+            is_behind = true;
+        } else if !goes_up(part) {
+            names.push(*part)?;
+            is_moved |= is_behind;
+        } else if names.pop().is_some() {
+            is_behind = true;
+        } else {
+            return Ok(Walk::Above { is_moved });
         }
-        if !goes_up(part) {
-            rest = Vec::from_slice(alloc, behind(&rest, part))?;
-            names.push(part)?;
-            continue;
-        }
-        let Some(name) = names.pop() else {
-            return Ok(rest);
-        };
-        let name = joined(alloc, name, b"/")?;
-        rest = joined(alloc, &name, &rest)?;
     }
-    Ok(rest)
-}
-
-/// What follows in a text where a name and a slash are written over it.
-fn behind<'a>(text: &'a [u8], name: &[u8]) -> &'a [u8] {
-    match text.get(name.len()..) {
-        Some([_, rest @ ..]) => rest,
-        _ => b"",
-    }
+    Ok(Walk::To(names))
 }
 
 /// Whether a part leads nowhere else.

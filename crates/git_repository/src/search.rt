@@ -1,5 +1,9 @@
-//! The search for the repository of a current folder: the nearest folder that shows one.
-ghost use Rattle.std.specs.Prelude.{◌<◌, IfSome, length};
+//! The search for the repository of a current folder: the nearest folder that shows one. What is found by it belongs to the user, or is
+//! named as safe.
+ghost use Rattle.std.specs.Prelude.{◌<◌, ◌≢◌, IfOk, IfSome, IsTrue, length, map, true};
+ghost use Rattle.std.specs.Vec.{vec_items};
+ghost use Rattle.git_repository.specs.Private.Taking.{MayBeTaken};
+ghost use Rattle.git_repository.specs.declared.found.FoundBy.TheVariants.{Named};
 
 use crate::faults::{FindFault, Hidden, Wrong};
 use crate::file_system::FileSystem;
@@ -18,7 +22,9 @@ impl<'a, S: FileSystem> Finder<'a, S> {
     /// [`FindFault::NotFound`] where no folder shows a repository, [`FindFault::Hidden`] where one of them may and this can't be told,
     /// [`FindFault::At`] where the nearest that isn't passed over shows a fault, or lies on another file system, and [`FindFault::Memory`]
     /// where memory was refused.
-    pub(crate) fn find(&self, safety: &Safety<'_>, current: &[u8]) -> Result<Found, FindFault> {
+    pub(crate) fn find(&self, safety: &Safety<'_>, current: &[u8]) -> Result<Found, FindFault>
+        ensures { IfOk result (λ found. found.by ≢ Named → MayBeTaken (S.owned self.now.source.now) (map vec_items safety.now.directories.now) found.top.items found.git.path.items) }
+    {
         if let Some(told) = &self.variables.git_dir {
             return Ok(Found {
                 by: FoundBy::Named,
@@ -50,7 +56,9 @@ impl<'a, S: FileSystem> Finder<'a, S> {
     }
 
     /// The repository that the first of these folders shows that shows one.
-    fn search(&self, safety: &Safety<'_>, folders: &[&[u8]]) -> Result<Found, FindFault> {
+    fn search(&self, safety: &Safety<'_>, folders: &[&[u8]]) -> Result<Found, FindFault>
+        ensures { IfOk result (λ found. MayBeTaken (S.owned self.now.source.now) (map vec_items safety.now.directories.now) found.top.items found.git.path.items) }
+    {
         let Some((start, uppers)) = folders.split_first() else {
             return Err(FindFault::NotFound);
         };
@@ -95,7 +103,9 @@ impl<'a, S: FileSystem> Finder<'a, S> {
     }
 
     /// The repository that a folder shows; `None` where it is passed over.
-    fn shows(&self, safety: &Safety<'_>, folder: &[u8]) -> Result<Option<Found>, FindFault> {
+    fn shows(&self, safety: &Safety<'_>, folder: &[u8]) -> Result<Option<Found>, FindFault>
+        ensures { IfOk result (λ shown. IfSome shown (λ found. MayBeTaken (S.owned self.now.source.now) (map vec_items safety.now.directories.now) found.top.items found.git.path.items)) }
+    {
         let inner = joined(self.alloc, folder, b"/.git")?;
         let top = Vec::from_slice(self.alloc, path_of(folder))?;
         let (by, git) = if self.source.is_file(&inner)? {
@@ -127,7 +137,9 @@ impl<'a, S: FileSystem> Finder<'a, S> {
         file: &[u8],
         top: &[u8],
         git_folder: &[u8],
-    ) -> Result<bool, FindFault> {
+    ) -> Result<bool, FindFault>
+        ensures { IfOk result (λ are. IsTrue are → S.owned self.now.source.now top.now true × S.owned self.now.source.now git_folder.now true) }
+    {
         if by == FoundBy::Gitfile && !self.source.is_ours(file)? {
             return Ok(false);
         }

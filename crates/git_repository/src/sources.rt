@@ -88,17 +88,9 @@ impl ConfigSources {
         work_tree: Option<&[u8]>,
     ) -> Result<ConfigSources, AllocError> {
         let mut list = Vec::new(alloc);
-        let lacks_system = match variables.no_system.as_deref() {
-            Some(told) => boolean(Some(told)),
-            None => Some(false),
-        };
-        let Some(lacks_system) = lacks_system else {
-            let told = copied(alloc, variables.no_system.as_deref())?.unwrap_or(Vec::new(alloc));
-            let fault = Some(VariableFault::NoBoolean("GIT_CONFIG_NOSYSTEM", told));
+        let fault = add_system(alloc, variables, &mut list)?;
+        if fault.is_some() {
             return Ok(ConfigSources { list, fault });
-        };
-        if !lacks_system {
-            add_system(alloc, variables, &mut list)?;
         }
         add_user_files(alloc, variables, &mut list)?;
         add_file(copied(alloc, repository)?, false, &mut list)?;
@@ -128,16 +120,30 @@ impl ConfigSources {
     }
 }
 
-/// Adds the system's file.
+/// Adds the system's file where it counts, and tells what is wrong with the variables that say so.
 fn add_system(
     alloc: Global,
     variables: &Variables,
     list: &mut Vec<ConfigSource>,
-) -> Result<(), AllocError> {
-    match &variables.system {
-        Some(path) => add_file(Some(normal_path(alloc, path)?), false, list),
-        None => Ok(()),
+) -> Result<Option<VariableFault>, AllocError> {
+    if let Some(told) = &variables.no_system {
+        match boolean(Some(told)) {
+            Some(false) => {}
+            Some(true) => return Ok(None),
+            None => {
+                let told = Vec::from_slice(alloc, told)?;
+                return Ok(Some(VariableFault::NoBoolean("GIT_CONFIG_NOSYSTEM", told)));
+            }
+        }
     }
+    let Some(told) = &variables.system else {
+        return Ok(None);
+    };
+    let Some(path) = normal_path(alloc, told)? else {
+        return Ok(Some(VariableFault::SystemPath(Vec::from_slice(alloc, told)?)));
+    };
+    add_file(Some(path), false, list)?;
+    Ok(None)
 }
 
 /// Adds the user's files.
