@@ -218,6 +218,7 @@ impl<F> From<ReadFault<F>> for OpenFault<F> {
 }
 
 /// A path, with what is said before it and behind it.
+#[derive(Clone, Copy)]
 struct At<'a> {
     words: (&'static str, &'static str),
     path: &'a [u8],
@@ -278,6 +279,7 @@ fn words_of(wrong: Wrong) -> (&'static str, &'static str) {
 }
 
 /// What is told of variables. What is wrong with pairs and parameters Git tells in a line before.
+#[derive(Clone, Copy)]
 struct VariableText<'a>(&'a VariableFault);
 
 impl<'a> Display for VariableText<'a> {
@@ -292,6 +294,7 @@ impl<'a> Display for VariableText<'a> {
 }
 
 /// What is told of a line or a word of the configuration.
+#[derive(Clone, Copy)]
 struct SettingText<'a>(&'a SettingFault<Rc<Vec<u8>>, Vec<u8>>);
 
 impl<'a> Display for SettingText<'a> {
@@ -314,6 +317,7 @@ impl<'a> Display for SettingText<'a> {
 }
 
 /// What is told of an entry.
+#[derive(Clone, Copy)]
 struct EntryText<'a> {
     key: &'a [u8],
     file: &'a Option<Vec<u8>>,

@@ -10,18 +10,18 @@ pub(crate) fn normal_path(alloc: Global, path: &[u8]) -> Result<Option<Vec<u8>>,
     let root = root_of(path);
     let parts: Vec<&[u8]> = path[root.len()..].split(|b| *b == b'/').collect(alloc)?;
     match walk(alloc, &parts)? {
-        Walk::To(names) => {
+        Destination::To(names) => {
             let text = spelled(alloc, ends_in_folder(&parts), &names)?;
             Ok(Some(joined(alloc, root, &text)?))
         }
-        Walk::Above { is_moved: false } => Ok(Some(Vec::from_slice(alloc, path)?)),
-        Walk::Above { is_moved: true } => Ok(None),
+        Destination::Above { is_moved: false } => Ok(Some(Vec::from_slice(alloc, path)?)),
+        Destination::Above { is_moved: true } => Ok(None),
     }
 }
 
 /// Where parts lead.
 #[derive(Drop)]
-enum Walk<'a> {
+enum Destination<'a> {
     /// To these names.
     To(Vec<&'a [u8]>),
     /// Above their front.
@@ -39,7 +39,7 @@ fn root_of(path: &[u8]) -> &[u8]
 }
 
 /// Where parts lead.
-fn walk<'a>(alloc: Global, parts: &[&'a [u8]]) -> Result<Walk<'a>, AllocError> {
+fn walk<'a>(alloc: Global, parts: &[&'a [u8]]) -> Result<Destination<'a>, AllocError> {
     let mut names = Vec::new(alloc);
     let (mut is_behind, mut is_moved) = (false, false);
     for part in parts {
@@ -51,10 +51,10 @@ fn walk<'a>(alloc: Global, parts: &[&'a [u8]]) -> Result<Walk<'a>, AllocError> {
         } else if names.pop().is_some() {
             is_behind = true;
         } else {
-            return Ok(Walk::Above { is_moved });
+            return Ok(Destination::Above { is_moved });
         }
     }
-    Ok(Walk::To(names))
+    Ok(Destination::To(names))
 }
 
 /// Whether a part leads nowhere else.
