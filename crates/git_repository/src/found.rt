@@ -54,9 +54,7 @@ impl Found {
     pub(crate) fn work_tree(&self, alloc: Global) -> Result<Option<Vec<u8>>, FindFault> {
         match self.by {
             FoundBy::Bare => Ok(None),
-            FoundBy::Folder | FoundBy::Gitfile | FoundBy::Named => {
-                Ok(Some(Vec::from_slice(alloc, &self.top)?))
-            }
+            _ => Ok(Some(Vec::from_slice(alloc, &self.top)?)),
         }
     }
 }

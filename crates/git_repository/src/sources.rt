@@ -61,11 +61,7 @@ pub(crate) fn as_sources(
     alloc: Global,
     list: &[ConfigSource],
 ) -> Result<Vec<Source<'_>>, AllocError> {
-    let mut sources = Vec::new(alloc);
-    for source in list {
-        sources.push(as_source(source))?;
-    }
-    Ok(sources)
+    list.iter().map(|source| as_source(source)).collect(alloc)
 }
 
 /// A source as [`Config::read`](git_config::Config::read) takes it.

@@ -64,7 +64,7 @@ fn check_number<F>(alloc: Global, setting: &ReadSetting<'_>) -> Result<(), OpenF
         return Ok(());
     }
     let value = Vec::from_slice(alloc, value)?;
-    let file = file_of(alloc, setting)?;
+    let file = copied(alloc, setting.file)?;
     Err(OpenFault::Number { value, file })
 }
 
@@ -77,7 +77,7 @@ fn check_line<F>(
     if right {
         return Ok(());
     }
-    let file = file_of(alloc, setting)?;
+    let file = copied(alloc, setting.file)?;
     let line = setting.entry.line;
     Err(OpenFault::Line { file, line })
 }
@@ -88,14 +88,9 @@ pub(crate) fn entry_fault<F>(
     key: Vec<u8>,
     setting: &ReadSetting<'_>,
 ) -> Result<OpenFault<F>, AllocError> {
-    let file = file_of(alloc, setting)?;
+    let file = copied(alloc, setting.file)?;
     let line = setting.entry.line;
     Ok(OpenFault::Entry { key, file, line })
-}
-
-/// The file of an entry.
-fn file_of(alloc: Global, setting: &ReadSetting<'_>) -> Result<Option<Vec<u8>>, AllocError> {
-    copied(alloc, setting.file)
 }
 
 /// The bytes of a value; none where it isn't there.
