@@ -26,7 +26,7 @@ pub(crate) fn begins_so(icase: bool, path: &[u8], front: &[u8]) -> bool
 }
 
 /// Whether two texts are the same, as far as they are compared.
-fn are_alike(icase: bool, one: &[u8], other: &[u8]) -> bool
+pub(crate) fn are_alike(icase: bool, one: &[u8], other: &[u8]) -> bool
     ensures { IsTrue result ↔ (compared icase one.now ≡ compared icase other.now) }
 {
     if icase {

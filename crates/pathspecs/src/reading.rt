@@ -1,8 +1,8 @@
 //! Words are read to elements.
-ghost use Rattle.std.specs.Prelude.{◌≡◌, ◌∷◌, ◌++◌, [], IfErr, IfOk, map, option_map, Some};
+ghost use Rattle.std.specs.Prelude.{◌≡◌, ◌∷◌, ◌++◌, [], IfErr, IfOk, length, map, option_map, Some};
 ghost use Rattle.std.specs.List.{list_all};
 ghost use Rattle.std.specs.Result.{result_ok};
-ghost use Rattle.pathspecs.specs.Reading.{AreRead, IsFault, item_by, item_of, text_of, with_slash};
+ghost use Rattle.pathspecs.specs.Reading.{AreRead, IsFault, counted, item_by, item_of, text_of, with_slash};
 ghost use Rattle.pathspecs.specs.Spelling.{head_seen, seen};
 
 use crate::elements::Element;
@@ -16,7 +16,8 @@ use git_paths::Standpoint;
 use std::alloc::{AllocError, Global};
 
 impl PathspecList {
-    /// The elements of words. Where all of them are excludes, or there are no words, the element of the current folder follows.
+    /// The elements of words. Where all of them are excludes, the element of the current folder follows, as that of the word `.`; where there
+    /// are no words, it stands alone, and no setting counts.
     ///
     /// # Errors
     /// [`ReadFault::Word`] for the first word that is no element, or, with the place behind the last, where the current folder would follow
@@ -27,9 +28,10 @@ impl PathspecList {
         settings: Settings,
         words: &[&[u8]],
     ) -> Result<PathspecList, ReadFault>
-        ensures read { IfOk result (λ list. AreRead standpoint.now settings (map (λ word. word.now) words.now) list) }
-        ensures fault { IfErr result (IsFault standpoint.now settings (map (λ word. word.now) words.now)) }
+        ensures read { IfOk result (λ list. AreRead standpoint.now (counted settings (length words.now)) (map (λ word. word.now) words.now) list) }
+        ensures fault { IfErr result (IsFault standpoint.now (counted settings (length words.now)) (map (λ word. word.now) words.now)) }
     {
+        let settings = settings.counted(words.len());
         let mut elements = read_words(alloc, standpoint, settings, words)?;
         if !are_excludes(&elements) {
             return Ok(PathspecList::new(elements));
