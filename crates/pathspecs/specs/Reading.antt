@@ -27,8 +27,7 @@ marked settings magic = record { top = magic.top; literal = (magic.literal || se
 
 -- a path, with a slash at its end where it is told as a folder's; the top has none
 abbrev pub with_slash : Bool → List ℕ → List ℕ
-with_slash is_folder [] = []
-with_slash is_folder (b ∷ path) = (b ∷ path) ++ (if is_folder then codes "/" else [])
+with_slash is_folder path = path ++ (if is_folder && not (length path == 0) then codes "/" else [])
 
 -- the text of an element: what is told from the top stands for itself
 abbrev pub text_of : Standpoint → Spelt → Option (List ℕ)

@@ -95,7 +95,8 @@ impl Element {
         if is_below_text(self.magic.icase, path, &self.text) {
             return Some(Manner::Below);
         }
-        if self.fits(path) {
+        let (front, pattern) = self.text.split_at(self.front);
+        if fits_behind(self.magic, path, front, pattern) {
             return Some(Manner::Wild);
         }
         None
@@ -128,14 +129,6 @@ impl Element {
         let (front, pattern) = self.text.split_at(self.front);
         has_bytes(pattern) && begins_so(self.magic.icase, folder, front)
     }
-
-    /// Whether a path is the front and what the pattern matches.
-    fn fits(&self, path: &[u8]) -> bool
-        ensures { IsTrue result ↔ IsMetSo Wild self.now path.now }
-    {
-        let (front, pattern) = self.text.split_at(self.front);
-        fits_behind(self.magic, path, front, pattern)
-    }
 }
 
 /// Whether a path is a text.
@@ -163,7 +156,7 @@ fn fits_behind(magic: Magic, path: &[u8], front: &[u8], pattern: &[u8]) -> bool
         return false;
     }
     match behind(magic.icase, path, front) {
-        Some(rest) => splits(pattern, rest, way_of(magic)),
+        Some(rest) => splits(magic, pattern, rest),
         None => false,
     }
 }
@@ -206,23 +199,16 @@ fn is_below(text: &[u8], rest: &[u8]) -> bool
     text.is_empty() || text.ends_with(b"/") || rest.starts_with(b"/")
 }
 
-/// How the pattern of an element is matched.
-fn way_of(magic: Magic) -> Way
-    ensures { result ≡ way_of_item magic }
+/// Whether the pattern of an element matches the whole of a value.
+fn splits(magic: Magic, pattern: &[u8], value: &[u8]) -> bool
+    ensures { IsTrue result ↔ SplitsBy value.now pattern.now (way_of_item magic) }
 {
     let folding = if magic.icase {
         Folding::Exact
     } else {
         Folding::Off
     };
-    Way::new(magic.glob, folding)
-}
-
-/// Whether a pattern matches the whole of a value.
-fn splits(pattern: &[u8], value: &[u8], way: Way) -> bool
-    ensures { IsTrue result ↔ SplitsBy value.now pattern.now way }
-{
-    splits_counted::<Brand>(pattern, value, way, Blank::new(2))
+    splits_counted::<Brand>(pattern, value, Way::new(magic.glob, folding), Blank::new(2))
 }
 
 /// Whether a pattern matches, with new counts that no one asks for.

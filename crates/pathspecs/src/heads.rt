@@ -1,7 +1,7 @@
 //! The head of a word, and the path behind it.
 ghost use Rattle.std.specs.Prelude.{◌≡◌, option_map};
 ghost use Rattle.std.specs.Result.{result_ok};
-ghost use Rattle.pathspecs.specs.Spelling.{head_behind_colon, head_of, head_seen, path_of, seen};
+ghost use Rattle.pathspecs.specs.Spelling.{head_of, head_seen, path_of, seen};
 
 use crate::faults::WordFault;
 use crate::magic::Magic;
@@ -25,7 +25,8 @@ impl<'a> Head<'a> {
     {
         match word {
             [] => Err(WordFault::Empty),
-            [b':', text @ ..] if !is_literal => head_behind_colon(text),
+            [b':', b'(', words @ ..] if !is_literal => head_of_words(words),
+            [b':', text @ ..] if !is_literal => head_of_signs(text),
             _ => Ok(Head {
                 magic: Magic::NONE,
                 path: word,
@@ -41,15 +42,5 @@ impl<'a> Head<'a> {
             is_from_top: self.magic.top,
             path: self.path,
         }
-    }
-}
-
-/// What is spelt behind the colon.
-fn head_behind_colon(text: &[u8]) -> Result<Head<'_>, WordFault>
-    ensures { option_map head_seen (result_ok result) ≡ head_behind_colon text.entry.now }
-{
-    match text.strip_prefix(b"(") {
-        Some(words) => head_of_words(words),
-        None => head_of_signs(text),
     }
 }

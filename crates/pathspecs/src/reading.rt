@@ -33,7 +33,7 @@ impl PathspecList {
     {
         let settings = settings.counted(words.len());
         let mut elements = read_words(alloc, standpoint, settings, words)?;
-        if !are_excludes(&elements) {
+        if !elements.iter().all(|element| element.magic().exclude) {
             return Ok(PathspecList::new(elements));
         }
         let place = words.len();
@@ -74,13 +74,6 @@ fn push(elements: &mut Vec<Element>, element: Element) -> Result<(), AllocError>
     Ok(())
 }
 
-/// Whether all elements are excludes.
-fn are_excludes(elements: &[Element]) -> bool
-    ensures { result ≡ list_all (λ item. item.magic.exclude) elements.now }
-{
-    elements.iter().all(|element| element.magic().exclude)
-}
-
 /// The element of a word.
 fn read_word(
     alloc: Global,
@@ -90,21 +83,10 @@ fn read_word(
 ) -> Result<Result<Element, WordFault>, AllocError>
     ensures { IfOk result (λ read. result_ok read ≡ item_of standpoint.now settings word.now) }
 {
-    match Head::of_word(settings.literal, word) {
-        Ok(head) => read_head(alloc, standpoint, settings, head),
-        Err(fault) => Ok(Err(fault)),
-    }
-}
-
-/// The element of a head and a path.
-fn read_head(
-    alloc: Global,
-    standpoint: &Standpoint,
-    settings: Settings,
-    head: Head<'_>,
-) -> Result<Result<Element, WordFault>, AllocError>
-    ensures { IfOk result (λ read. result_ok read ≡ item_by standpoint.now settings (head_seen head.entry)) }
-{
+    let head = match Head::of_word(settings.literal, word) {
+        Ok(head) => head,
+        Err(fault) => return Ok(Err(fault)),
+    };
     if !settings.agree() {
         return Ok(Err(WordFault::Settings));
     }
@@ -128,21 +110,11 @@ fn text_of(
         return Ok(Some(Vec::from_slice(alloc, spelt.path)?));
     }
     let mut path = Vec::new(alloc);
-    match lead_from_here(alloc, standpoint, &mut path, spelt.path)? {
-        Some(is_folder) => {
-            end_folder(&mut path, is_folder)?;
-            Ok(Some(path))
-        }
-        None => Ok(None),
-    }
-}
-
-/// Puts a slash behind the path of a folder, but for the top.
-fn end_folder(path: &mut Vec<u8>, is_folder: bool) -> Result<(), AllocError>
-    ensures { IfOk result (λ _. path.new.items ≡ with_slash is_folder path.old.items) }
-{
+    let Some(is_folder) = lead_from_here(alloc, standpoint, &mut path, spelt.path)? else {
+        return Ok(None);
+    };
     if is_folder && !path.is_empty() {
         path.push(b'/')?;
     }
-    Ok(())
+    Ok(Some(path))
 }

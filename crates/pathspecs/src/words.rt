@@ -3,7 +3,7 @@ ghost use Rattle.std.specs.Prelude.{◌≡◌, ◌==◌, option_map};
 ghost use Rattle.std.specs.Result.{result_ok};
 ghost use Rattle.std.specs.List.{list_all, position};
 ghost use Rattle.std.specs.Str.{byte};
-ghost use Rattle.pathspecs.specs.Spelling.{head_of_magic, head_of_words, head_seen, is_known, said_by_words, says, words_in};
+ghost use Rattle.pathspecs.specs.Spelling.{head_of_words, head_seen, is_known, said_by_words, says, words_in};
 
 use crate::faults::WordFault;
 use crate::heads::Head;
@@ -13,23 +13,10 @@ use crate::magic::Magic;
 pub(crate) fn head_of_words(text: &[u8]) -> Result<Head<'_>, WordFault>
     ensures { option_map head_seen (result_ok result) ≡ head_of_words text.entry.now }
 {
-    match close_place(text) {
-        Some(end) => head_of_known(&text[..end], &text[end + 1..]),
-        None => Err(WordFault::Unclosed),
-    }
-}
-
-/// The place of the first parenthesis that closes.
-fn close_place(text: &[u8]) -> Option<usize>
-    ensures { result ≡ position (λ b. b == byte ")") text.now }
-{
-    text.iter().position(|byte| *byte == b')')
-}
-
-/// What words and a path spell, where each word is known.
-fn head_of_known<'a>(words: &[u8], path: &'a [u8]) -> Result<Head<'a>, WordFault>
-    ensures { option_map head_seen (result_ok result) ≡ head_of_magic (list_all is_known (words_in words.entry.now)) (said_by_words (words_in words.entry.now)) path.entry.now }
-{
+    let Some(end) = close_place(text) else {
+        return Err(WordFault::Unclosed);
+    };
+    let words = &text[..end];
     if !are_known(words) {
         return Err(fault_in(words));
     }
@@ -37,7 +24,17 @@ fn head_of_known<'a>(words: &[u8], path: &'a [u8]) -> Result<Head<'a>, WordFault
     if magic.literal && magic.glob {
         return Err(WordFault::LiteralGlob);
     }
-    Ok(Head { magic, path })
+    Ok(Head {
+        magic,
+        path: &text[end + 1..],
+    })
+}
+
+/// The place of the first parenthesis that closes.
+fn close_place(text: &[u8]) -> Option<usize>
+    ensures { result ≡ position (λ b. b == byte ")") text.now }
+{
+    text.iter().position(|byte| *byte == b')')
 }
 
 /// Whether each of some words is known.

@@ -27,20 +27,3 @@ module _ {X W Y : Type 0} (f : W → Option Y) (see : X → W) (words : List X) 
       let there : slice_get (map see words) i ≡ Some (see (get_or words i d)) = slice_get-map see words i ∙ ap (option_map see) (slice_get-get_or words i d low) in
       let before : map f (take place (map see words)) ≡ map Some items = ap (map f) (ap (λ n. take n (map see words)) as_far ∙ take-map see i words) ∙ read in
       ((items, before), subst (λ n. slice_get (map f (map see words ++ more)) n ≡ Some None) (sym as_far) (none_at f (map see words) more i (see (get_or words i d)) there none))
-
--- what is read is followed where each element passes
-module _ {X Y : Type 0} (f : X → Option Y) (p : Y → Bool) (words : List X) (items : List Y) (read : map f words ≡ map Some items) (word : X) where
-  abbrev pub Follows : List Y → Type 0
-  Follows whole = map Some whole ≡ map f (words ++ (if list_all p (take (length words) whole) then word ∷ [] else []))
-
-  follows_by : (more : List Y) (passes : Bool) → list_all p items ≡ passes → map Some (items ++ more) ≡ map f (words ++ (if passes then word ∷ [] else [])) → Follows (items ++ more)
-  follows_by more passes tested whole =
-      let own : take (length words) (items ++ more) ≡ items = take_at items more (length words) (as_many f words items read) in
-      whole ∙ ap (λ (b : Bool). map f (words ++ (if b then word ∷ [] else []))) (sym tested ∙ ap (list_all p) (sym own))
-
-  pub reads_own : list_all p items ≡ false → Follows items
-  reads_own tested = subst Follows (append-nil items) (follows_by [] false tested (ap (map Some) (append-nil items) ∙ sym read ∙ ap (map f) (sym (append-nil words))))
-
-  pub reads_here : (here : Y) → list_all p items ≡ true → Some here ≡ f word → Follows (items ++ here ∷ [])
-  reads_here here tested is =
-      follows_by (here ∷ []) true tested (map-append Some items (here ∷ []) ∙ ap (λ (os : List (Option Y)). os ++ Some here ∷ []) (sym read) ∙ ap (λ (o : Option Y). map f words ++ o ∷ []) is ∙ sym (map-append f words (word ∷ [])))

@@ -4,7 +4,7 @@ use Rattle.pathspecs.specs.Reading.{agree}
 use Rattle.pathspecs.specs.Spelling.{head_seen, seen}
 use Rattle.pathspecs.proofs.lemmas.KeptLemmas.{kept_under}
 use Rattle.pathspecs.proofs.lemmas.WordLemmas.{read_by}
-use Rattle.pathspecs.proofs.reading.read_head.Goals as goal
+use Rattle.pathspecs.proofs.reading.read_word.Goals as goal
 
 pub new-requires : goal.new-requires
 new-requires c =
