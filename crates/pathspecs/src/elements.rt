@@ -6,10 +6,9 @@ ghost use Rattle.glob_matcher.specs.Matching.{SplitsBy};
 ghost use Rattle.glob_matcher.specs.Steps.{IsBlankOf};
 ghost use Rattle.pathspecs.specs.declared.manner.Manner.{Manner};
 ghost use Rattle.pathspecs.specs.declared.manner.Manner.TheVariants.{Wild};
-ghost use Rattle.pathspecs.specs.Elements.{IsCut, IsMetSo, LeadsInto, Meets, MeetsBy, is_below, item_of_text, pattern_of, way_of_item};
+ghost use Rattle.pathspecs.specs.Elements.{IsCut, IsMetSo, LeadsInto, Meets, MeetsBy, compared, is_below, item_of_text, pattern_of, way_of_item};
 ghost use Rattle.pathspecs.specs.Lists.{strength};
 
-use crate::cuts::{are_alike, begins_so, behind};
 use crate::magic::Magic;
 use crate::manner::Manner;
 use glob_matcher::wildmatch::{Folding, Steps, Way, marked_by};
@@ -128,6 +127,40 @@ impl Element {
     {
         let (front, pattern) = self.text.split_at(self.front);
         has_bytes(pattern) && begins_so(self.magic.icase, folder, front)
+    }
+}
+
+/// What of a path stands behind a front, with which it begins.
+fn behind<'a>(icase: bool, path: &'a [u8], front: &[u8]) -> Option<&'a [u8]>
+    ensures { MatchOption result ((rest : List ℕ) → ¬ IsCut icase path.entry.now front.now rest)
+        (λ rest. IsCut icase path.entry.now front.now rest.now × ((other : List ℕ) → IsCut icase path.entry.now front.now other → other ≡ rest.now)) }
+{
+    if path.len() < front.len() {
+        return None;
+    }
+    let (head, rest) = path.split_at(front.len());
+    if are_alike(icase, head, front) {
+        Some(rest)
+    } else {
+        None
+    }
+}
+
+/// Whether a path begins with a front.
+fn begins_so(icase: bool, path: &[u8], front: &[u8]) -> bool
+    ensures { IsTrue result ↔ (rest : List ℕ) × IsCut icase path.now front.now rest }
+{
+    behind(icase, path, front).is_some()
+}
+
+/// Whether two texts are the same, as far as they are compared.
+fn are_alike(icase: bool, one: &[u8], other: &[u8]) -> bool
+    ensures { IsTrue result ↔ (compared icase one.now ≡ compared icase other.now) }
+{
+    if icase {
+        one.eq_ignore_ascii_case(other)
+    } else {
+        one == other
     }
 }
 

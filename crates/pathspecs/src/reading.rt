@@ -31,7 +31,11 @@ impl PathspecList {
         ensures read { IfOk result (λ list. AreRead standpoint.now (counted settings (length words.now)) (map (λ word. word.now) words.now) list) }
         ensures fault { IfErr result (IsFault standpoint.now (counted settings (length words.now)) (map (λ word. word.now) words.now)) }
     {
-        let settings = settings.counted(words.len());
+        let settings = if words.is_empty() {
+            Settings::default()
+        } else {
+            settings
+        };
         let mut elements = read_words(alloc, standpoint, settings, words)?;
         if !elements.iter().all(|element| element.magic().exclude) {
             return Ok(PathspecList::new(elements));

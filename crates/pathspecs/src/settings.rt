@@ -1,6 +1,6 @@
 //! What counts for all words of a list.
 ghost use Rattle.std.specs.Prelude.{◌≡◌};
-ghost use Rattle.pathspecs.specs.Reading.{agree, counted, marked};
+ghost use Rattle.pathspecs.specs.Reading.{agree, marked};
 
 use crate::magic::Magic;
 
@@ -23,16 +23,6 @@ impl Settings {
         ensures { result ≡ agree self }
     {
         !(self.glob && self.noglob || self.literal && (self.glob || self.icase))
-    }
-
-    /// What of them counts for so many words: without words none does.
-    pub(crate) fn counted(self, words: usize) -> Settings
-        ensures { result ≡ counted self words }
-    {
-        if words == 0 {
-            return Settings::default();
-        }
-        self
     }
 
     /// The marks of a word whose head says these.

@@ -3,7 +3,6 @@ use Rattle.std.proofs.Common.{◌≡◌, ◌≢◌, ◌⊎◌, inl, inr, ℕ, Bo
 use Rattle.std.specs.Prelude.{◌↔◌, MatchOption, is_some, not}
 use Rattle.std.proofs.lemmas.Bool.{eq-eqb, eqb-true, false≢true}
 use Rattle.std.proofs.lemmas.List.{append-nil}
-use Rattle.glob_matcher.specs.declared.wildmatch.way.Way.{Way}
 use Rattle.glob_matcher.specs.Matching.{SplitsBy}
 use Rattle.pathspecs.specs.declared.magic.Magic.{Magic}
 use Rattle.pathspecs.specs.Elements.{IsCut, compared, is_below, way_of_item}
@@ -45,12 +44,12 @@ not_below icase path text not_cut = (λ so. absurd (false≢true so), λ below. 
 
 -- ---- a pattern
 
-pub fits_by : (magic : Magic) (path front pattern rest : List ℕ) (way : Way) (r : Bool) → pattern ≢ [] → IsCut magic.icase path front rest → IsOnlyRest magic.icase path front rest
-    → way ≡ way_of_item magic → (IsTrue r ↔ SplitsBy rest pattern way)
+pub fits_by : (magic : Magic) (path front pattern rest : List ℕ) (r : Bool) → pattern ≢ [] → IsCut magic.icase path front rest → IsOnlyRest magic.icase path front rest
+    → (IsTrue r ↔ SplitsBy rest pattern (way_of_item magic))
     → IsTrue r ↔ ((pattern ≢ []) × (other : List ℕ) × IsCut magic.icase path front other × SplitsBy other pattern (way_of_item magic))
-fits_by magic path front pattern rest way r some cut one is splits = (
-  λ so. (some, rest, cut, subst (λ (w : Way). SplitsBy rest pattern w) is (splits.0 so)),
-  λ met. splits.1 (subst (λ (w : Way). SplitsBy rest pattern w) (sym is) (subst (λ (w : List ℕ). SplitsBy w pattern (way_of_item magic)) (one met.1 met.2) met.3)),
+fits_by magic path front pattern rest r some cut one splits = (
+  λ so. (some, rest, cut, splits.0 so),
+  λ met. splits.1 (subst (λ (w : List ℕ). SplitsBy w pattern (way_of_item magic)) (one met.1 met.2) met.3),
 )
 
 pub fits_none : (magic : Magic) (path front pattern : List ℕ) → ((rest : List ℕ) → ¬ IsCut magic.icase path front rest)
