@@ -5,4 +5,5 @@ pub mod MeetingLemmas
 pub mod PassingLemmas
 pub mod ReadLemmas
 pub mod SlashLemmas
+pub mod WhichLemmas
 pub mod WordLemmas

@@ -25,9 +25,6 @@ item_of_text magic text kept = record { magic = magic; text = text; literal_fron
 abbrev pub kept_of : PathspecItem → List ℕ
 kept_of item = take item.literal_front item.text
 
-abbrev pub front_of_item : PathspecItem → List ℕ
-front_of_item item = take item.front item.text
-
 abbrev pub pattern_of : PathspecItem → List ℕ
 pattern_of item = drop item.front item.text
 
@@ -53,15 +50,17 @@ is_below text rest = (length text == 0 || ends_with nat_eq text (codes "/")) || 
 abbrev pub IsMetSo : Manner → PathspecItem → List ℕ → Type 0
 IsMetSo manner.Exact item path = IsCut item.magic.icase path item.text []
 IsMetSo manner.Below item path = (rest : List ℕ) × IsCut item.magic.icase path item.text rest × IsTrue (is_below item.text rest)
-IsMetSo manner.Wild item path = (pattern_of item ≢ []) × (rest : List ℕ) × IsCut item.magic.icase path (front_of_item item) rest × SplitsBy rest (pattern_of item) (way_of_item item.magic)
+IsMetSo manner.Wild item path = (pattern_of item ≢ []) × (rest : List ℕ) × IsCut item.magic.icase path (take item.front item.text) rest × SplitsBy rest (pattern_of item) (way_of_item item.magic)
 
 -- an element meets a path: the bytes of its literal front are equal, and the path is met in one of the ways
 abbrev pub Meets : PathspecItem → List ℕ → Type 0
 Meets item path = IsTrue (starts_with nat_eq path (kept_of item)) × ((way : Manner) × IsMetSo way item path)
 
--- a path below the folder may be met: the text goes on below it, or it is the front of a pattern and more
-abbrev pub GoesOnIn : PathspecItem → List ℕ → Type 0
-GoesOnIn item folder = ((rest : List ℕ) × IsCut item.magic.icase item.text folder rest) ⊎ ((pattern_of item ≢ []) × ((rest : List ℕ) × IsCut item.magic.icase folder (front_of_item item) rest))
+-- it meets the path in this way, which is the one that counts: the text does before what lies below it, and that before the pattern
+abbrev pub MeetsBy : Manner → PathspecItem → List ℕ → Type 0
+MeetsBy way item path = Meets item path × IsMetSo way item path × (way ≢ manner.Exact → ¬ IsMetSo manner.Exact item path) × (way ≡ manner.Wild → ¬ IsMetSo manner.Below item path)
 
+-- a path below the folder may be met: the text goes on below it, or it is the front of a pattern and more
 abbrev pub LeadsInto : PathspecItem → List ℕ → Type 0
-LeadsInto item folder = (item.magic.icase ≡ true → IsTrue (starts_with nat_eq folder (kept_of item))) × GoesOnIn item folder
+LeadsInto item folder = (item.magic.icase ≡ true → IsTrue (starts_with nat_eq folder (kept_of item)))
+    × (((rest : List ℕ) × IsCut item.magic.icase item.text folder rest) ⊎ ((pattern_of item ≢ []) × ((rest : List ℕ) × IsCut item.magic.icase folder (take item.front item.text) rest)))

@@ -1,5 +1,5 @@
 -- Where a spelt path leads.
-use Rattle.std.specs.Prelude.{ℕ, ◌-◌, ◌==◌, ◌&&◌, Bool, false, not, nat_eq, if◌then◌else◌, List, [], ◌∷◌, length, take, Option, None, Some, codes}
+use Rattle.std.specs.Prelude.{ℕ, ◌-◌, ◌==◌, ◌&&◌, ◌||◌, Bool, false, not, nat_eq, if◌then◌else◌, List, [], length, take, Option, None, Some, codes}
 use Rattle.std.specs.List.{ends_with, list_any}
 use Rattle.std.specs.Option.{option_and_then, option_map_or}
 use Rattle.git_paths.specs.declared.standpoint.Standpoint.{Standpoint}
@@ -17,9 +17,7 @@ without_slash path = if ends_in_slash path then take (length path - 1) path else
 -- A path that is told from the top stands for itself: `.` and `..` are names in it. Only a slash at its end isn't of it. It leads nowhere
 -- where a part of it has no bytes.
 abbrev pub standing : List ℕ → Option (List ℕ)
-standing [] = Some []
-standing (b ∷ path) =
-    if list_any (λ part. length part == 0) (parts_of (without_slash (b ∷ path))) then None else Some (without_slash (b ∷ path))
+standing path = if length path == 0 || not (list_any (λ part. length part == 0) (parts_of (without_slash path))) then Some (without_slash path) else None
 
 -- where a spelt path leads from the top, and whether it is told as a folder's
 abbrev pub leads : Standpoint → Spelt → Option (List ℕ)

@@ -1,5 +1,5 @@
 -- Which elements words are.
-use Rattle.std.specs.Prelude.{◌≡◌, ℕ, Bool, false, not, ◌&&◌, ◌||◌, if◌then◌else◌, List, [], ◌∷◌, ◌++◌, map, take, slice_get, ⊤, Option, None, Some, codes}
+use Rattle.std.specs.Prelude.{◌≡◌, ℕ, ◌==◌, Bool, false, not, ◌&&◌, ◌||◌, if◌then◌else◌, List, [], ◌∷◌, ◌++◌, length, map, take, slice_get, ⊤, Option, None, Some, codes}
 use Rattle.std.specs.List.{list_all}
 use Rattle.std.specs.Option.{option_and_then, option_map}
 use Rattle.git_paths.specs.declared.standpoint.Standpoint.{Standpoint}
@@ -17,14 +17,17 @@ use Rattle.pathspecs.specs.Spelling.{Head, Spelt, head_of, path_of}
 abbrev pub agree : Settings → Bool
 agree settings = not ((settings.glob && settings.noglob) || (settings.literal && (settings.glob || settings.icase)))
 
+-- without words no setting counts
+abbrev pub counted : Settings → ℕ → Settings
+counted settings words = if words == 0 then record { literal = false; glob = false; noglob = false; icase = false } else settings
+
 -- the marks of a word under settings
 abbrev pub marked : Settings → Magic → Magic
 marked settings magic = record { top = magic.top; literal = (magic.literal || settings.literal) || (settings.noglob && not magic.glob); glob = magic.glob || (settings.glob && not magic.literal); icase = magic.icase || settings.icase; exclude = magic.exclude }
 
 -- a path, with a slash at its end where it is told as a folder's; the top has none
 abbrev pub with_slash : Bool → List ℕ → List ℕ
-with_slash is_folder [] = []
-with_slash is_folder (b ∷ path) = (b ∷ path) ++ (if is_folder then codes "/" else [])
+with_slash is_folder path = path ++ (if is_folder && not (length path == 0) then codes "/" else [])
 
 -- the text of an element: what is told from the top stands for itself
 abbrev pub text_of : Standpoint → Spelt → Option (List ℕ)
@@ -38,10 +41,8 @@ abbrev pub item_of : Standpoint → Settings → List ℕ → Option PathspecIte
 item_of standpoint settings word = option_and_then (item_by standpoint settings) (head_of settings.literal word)
 
 -- the words are these elements; where all are excludes, or there are none, that of the current folder follows
-pub record AreRead (standpoint : Standpoint) (settings : Settings) (words : List (List ℕ)) (items : List PathspecItem) : Type 0 where
-  pub own : List PathspecItem
-  pub each : map (item_of standpoint settings) words ≡ map Some own
-  pub whole : map Some items ≡ map Some own ++ (if list_all (λ item. item.magic.exclude) own then item_of standpoint settings (codes ".") ∷ [] else [])
+abbrev pub AreRead : Standpoint → Settings → List (List ℕ) → List PathspecItem → Type 0
+AreRead standpoint settings words items = map Some items ≡ map (item_of standpoint settings) (words ++ (if list_all (λ item. item.magic.exclude) (take (length words) items) then codes "." ∷ [] else []))
 
 -- the word at a place is the first that is no element; behind the last one, that of the current folder is asked for
 abbrev pub IsFault : Standpoint → Settings → List (List ℕ) → ReadFault → Type 0

@@ -25,11 +25,8 @@ abbrev pub is_other_sign : ℕ → Bool
 is_other_sign b = list_any (λ sign. b == sign) (codes "\"#%&',-;<=>@_`~")
 
 -- one sign says it, and so do more
-abbrev pub has : ℕ → List ℕ → Bool
-has sign signs = list_any (λ b. b == sign) signs
-
 abbrev pub said_by_signs : List ℕ → Magic
-said_by_signs signs = record { top = has (byte "/") signs; literal = false; glob = false; icase = false; exclude = has (byte "!") signs || has (byte "^") signs }
+said_by_signs signs = record { top = list_any (λ b. b == byte "/") signs; literal = false; glob = false; icase = false; exclude = list_any (λ b. b == byte "!") signs || list_any (λ b. b == byte "^") signs }
 
 -- what stands behind the signs: a colon isn't of the path, and where another sign stands, nothing is spelt
 abbrev pub behind_signs : Magic → List ℕ → Option Head
@@ -56,23 +53,17 @@ said_by_words words = record { top = says (codes "top") words; literal = says (c
 abbrev pub is_known : List ℕ → Bool
 is_known word = list_any (λ name. bytes_eq word name) ([] ∷ codes "top" ∷ codes "literal" ∷ codes "glob" ∷ codes "icase" ∷ codes "exclude" ∷ [])
 
--- another word spells nothing, and `literal` and `glob` don't go together
-abbrev pub head_of_magic : Bool → Magic → List ℕ → Option Head
-head_of_magic known magic path = if known && not (magic.literal && magic.glob) then Some (record { magic = magic; path = path }) else None
-
--- the words stand before the first parenthesis that closes, and the path behind it; without one nothing is spelt
+-- The words stand before the first parenthesis that closes, and the path behind it; without one nothing is spelt. So it is with another word,
+-- and where `literal` and `glob` stand together.
 abbrev pub head_of_words : List ℕ → Option Head
-head_of_words text = option_and_then (λ end. head_of_magic (list_all is_known (words_in (take end text))) (said_by_words (words_in (take end text))) (drop (end + 1) text)) (position (λ b. b == byte ")") text)
+head_of_words text = option_and_then (λ end. let words = words_in (take end text) in if list_all is_known words && not (says (codes "literal") words && says (codes "glob") words) then Some (record { magic = said_by_words words; path = drop (end + 1) text }) else None) (position (λ b. b == byte ")") text)
 
 -- ---- the word
-
-abbrev pub head_behind_colon : List ℕ → Option Head
-head_behind_colon text = if starts_with nat_eq text (codes "(") then head_of_words (drop 1 text) else head_of_signs text
 
 -- What a word spells: without a colon in front, or where words are literal, it is the path. One without bytes spells nothing.
 abbrev pub head_of : Bool → List ℕ → Option Head
 head_of literal [] = None
-head_of literal (b ∷ word) = if b == byte ":" && not literal then head_behind_colon word else Some (record { magic = record { top = false; literal = false; glob = false; icase = false; exclude = false }; path = b ∷ word })
+head_of literal (b ∷ word) = if b == byte ":" && not literal then (if starts_with nat_eq word (codes "(") then head_of_words (drop 1 word) else head_of_signs word) else Some (record { magic = record { top = false; literal = false; glob = false; icase = false; exclude = false }; path = b ∷ word })
 
 -- ---- a path
 

@@ -1,15 +1,16 @@
 //! An element of a list: what a word becomes when it is read.
-ghost use Rattle.std.specs.Prelude.{◌≡◌, ◌≢◌, ◌↔◌, ◌⊎◌, ◌≤◌, ◌<◌, [], IfSome, IsTrue, List, true, ℕ, length, nat_eq};
-ghost use Rattle.std.specs.List.{position, starts_with};
+ghost use Rattle.std.specs.Prelude.{◌≡◌, ◌≢◌, ◌↔◌, ◌≤◌, ◌<◌, [], IfSome, IsTrue, List, MatchOption, ℕ, length, take};
+ghost use Rattle.std.specs.List.{position};
 ghost use Rattle.glob_matcher.specs.Bytes.{is_special};
 ghost use Rattle.glob_matcher.specs.Matching.{SplitsBy};
 ghost use Rattle.glob_matcher.specs.Steps.{IsBlankOf};
 ghost use Rattle.pathspecs.specs.declared.manner.Manner.{Manner};
-ghost use Rattle.pathspecs.specs.declared.manner.Manner.TheVariants.{Exact, Wild, Below};
-ghost use Rattle.pathspecs.specs.Elements.{GoesOnIn, IsCut, IsMetSo, LeadsInto, Meets, front_of_item, is_below, item_of_text, kept_of, pattern_of, way_of_item};
+ghost use Rattle.pathspecs.specs.declared.manner.Manner.TheVariants.{Wild};
+ghost use Rattle.pathspecs.specs.Elements.{IsCut, IsMetSo, LeadsInto, Meets, MeetsBy, compared, is_below, item_of_text, pattern_of, way_of_item};
+ghost use Rattle.pathspecs.specs.Lists.{strength};
 
-use crate::cuts::{begins_so, behind};
 use crate::magic::Magic;
+use crate::manner::Manner;
 use glob_matcher::wildmatch::{Folding, Steps, Way, marked_by};
 use std::marker::{Brand, Model};
 use std::sync::ledger::{Blank, Ledger};
@@ -77,73 +78,105 @@ impl Element {
     pub fn meets(&self, path: &[u8]) -> bool
         ensures { IsTrue result ↔ Meets self.now path.now }
     {
-        path.starts_with(&self.text[..self.literal_front]) && self.is_met_somehow(path)
+        self.manner(path).is_some()
     }
 
-    /// Whether a path is met in one of the ways.
-    fn is_met_somehow(&self, path: &[u8]) -> bool
-        ensures { IsTrue result ↔ (manner : Manner) × IsMetSo manner self.now path.now }
+    /// In which way it meets a path. Where there are several, the text counts before what lies below it, and that before the pattern.
+    pub fn manner(&self, path: &[u8]) -> Option<Manner>
+        ensures { MatchOption result (¬ Meets self.now path.now) (λ way. MeetsBy way self.now path.now) }
     {
-        self.names(path) || self.fits(path)
+        if !path.starts_with(&self.text[..self.literal_front]) {
+            return None;
+        }
+        if is_text(self.magic.icase, path, &self.text) {
+            return Some(Manner::Exact);
+        }
+        if is_below_text(self.magic.icase, path, &self.text) {
+            return Some(Manner::Below);
+        }
+        let (front, pattern) = self.text.split_at(self.front);
+        if fits_behind(self.magic, path, front, pattern) {
+            return Some(Manner::Wild);
+        }
+        None
+    }
+
+    /// How strongly it meets a path: not at all, where it is 0, and else the more, the greater it is.
+    pub(crate) fn strength(&self, path: &[u8]) -> u8
+        ensures met { result ≢ 0 → (way : Manner) × MeetsBy way self.now path.now × (strength self.now.magic.exclude way ≡ result) }
+        ensures none { result ≡ 0 → ¬ Meets self.now path.now }
+    {
+        match self.manner(path) {
+            Some(way) => way.strength(self.magic.exclude),
+            None => 0,
+        }
     }
 
     /// Whether it may meet a path below a folder by what follows the folder's path, which ends in a slash.
     pub(crate) fn leads_into(&self, folder: &[u8]) -> bool
         ensures { IsTrue result ↔ LeadsInto self.now folder.now }
     {
-        self.keeps_case_of(folder) && self.goes_on_in(folder)
-    }
-
-    /// Whether a folder's path has the bytes that are compared as they are where case doesn't count.
-    fn keeps_case_of(&self, folder: &[u8]) -> bool
-        ensures { IsTrue result ↔ (self.now.magic.icase ≡ true → IsTrue (starts_with nat_eq folder.now (kept_of self.now))) }
-    {
-        !self.magic.icase || folder.starts_with(&self.text[..self.literal_front])
-    }
-
-    /// Whether the text goes on below a folder, or a pattern does.
-    fn goes_on_in(&self, folder: &[u8]) -> bool
-        ensures { IsTrue result ↔ GoesOnIn self.now folder.now }
-    {
-        begins_so(self.magic.icase, &self.text, folder) || self.is_in_pattern(folder)
+        let icase = self.magic.icase;
+        let keeps_case = !icase || folder.starts_with(&self.text[..self.literal_front]);
+        keeps_case && (begins_so(icase, &self.text, folder) || self.is_in_pattern(folder))
     }
 
     /// Whether it has a pattern, and a folder's path begins with what stands in front of it.
     fn is_in_pattern(&self, folder: &[u8]) -> bool
-        ensures { IsTrue result ↔ (pattern_of self.now ≢ []) × ((rest : List ℕ) × IsCut self.now.magic.icase folder.now (front_of_item self.now) rest) }
-    {
-        self.has_pattern() && begins_so(self.magic.icase, folder, &self.text[..self.front])
-    }
-
-    /// Whether it has a pattern.
-    fn has_pattern(&self) -> bool
-        ensures { IsTrue result ↔ (pattern_of self.now ≢ []) }
-    {
-        has_bytes(&self.text[self.front..])
-    }
-
-    /// Whether a path is the text, or lies below it.
-    fn names(&self, path: &[u8]) -> bool
-        ensures { IsTrue result ↔ IsMetSo Exact self.now path.now ⊎ IsMetSo Below self.now path.now }
-    {
-        is_at_or_below(self.magic.icase, path, &self.text)
-    }
-
-    /// Whether a path is the front and what the pattern matches.
-    fn fits(&self, path: &[u8]) -> bool
-        ensures { IsTrue result ↔ IsMetSo Wild self.now path.now }
+        ensures { IsTrue result ↔ (pattern_of self.now ≢ []) × ((rest : List ℕ) × IsCut self.now.magic.icase folder.now (take self.now.front self.now.text) rest) }
     {
         let (front, pattern) = self.text.split_at(self.front);
-        fits_behind(self.magic, path, front, pattern)
+        has_bytes(pattern) && begins_so(self.magic.icase, folder, front)
     }
 }
 
-/// Whether a path is a text, or lies below it.
-fn is_at_or_below(icase: bool, path: &[u8], text: &[u8]) -> bool
-    ensures { IsTrue result ↔ IsCut icase path.now text.now [] ⊎ ((rest : List ℕ) × IsCut icase path.now text.now rest × IsTrue (is_below text.now rest)) }
+/// What of a path stands behind a front, with which it begins.
+fn behind<'a>(icase: bool, path: &'a [u8], front: &[u8]) -> Option<&'a [u8]>
+    ensures { MatchOption result ((rest : List ℕ) → ¬ IsCut icase path.entry.now front.now rest)
+        (λ rest. IsCut icase path.entry.now front.now rest.now × ((other : List ℕ) → IsCut icase path.entry.now front.now other → other ≡ rest.now)) }
+{
+    if path.len() < front.len() {
+        return None;
+    }
+    let (head, rest) = path.split_at(front.len());
+    if are_alike(icase, head, front) {
+        Some(rest)
+    } else {
+        None
+    }
+}
+
+/// Whether a path begins with a front.
+fn begins_so(icase: bool, path: &[u8], front: &[u8]) -> bool
+    ensures { IsTrue result ↔ (rest : List ℕ) × IsCut icase path.now front.now rest }
+{
+    behind(icase, path, front).is_some()
+}
+
+/// Whether two texts are the same, as far as they are compared.
+fn are_alike(icase: bool, one: &[u8], other: &[u8]) -> bool
+    ensures { IsTrue result ↔ (compared icase one.now ≡ compared icase other.now) }
+{
+    if icase {
+        one.eq_ignore_ascii_case(other)
+    } else {
+        one == other
+    }
+}
+
+/// Whether a path is a text.
+fn is_text(icase: bool, path: &[u8], text: &[u8]) -> bool
+    ensures { IsTrue result ↔ IsCut icase path.now text.now [] }
+{
+    are_alike(icase, path, text)
+}
+
+/// Whether a path lies below a text.
+fn is_below_text(icase: bool, path: &[u8], text: &[u8]) -> bool
+    ensures { IsTrue result ↔ (rest : List ℕ) × IsCut icase path.now text.now rest × IsTrue (is_below text.now rest) }
 {
     match behind(icase, path, text) {
-        Some(rest) => rest.is_empty() || is_below(text, rest),
+        Some(rest) => is_below(text, rest),
         None => false,
     }
 }
@@ -156,7 +189,7 @@ fn fits_behind(magic: Magic, path: &[u8], front: &[u8], pattern: &[u8]) -> bool
         return false;
     }
     match behind(magic.icase, path, front) {
-        Some(rest) => splits(pattern, rest, way_of(magic)),
+        Some(rest) => splits(magic, pattern, rest),
         None => false,
     }
 }
@@ -183,6 +216,15 @@ fn front_len(magic: Magic, text: &[u8], literal_front: usize) -> usize
     }
 }
 
+/// The place of the first special byte.
+fn special_place(text: &[u8]) -> Option<usize>
+    ensures place { result ≡ position is_special text.now }
+    ensures within { IfSome result (λ place. place < length text.now) }
+{
+    text.iter()
+        .position(|byte| matches!(*byte, b'*' | b'?' | b'[' | b'\\'))
+}
+
 /// Whether what stands behind a text lies below it.
 fn is_below(text: &[u8], rest: &[u8]) -> bool
     ensures { result ≡ is_below text.now rest.now }
@@ -190,38 +232,16 @@ fn is_below(text: &[u8], rest: &[u8]) -> bool
     text.is_empty() || text.ends_with(b"/") || rest.starts_with(b"/")
 }
 
-/// The place of the first special byte.
-fn special_place(text: &[u8]) -> Option<usize>
-    ensures place { result ≡ position is_special text.now }
-    ensures within { IfSome result (λ place. place < length text.now) }
-{
-    text.iter().position(|byte| is_special(*byte))
-}
-
-/// Whether a byte may mean more than itself in a pattern.
-fn is_special(byte: u8) -> bool
-    ensures { result ≡ is_special byte }
-{
-    matches!(byte, b'*' | b'?' | b'[' | b'\\')
-}
-
-/// How the pattern of an element is matched.
-fn way_of(magic: Magic) -> Way
-    ensures { result ≡ way_of_item magic }
+/// Whether the pattern of an element matches the whole of a value.
+fn splits(magic: Magic, pattern: &[u8], value: &[u8]) -> bool
+    ensures { IsTrue result ↔ SplitsBy value.now pattern.now (way_of_item magic) }
 {
     let folding = if magic.icase {
         Folding::Exact
     } else {
         Folding::Off
     };
-    Way::new(magic.glob, folding)
-}
-
-/// Whether a pattern matches the whole of a value.
-fn splits(pattern: &[u8], value: &[u8], way: Way) -> bool
-    ensures { IsTrue result ↔ SplitsBy value.now pattern.now way }
-{
-    splits_counted::<Brand>(pattern, value, way, Blank::new(2))
+    splits_counted::<Brand>(pattern, value, Way::new(magic.glob, folding), Blank::new(2))
 }
 
 /// Whether a pattern matches, with new counts that no one asks for.

@@ -94,15 +94,8 @@ fn standing(path: &[u8]) -> Option<&[u8]>
         return Some(path);
     }
     let bare = path.strip_suffix(b"/").unwrap_or(path);
-    if has_empty_part(bare) {
+    if bare.split(|byte| *byte == b'/').any(|part| part.is_empty()) {
         return None;
     }
     Some(bare)
-}
-
-/// Whether some part of a path has no bytes.
-fn has_empty_part(path: &[u8]) -> bool
-    ensures { result ≡ list_any (λ part. length part == 0) (parts_of path.now) }
-{
-    path.split(|byte| *byte == b'/').any(|part| part.is_empty())
 }

@@ -1,7 +1,6 @@
 //! Git's pathspecs: what words spell, where that leads, and which paths a list of them is about.
 #![tactic(auto)]
 
-mod cuts;
 mod elements;
 mod faults;
 mod heads;
@@ -11,9 +10,7 @@ mod magic;
 mod manner;
 mod reading;
 mod settings;
-mod signs;
 mod spelling;
-mod words;
 
 pub use elements::Element;
 pub use faults::{ReadFault, WordFault};

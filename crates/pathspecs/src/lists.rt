@@ -1,9 +1,9 @@
 //! A list of elements, and which paths it is about.
-ghost use Rattle.std.specs.Prelude.{◌≡◌, ◌↔◌, ◌⊎◌, false, IsTrue};
-ghost use Rattle.std.specs.List.{Any};
-ghost use Rattle.pathspecs.specs.Elements.{LeadsInto, Meets};
+ghost use Rattle.std.specs.Prelude.{◌≡◌, ◌↔◌, ◌⊎◌, false, IsTrue, MatchOption, slice_get};
+ghost use Rattle.std.specs.List.{All, Any};
+ghost use Rattle.pathspecs.specs.Elements.{LeadsInto, Meets, PathspecItem};
 ghost use Rattle.pathspecs.specs.Laws.Losing.{LosesNothing};
-ghost use Rattle.pathspecs.specs.Lists.{IsMet, Matches, MayMatchIn};
+ghost use Rattle.pathspecs.specs.Lists.{IsMet, IsWhich, Matches, MayMatchIn};
 
 use crate::elements::Element;
 use std::marker::Model;
@@ -43,6 +43,34 @@ impl PathspecList {
         ensures { IsTrue result ↔ Matches self.now path.now }
     {
         is_met(&self.elements, false, path) && !is_met(&self.elements, true, path)
+    }
+
+    /// The place of the element that decides about a path: of the first exclude that meets it; where none does, of the first element that
+    /// does by its text, by its pattern, or as one that lies below its text, in this order. `None` where no element meets the path. Behind
+    /// the last word is the place of the current folder's element.
+    pub fn which(&self, path: &[u8]) -> Option<usize>
+        ensures { MatchOption result (All (λ item. ¬ Meets item path.now) self.now) (IsWhich self.now path.now) }
+    {
+        let mut which = None;
+        let mut greatest = 0;
+        'elements: for (place, element) in self.elements.iter().enumerate() {
+            let strength = element.strength(path);
+            if strength > greatest {
+                greatest = strength;
+                which = Some(place);
+            }
+        }
+        which
+    }
+
+    /// Whether the element at a place meets a path. Where none stands there, none does.
+    pub fn meets(&self, place: usize, path: &[u8]) -> bool
+        ensures { IsTrue result ↔ (item : PathspecItem) × (slice_get self.now place ≡ Some item) × Meets item path.now }
+    {
+        match self.elements.get(place) {
+            Some(element) => element.meets(path),
+            None => false,
+        }
     }
 
     /// Whether the list may match a path in a folder, whose path is told with a slash at its end. Where it doesn't,

@@ -1,4 +1,6 @@
 //! In which way an element meets a path.
+ghost use Rattle.std.specs.Prelude.{◌≡◌};
+ghost use Rattle.pathspecs.specs.Lists.{strength};
 
 /// In which way an element meets a path.
 #[derive(Debug, Clone, Copy, PartialEq, Eq)]
@@ -9,4 +11,18 @@ pub enum Manner {
     Wild,
     /// The path lies below the text.
     Below,
+}
+
+impl Manner {
+    /// How strongly an element meets a path that it meets so: the more, the greater it is.
+    pub(crate) fn strength(self, is_exclude: bool) -> u8
+        ensures { result ≡ strength is_exclude self }
+    {
+        match self {
+            _ if is_exclude => 4,
+            Manner::Exact => 3,
+            Manner::Wild => 2,
+            Manner::Below => 1,
+        }
+    }
 }

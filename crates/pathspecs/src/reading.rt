@@ -1,8 +1,8 @@
 //! Words are read to elements.
-ghost use Rattle.std.specs.Prelude.{◌≡◌, ◌∷◌, ◌++◌, [], IfErr, IfOk, map, option_map, Some};
+ghost use Rattle.std.specs.Prelude.{◌≡◌, ◌∷◌, ◌++◌, [], IfErr, IfOk, length, map, option_map, Some};
 ghost use Rattle.std.specs.List.{list_all};
 ghost use Rattle.std.specs.Result.{result_ok};
-ghost use Rattle.pathspecs.specs.Reading.{AreRead, IsFault, item_by, item_of, text_of, with_slash};
+ghost use Rattle.pathspecs.specs.Reading.{AreRead, IsFault, counted, item_by, item_of, text_of, with_slash};
 ghost use Rattle.pathspecs.specs.Spelling.{head_seen, seen};
 
 use crate::elements::Element;
@@ -16,7 +16,8 @@ use git_paths::Standpoint;
 use std::alloc::{AllocError, Global};
 
 impl PathspecList {
-    /// The elements of words. Where all of them are excludes, or there are no words, the element of the current folder follows.
+    /// The elements of words. Where all of them are excludes, the element of the current folder follows, as that of the word `.`; where there
+    /// are no words, it stands alone, and no setting counts.
     ///
     /// # Errors
     /// [`ReadFault::Word`] for the first word that is no element, or, with the place behind the last, where the current folder would follow
@@ -27,11 +28,16 @@ impl PathspecList {
         settings: Settings,
         words: &[&[u8]],
     ) -> Result<PathspecList, ReadFault>
-        ensures read { IfOk result (λ list. AreRead standpoint.now settings (map (λ word. word.now) words.now) list) }
-        ensures fault { IfErr result (IsFault standpoint.now settings (map (λ word. word.now) words.now)) }
+        ensures read { IfOk result (λ list. AreRead standpoint.now (counted settings (length words.now)) (map (λ word. word.now) words.now) list) }
+        ensures fault { IfErr result (IsFault standpoint.now (counted settings (length words.now)) (map (λ word. word.now) words.now)) }
     {
+        let settings = if words.is_empty() {
+            Settings::default()
+        } else {
+            settings
+        };
         let mut elements = read_words(alloc, standpoint, settings, words)?;
-        if !are_excludes(&elements) {
+        if !elements.iter().all(|element| element.magic().exclude) {
             return Ok(PathspecList::new(elements));
         }
         let place = words.len();
@@ -72,13 +78,6 @@ fn push(elements: &mut Vec<Element>, element: Element) -> Result<(), AllocError>
     Ok(())
 }
 
-/// Whether all elements are excludes.
-fn are_excludes(elements: &[Element]) -> bool
-    ensures { result ≡ list_all (λ item. item.magic.exclude) elements.now }
-{
-    elements.iter().all(|element| element.magic().exclude)
-}
-
 /// The element of a word.
 fn read_word(
     alloc: Global,
@@ -88,21 +87,10 @@ fn read_word(
 ) -> Result<Result<Element, WordFault>, AllocError>
     ensures { IfOk result (λ read. result_ok read ≡ item_of standpoint.now settings word.now) }
 {
-    match Head::of_word(settings.literal, word) {
-        Ok(head) => read_head(alloc, standpoint, settings, head),
-        Err(fault) => Ok(Err(fault)),
-    }
-}
-
-/// The element of a head and a path.
-fn read_head(
-    alloc: Global,
-    standpoint: &Standpoint,
-    settings: Settings,
-    head: Head<'_>,
-) -> Result<Result<Element, WordFault>, AllocError>
-    ensures { IfOk result (λ read. result_ok read ≡ item_by standpoint.now settings (head_seen head.entry)) }
-{
+    let head = match Head::of_word(settings.literal, word) {
+        Ok(head) => head,
+        Err(fault) => return Ok(Err(fault)),
+    };
     if !settings.agree() {
         return Ok(Err(WordFault::Settings));
     }
@@ -126,21 +114,11 @@ fn text_of(
         return Ok(Some(Vec::from_slice(alloc, spelt.path)?));
     }
     let mut path = Vec::new(alloc);
-    match lead_from_here(alloc, standpoint, &mut path, spelt.path)? {
-        Some(is_folder) => {
-            end_folder(&mut path, is_folder)?;
-            Ok(Some(path))
-        }
-        None => Ok(None),
-    }
-}
-
-/// Puts a slash behind the path of a folder, but for the top.
-fn end_folder(path: &mut Vec<u8>, is_folder: bool) -> Result<(), AllocError>
-    ensures { IfOk result (λ _. path.new.items ≡ with_slash is_folder path.old.items) }
-{
+    let Some(is_folder) = lead_from_here(alloc, standpoint, &mut path, spelt.path)? else {
+        return Ok(None);
+    };
     if is_folder && !path.is_empty() {
         path.push(b'/')?;
     }
-    Ok(())
+    Ok(Some(path))
 }

@@ -1,6 +1,6 @@
 //! What a word spells where a path alone is asked for: a path, told from the top or from the current folder.
 ghost use Rattle.std.specs.Prelude.{◌≡◌, false, IsTrue, Some, option_map};
-ghost use Rattle.pathspecs.specs.Spelling.{head_seen, seen, spelt_by, spelt_in};
+ghost use Rattle.pathspecs.specs.Spelling.{seen, spelt_by};
 
 use crate::heads::Head;
 
@@ -19,22 +19,13 @@ impl<'a> Pathspec<'a> {
     pub fn spelt_by(word: &'a [u8]) -> Option<Pathspec<'a>>
         ensures { option_map seen result ≡ spelt_by word.now }
     {
-        match Head::of_word(false, word) {
-            Ok(head) => spelt_in(head),
-            Err(_fault) => None,
+        let head = Head::of_word(false, word).ok()?;
+        let magic = head.magic;
+        if magic.literal || magic.glob || magic.icase || magic.exclude {
+            return None;
         }
+        Some(head.pathspec())
     }
-}
-
-/// What a head and its path spell.
-fn spelt_in(head: Head<'_>) -> Option<Pathspec<'_>>
-    ensures { option_map seen result ≡ spelt_in (head_seen head.entry) }
-{
-    let magic = head.magic;
-    if magic.literal || magic.glob || magic.icase || magic.exclude {
-        return None;
-    }
-    Some(head.pathspec())
 }
 
 /// Whether a word is itself the path that it spells, told from the current folder: so it is where it has bytes, and no colon in front.

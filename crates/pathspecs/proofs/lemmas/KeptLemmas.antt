@@ -1,6 +1,6 @@
 -- What stays of the current folder's path isn't longer than the text of an element.
 use Rattle.std.proofs.Common.{◌≡◌, ℕ, ◌≤◌, min, Bool, true, false, List, [], ◌∷◌, length, length-append, Option, None, Some, codes, refl, sym, ap, arith}
-use Rattle.std.specs.Prelude.{◌&&◌, not, if◌then◌else◌}
+use Rattle.std.specs.Prelude.{◌==◌, ◌&&◌, not, if◌then◌else◌}
 use Rattle.std.specs.Option.{option_and_then, option_map, unwrap_or}
 use Rattle.git_paths.specs.declared.standpoint.Standpoint.{Standpoint}
 use Rattle.git_paths.specs.Paths.{left_below, names_folder, parts_of, step, walk}
@@ -34,8 +34,7 @@ kept_by true true top here parts path led = omega arith
 kept_by false absolute top here parts path led = omega arith
 
 no_shorter : (is_folder : Bool) (path : List ℕ) → length path ≤ length (with_slash is_folder path)
-no_shorter is_folder [] = omega arith
-no_shorter is_folder (b ∷ path) = omega (arith, length-append (b ∷ path) (if is_folder then codes "/" else []))
+no_shorter is_folder path = omega (arith, length-append path (if is_folder && not (length path == 0) then codes "/" else []))
 
 text_by : (is_folder : Bool) (kept : ℕ) (text : List ℕ) (found : Option (List ℕ)) → ((path : List ℕ) → found ≡ Some path → kept ≤ length path) → option_map (with_slash is_folder) found ≡ Some text → kept ≤ length text
 text_by is_folder kept text None fits is = absurd (cc)

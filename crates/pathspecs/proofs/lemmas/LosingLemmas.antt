@@ -8,7 +8,7 @@ use Rattle.std.proofs.lemmas.Slice.Eq.{bytes_eq-Decides}
 use Rattle.glob_matcher.specs.Bytes.{EndsInSlash, has_slash, slash}
 use Rattle.pathspecs.specs.declared.manner.Manner.{Manner}
 use Rattle.pathspecs.specs.declared.manner.Manner.TheVariants as manner
-use Rattle.pathspecs.specs.Elements.{IsCut, IsMetSo, LeadsInto, Meets, PathspecItem, compared, front_of_item, is_below, kept_of, pattern_of}
+use Rattle.pathspecs.specs.Elements.{IsCut, IsMetSo, LeadsInto, Meets, PathspecItem, compared, is_below, kept_of, pattern_of}
 use Rattle.pathspecs.specs.Lists.{IsMet}
 use Rattle.pathspecs.specs.Laws.Losing.{LosesNothing}
 use Rattle.pathspecs.proofs.lemmas.CutLemmas.{alike_is, compared_take, cut_at, head_length, rest_is}
@@ -106,12 +106,12 @@ module _ (item : PathspecItem) (folder rest : List ℕ) (ends : EndsInSlash fold
     | inl short ↦ inl (below_here met.0 so short met.1 met.2)
     | inr long ↦ inr (kept_by_case no_slash so, inl (goes_on item.magic.icase folder rest item.text met.0 met.1 item.text [] (sym (append-nil item.text)) long))
   ]
-  met_or_led no_slash so manner.Wild met = elim (cases_lt (length folder) (length (front_of_item item))) [
+  met_or_led no_slash so manner.Wild met = elim (cases_lt (length folder) (length (take item.front item.text))) [
     | inl long ↦ inr (
       kept_by_case no_slash so,
-      inl (goes_on item.magic.icase folder rest (front_of_item item) met.1 met.2 item.text (pattern_of item) (sym (take-append-drop item.front item.text)) (omega (arith, long))),
+      inl (goes_on item.magic.icase folder rest (take item.front item.text) met.1 met.2 item.text (pattern_of item) (sym (take-append-drop item.front item.text)) (omega (arith, long))),
     )
-    | inr short ↦ inr (kept_by_case no_slash so, inr (met.0, (drop (length (front_of_item item)) folder, lies_in item.magic.icase folder rest (front_of_item item) met.1 met.2 short)))
+    | inr short ↦ inr (kept_by_case no_slash so, inr (met.0, (drop (length (take item.front item.text)) folder, lies_in item.magic.icase folder rest (take item.front item.text) met.1 met.2 short)))
   ]
 
 -- ---- an exclude that meets the folder

@@ -1,11 +1,11 @@
 -- What is found behind a front tells how a path is met.
-use Rattle.std.proofs.Common.{◌≡◌, ◌≢◌, ◌⊎◌, inl, inr, ℕ, Bool, Bor, true, false, IsTrue, List, [], ◌∷◌, length, Option, None, Some, refl, sym, ap, ◌∙◌, subst, arith, eqb}
+use Rattle.std.proofs.Common.{◌≡◌, ◌≢◌, ℕ, Bool, Bor, true, false, IsTrue, List, [], ◌∷◌, length, Option, None, Some, refl, sym, ap, ◌∙◌, subst, arith, eqb}
 use Rattle.std.specs.Prelude.{◌↔◌, MatchOption, is_some, not}
 use Rattle.std.proofs.lemmas.Bool.{eq-eqb, eqb-true, false≢true}
-use Rattle.glob_matcher.specs.declared.wildmatch.way.Way.{Way}
+use Rattle.std.proofs.lemmas.List.{append-nil}
 use Rattle.glob_matcher.specs.Matching.{SplitsBy}
 use Rattle.pathspecs.specs.declared.magic.Magic.{Magic}
-use Rattle.pathspecs.specs.Elements.{IsCut, is_below, way_of_item}
+use Rattle.pathspecs.specs.Elements.{IsCut, compared, is_below, way_of_item}
 
 -- what is found is the one rest that there is
 abbrev IsOnlyRest : Bool → List ℕ → List ℕ → List ℕ → Type 0
@@ -29,28 +29,27 @@ has_bytes_by xs false is = (λ so none. false≢true (is ∙ eq-eqb _ _ (ap leng
 
 -- ---- a text
 
-pub below_by : (icase : Bool) (path text rest : List ℕ) (empty r : Bool) → IsCut icase path text rest → IsOnlyRest icase path text rest → empty ≡ eqb (length rest) 0 → empty ≡ false → r ≡ is_below text rest
-    → IsTrue r ↔ (IsCut icase path text [] ⊎ ((other : List ℕ) × IsCut icase path text other × IsTrue (is_below text other)))
-below_by icase path text rest empty r cut one tested some is = (
-  λ so. inr (rest, cut, sym is ∙ so),
-  λ met. elim met [
-    | inl whole ↦ absurd (false≢true (sym some ∙ tested ∙ eq-eqb _ _ (ap length (sym (one [] whole)))))
-    | inr below ↦ is ∙ subst (λ (w : List ℕ). IsTrue (is_below text w)) (one below.0 below.1) below.2
-  ],
+pub text_by : (icase : Bool) (path text : List ℕ) (r : Bool) → (IsTrue r ↔ (compared icase path ≡ compared icase text)) → IsTrue r ↔ IsCut icase path text []
+text_by icase path text r alike = (
+  λ so. record { head = path; joined = sym (append-nil path); alike = alike.0 so },
+  λ cut. alike.1 (ap (compared icase) (cut.joined ∙ append-nil cut.head) ∙ cut.alike),
 )
 
-pub neither : (icase : Bool) (path text : List ℕ) → ((rest : List ℕ) → ¬ IsCut icase path text rest)
-    → IsTrue false ↔ (IsCut icase path text [] ⊎ ((other : List ℕ) × IsCut icase path text other × IsTrue (is_below text other)))
-neither icase path text not_cut = (λ so. absurd (false≢true so), λ met. absurd (elim met [ inl whole ↦ not_cut [] whole | inr below ↦ not_cut below.0 below.1 ]))
+pub below_by : (icase : Bool) (path text rest : List ℕ) (r : Bool) → IsCut icase path text rest → IsOnlyRest icase path text rest → r ≡ is_below text rest
+    → IsTrue r ↔ ((other : List ℕ) × IsCut icase path text other × IsTrue (is_below text other))
+below_by icase path text rest r cut one is = (λ so. (rest, cut, sym is ∙ so), λ below. is ∙ subst (λ (w : List ℕ). IsTrue (is_below text w)) (one below.0 below.1) below.2)
+
+pub not_below : (icase : Bool) (path text : List ℕ) → ((rest : List ℕ) → ¬ IsCut icase path text rest) → IsTrue false ↔ ((other : List ℕ) × IsCut icase path text other × IsTrue (is_below text other))
+not_below icase path text not_cut = (λ so. absurd (false≢true so), λ below. absurd (not_cut below.0 below.1))
 
 -- ---- a pattern
 
-pub fits_by : (magic : Magic) (path front pattern rest : List ℕ) (way : Way) (r : Bool) → pattern ≢ [] → IsCut magic.icase path front rest → IsOnlyRest magic.icase path front rest
-    → way ≡ way_of_item magic → (IsTrue r ↔ SplitsBy rest pattern way)
+pub fits_by : (magic : Magic) (path front pattern rest : List ℕ) (r : Bool) → pattern ≢ [] → IsCut magic.icase path front rest → IsOnlyRest magic.icase path front rest
+    → (IsTrue r ↔ SplitsBy rest pattern (way_of_item magic))
     → IsTrue r ↔ ((pattern ≢ []) × (other : List ℕ) × IsCut magic.icase path front other × SplitsBy other pattern (way_of_item magic))
-fits_by magic path front pattern rest way r some cut one is splits = (
-  λ so. (some, rest, cut, subst (λ (w : Way). SplitsBy rest pattern w) is (splits.0 so)),
-  λ met. splits.1 (subst (λ (w : Way). SplitsBy rest pattern w) (sym is) (subst (λ (w : List ℕ). SplitsBy w pattern (way_of_item magic)) (one met.1 met.2) met.3)),
+fits_by magic path front pattern rest r some cut one splits = (
+  λ so. (some, rest, cut, splits.0 so),
+  λ met. splits.1 (subst (λ (w : List ℕ). SplitsBy w pattern (way_of_item magic)) (one met.1 met.2) met.3),
 )
 
 pub fits_none : (magic : Magic) (path front pattern : List ℕ) → ((rest : List ℕ) → ¬ IsCut magic.icase path front rest)

@@ -1,7 +1,7 @@
 use Rattle.std.proofs.Common.{◌≡◌, ◌+◌, ◌-◌, ◌≤◌, drop, length}
 use Rattle.std.specs.List.{prefix_len}
 use Rattle.pathspecs.specs.Spelling.{is_sign}
-use Rattle.pathspecs.proofs.signs.sign_count.Given as goal
+use Rattle.pathspecs.proofs.heads.sign_count.Given as goal
 
 -- what was passed are signs, and so are those that follow
 abbrev pub invariant-signs : goal.invariant-signs
