@@ -9,7 +9,8 @@ from documents import kinds_in
 from trees import BYTE_ORDER_MARK, IGNORE_FILE, has_stars_after_a_literal_front, is_white
 
 HERE = os.path.dirname(os.path.realpath(__file__))
-NAMED, UNNAMED = kinds_in("DIFFERENCES.md"), "not named in From Git"
+CHAPTER = "From Git, by the crate's reading"
+NAMED, UNNAMED = kinds_in(CHAPTER), f"not named in {CHAPTER}"
 # of each kind of differences that is named, so many are shown
 SHOWN = 3
 GLOBLINE = os.environ.get("GLOBLINE") or os.path.join(HERE, "..", "..", "globline")
@@ -113,7 +114,7 @@ def ways_to_tell(path, is_folder):
 # ---- differences
 
 def reason(folder, path, answers, of_folder):
-    """Why the two answers may differ, by the bold words of "From Git", or None. `of_folder` has the two answers
+    """Why the two answers may differ, by the bold words of the chapter, or None. `of_folder` has the two answers
     about the folder that the path names, Git's without its slash and globline's with it, or is None."""
     if set(path.rstrip(b"/").split(b"/")) & {b".", b".."}:
         return "paths"

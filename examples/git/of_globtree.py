@@ -24,9 +24,9 @@ BEHIND = [[], [], ["-v"], ["--", "a"]]
 WITHIN_GIT = ["a", "-v -n -- HEAD ../a", "-q .", "--stdin", "-z --stdin"]
 NO_TEXT, NOT_THERE = b"no UTF-8 text", (b": no folder", b": No such file", b": Not a directory")
 PATTERN, COLON = b"may be a pattern of paths", b"has a colon in front"
-# kinds of differences, which count as such where "From Git" in docs/GLOBTREE.md names them
+# kinds of differences, which count as such where "From Git" in docs/DIFFERENCES.md names them
 UNLISTED, MESSAGES, PATTERNS = "what can't be listed", "messages", "patterns as DIR"
-NAMED = kinds_in("GLOBTREE.md")
+NAMED = kinds_in("From Git")
 DOTTED = [b".", b"./", b".//", b"./.", b"..", b"../", b"../..", b"../.", b".././", b"x/..", b"x/../", b"x/../.", b"./x/y/../.."]
 ESCAPES = {7: "a", 8: "b", 9: "t", 10: "n", 11: "v", 12: "f", 13: "r", 34: '"', 92: "\\"}
 

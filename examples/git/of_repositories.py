@@ -28,13 +28,13 @@ OUTSIDE = [b"../../../../../../x", b"/", b"", b"../../x", b"l/x"]
 # words that spell a path behind a colon, and words that spell none
 SPELT = [b":x", b"::x", b":()x", b":", b":/", b":/x", b"://:x", b":(top)x", b":(,top)d/x", b":/d/x", b":/k*/x", b":/a*", b":(top)./x", b":a:b", b":$x", b":/d/"]
 UNSPELT = [b":!x", b":^x", b":-x", b":/~", b":(top", b":(x)x", b":(exclude)x", b":(glob)x", b":(icase,top)x", b":(literal)x", b":(attr:a)x", b":(Top)x"]
-# kinds of differences that the documents name: the first in "From Git" of docs/GLOBTREE.md
+# kinds of differences; some count as such where "From Git" in docs/DIFFERENCES.md names them
 MESSAGES, BARE, UNKNOWN, CRASH = "messages", "no work tree", "another's folder", "Git crashes"
 LOCK, NOWHERE = "Git's lock file", "a GIT_DIR that leads nowhere"
-NAMED = kinds_in("GLOBTREE.md")
+NAMED = kinds_in("From Git")
 OF_CONFIG, OF_STATUS = "`config`", "`status`"
 NO_OBJECT = re.compile(rb"fatal: (bad object HEAD|unable to read [0-9a-f]+|'git status --porcelain=2' failed in submodule .*)\n")
-# and that of docs/REPOSITORIES.md has: what isn't read, by the fault that names it
+# what isn't read, by the fault that names it
 UNREAD = {
     "relative files of the environment": b"is a relative path of a file of configuration",
     "a relative GIT_COMMON_DIR": b"GIT_COMMON_DIR is a relative path",
