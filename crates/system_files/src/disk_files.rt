@@ -75,7 +75,7 @@ impl<'a, R: Files> DiskFiles<'a, R> {
 const RUN_BITS: u32 = 0o111;
 
 impl<'a, R: Files> FileSystem for DiskFiles<'a, R> {
-    ghost owned = { λ _ _ _. ⊤ };
+    ghost owned = { λ _ _ _. Unit {0} };
 
     fn is_file(&self, path: &[u8]) -> Result<bool, AllocError> {
         Ok(self.found(path)?.is_some_and(|there| there.is_file()))
