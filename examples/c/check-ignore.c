@@ -47,11 +47,10 @@ int main(int argc, char **argv)
     add(".git/info/exclude", "", 0);
     add(".gitignore", "", 0);
     for (char **path = argv + 1; path < argv + argc; path++) {
-        const size_t len = strlen(*path), slashes = len > 1 && (*path)[len - 1] == '/';
         struct stat found;
-        const bool is_dir = slashes || (!lstat(*path, &found) && S_ISDIR(found.st_mode));
+        const bool is_dir = !lstat(*path, &found) && S_ISDIR(found.st_mode);
         add_folders(*path, argv + 1);
-        if (is_ignored(*path, len - slashes, is_dir))
+        if (is_ignored(*path, strlen(*path), is_dir))
             status = puts(*path) < 0 ? 2 : 0;
     }
     gix_glob_rules_free(rules);

@@ -1,5 +1,6 @@
 /* The handle of gix_glob_rules.h: it answers as gix_glob_decide_in_tree does for the lists of all its files, on drawn files and paths; each
- * refusal of memory leaves it as it was; and files are read by their names. Status 0 where all is so. */
+ * refusal of memory leaves it as it was; and files are read by their names. names.c and steps.c have the rest. Status 0 where all is so. */
+#include "rules.h"
 #include <gix_glob_rules.h>
 #include <unistd.h>
 
@@ -7,7 +8,7 @@ enum { MOST_FILES = 40, MOST_PATTERNS = 8, ROUNDS = 3000, PATHS = 60 };
 
 static int failed;
 
-static void check(bool is_so, const char *asked, size_t row)
+void check(bool is_so, const char *asked, size_t row)
 {
     if (!is_so && failed++ < 20)
         printf("rules: %s: not so in row %zu\n", asked, row);
@@ -21,12 +22,7 @@ static uint32_t drawn(uint32_t below)
     return (seed >> 8) % below;
 }
 
-/* Memory that is counted, and refused where its turn comes. */
-struct counted {
-    size_t bytes, calls, refused;
-};
-
-static void *counting(void *of, void *memory, size_t old_size, size_t size)
+void *counting(void *of, void *memory, size_t old_size, size_t size)
 {
     struct counted *counted = (struct counted *)of;
     if (size && ++counted->calls == counted->refused)
@@ -186,5 +182,7 @@ int main(void)
         answers_are_those_of_all_lists(round);
     refusals_change_nothing();
     files_are_read_by_their_names();
+    names_of_files();
+    steps();
     return failed > 0;
 }
