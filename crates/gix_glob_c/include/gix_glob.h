@@ -49,7 +49,9 @@
 #define GIX_GLOB_VERSION_PATCH 0
 #define GIX_GLOB_VERSION (GIX_GLOB_VERSION_MAJOR * 10000 + GIX_GLOB_VERSION_MINOR * 100 + GIX_GLOB_VERSION_PATCH)
 
-/* What compilers are told: a call's pointers to structs aren't NULL, its answer is to be looked at, and it only reads. */
+/* ---- what compilers are told: no caller writes it */
+
+/* A call's pointers to structs aren't NULL, its answer is to be looked at, and it only reads. */
 #if defined(__GNUC__)
 #define GIX_GLOB_CALL __attribute__((nonnull))
 #define GIX_GLOB_TELLS __attribute__((nonnull, warn_unused_result))
@@ -66,7 +68,9 @@
 extern "C" {
 #endif
 
-/* The version of the library, as that of the header. */
+/* ---- the version of the library */
+
+/* That of the library which was linked, as that of the header. */
 GIX_GLOB_CONST uint32_t gix_glob_version(void);
 
 /* No place, and no index: the only number that a call writes or answers for none. */
@@ -90,6 +94,7 @@ static inline void *gix_glob_some(const void *elements)
     return elements ? (void *)(uintptr_t)elements : (void *)&none;
 }
 
+/* So many bytes. */
 static inline struct gix_glob_text gix_glob_text_of(const void *bytes, size_t len)
 {
     struct gix_glob_text text;
