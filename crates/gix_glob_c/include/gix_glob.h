@@ -24,7 +24,7 @@
  * libgix_glob_c.so.N with N = GIX_GLOB_VERSION_MAJOR, stays the same; what is new has a new name, and gix_glob_version() tells whether
  * it is there. What the library alone knows, it keeps in blocks whose size is asked of it. In version 0 the name changes with nothing.
  *
- * C99 or C++11 is needed.
+ * C99 or C++11 is needed, and a processor of x86-64-v2.
  *
  * For other languages: a struct of a pointer and a count that is passed by value is passed as two parameters, and one of a number as that
  * number, by the calling convention of x86-64 Linux, for which the library is made.
