@@ -20,7 +20,10 @@ static void add(const char *file, const char *path, size_t len)
 static bool is_ignored(const char *path, size_t len, bool is_dir)
 {
     const struct gix_glob_text text = gix_glob_text_of(path, len);
-    return gix_glob_rules_decide(rules, text, is_dir, NULL) == GIX_GLOB_IGNORED;
+    const enum gix_glob_verdict verdict = gix_glob_rules_decide(rules, text, is_dir, NULL);
+    if (verdict == GIX_GLOB_NO_MEMORY)
+        exit(2);
+    return verdict == GIX_GLOB_IGNORED;
 }
 
 /* Adds the .gitignore of each folder above a path that is above none of the paths before it; but

@@ -144,6 +144,34 @@ static void refusals_change_nothing(void)
     check(gix_glob_is_ignored(gix_glob_text_of(NULL, 0), path, false) == GIX_GLOB_UNDECIDED, "no file", 0);
 }
 
+/* Where many files lie on the way a question takes memory: a refusal is told, and the next try answers. */
+static void refused_questions_are_told(void)
+{
+    for (size_t refused = 0; refused < 3; refused++) {
+        struct counted counted = { 0, 0, 0 };
+        struct gix_glob_rules_options options = GIX_GLOB_RULES_OPTIONS_INIT;
+        struct gix_glob_rule rule = GIX_GLOB_RULE_INIT;
+        options.allocator.resize = counting;
+        options.allocator.of = &counted;
+        struct gix_glob_rules *rules = gix_glob_rules_new(&options);
+        for (size_t i = 0; i <= GIX_GLOB_RULES_FEW; i++) {
+            check(gix_glob_rules_add_file(rules, gix_glob_string(i % 2 ? "" : "a"), gix_glob_string(i % 2 ? "!x\n" : "x\n")), "a file is added", i);
+            counted.calls = i < GIX_GLOB_RULES_FEW ? 0 : counted.calls;
+            const enum gix_glob_verdict verdict = gix_glob_rules_decide(rules, gix_glob_string("a/x"), false, &rule);
+            check(verdict == (i % 2 ? GIX_GLOB_KEPT : GIX_GLOB_IGNORED) && rule.file == i, "the last file decides", i);
+            check(i >= GIX_GLOB_RULES_FEW || !counted.calls, "few files are asked without memory", i);
+        }
+        const size_t bytes = counted.bytes;
+        counted.refused = counted.calls + refused;
+        const enum gix_glob_verdict verdict = gix_glob_rules_decide(rules, gix_glob_string("a/x"), false, &rule);
+        check(verdict == (refused ? GIX_GLOB_NO_MEMORY : GIX_GLOB_IGNORED) && (rule.pattern != NULL) == !refused, "a refusal is told", refused);
+        check(counted.bytes == bytes, "a question keeps nothing", refused);
+        check(gix_glob_rules_decide(rules, gix_glob_string("a/x"), false, &rule) == GIX_GLOB_IGNORED, "the next try answers", refused);
+        gix_glob_rules_free(rules);
+        check(counted.bytes == 0, "all memory is given back", refused);
+    }
+}
+
 /* What isn't there and what is a directory count as files without lines; what can't be read isn't added; and memory may be refused. */
 static void files_are_read_by_their_names(void)
 {
@@ -181,6 +209,7 @@ int main(void)
     for (size_t round = 0; round < ROUNDS; round++)
         answers_are_those_of_all_lists(round);
     refusals_change_nothing();
+    refused_questions_are_told();
     files_are_read_by_their_names();
     names_of_files();
     steps();

@@ -11,15 +11,15 @@ static int counted_comparison(const void *left, const void *right, size_t len)
     return memcmp(left, right, len);
 }
 
-static size_t counted_match(const struct gix_glob_list *list, struct gix_glob_text path, bool is_dir, bool fold)
+static bool counted_decision(struct gix_glob_lists lists, struct gix_glob_text path, bool is_dir, bool fold, struct gix_glob_decision *out)
 {
-    asked++;
-    return gix_glob_last_match(list, path, is_dir, fold);
+    asked += lists.count;
+    return gix_glob_decide_in_tree(lists, path, is_dir, fold, out);
 }
 
 #undef memcmp
 #define memcmp counted_comparison
-#define gix_glob_last_match counted_match
+#define gix_glob_decide_in_tree counted_decision
 #include <gix_glob_rules.h>
 
 enum { FEW = 1000, MANY = 16000, NAMES = 12 };
@@ -95,8 +95,7 @@ static size_t folders_cost_a_search(const struct way *way, size_t count)
         check(gix_glob_rules_decide(rules, gix_glob_text_of(path, len), false, NULL) == GIX_GLOB_UNDECIDED, way->of, count);
     }
     check(compared <= count * 2 * 2 * halvings(count), "folders are found by searches", count);
-    /* (the list of the top for each name, and that of the folder for the last one) */
-    check(asked == count * (way->name == of_two_names ? 4 : 3), "lists off the way aren't asked", count);
+    check(asked == count * 2, "lists off the way aren't asked", count);
     bytes = counted.bytes;
     gix_glob_rules_free(rules);
     return bytes;
@@ -136,7 +135,7 @@ static void depth_costs_its_names(void)
         check(gix_glob_rules_add_file(rules, gix_glob_text_of(folder, 2 * names), gix_glob_string("x\n")), "a file is added", names);
     asked = 0;
     check(gix_glob_rules_decide(rules, gix_glob_text_of(folder, sizeof folder), true, NULL) == GIX_GLOB_UNDECIDED, "none decides", 0);
-    check(asked == NAMES * (NAMES - 1) / 2, "each folder is asked of the files above it", asked);
+    check(asked == NAMES - 1, "each folder above the path is asked", asked);
     gix_glob_rules_free(rules);
 }
 

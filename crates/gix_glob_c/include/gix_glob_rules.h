@@ -6,18 +6,18 @@
  *     gix_glob_rules_free(rules);
  *
  * All of this is C that a compiler puts into the program, and needs C99 or C++11: the library itself allocates nothing. What is here keeps
- * memory, reads each file once, prepares its list, and finds the files of the folders on the way to a path. The last match in a file is
- * gix_glob_last_match's, which is proved; which file's match decides is only tested, against gix_glob_decide_in_tree.
+ * memory, reads each file once, prepares its list, and picks the files of the folders on the way to a path. Which pattern decides is told by
+ * gix_glob_decide_in_tree, which is proved, for their lists; that the others say nothing is a law of docs/PROOFS.md.
  *
  * A folder and a path are written alike: below the root, with single slashes between their names. `./` at the front and slashes at the end
  * are passed over. What lies outside of the root, or has another name that is empty, `.` or `..`, is refused as a folder, and isn't decided
  * about as a path.
  *
  * Adding a file takes time for its lines and for each name of its folder, which is searched among its neighbours: the logarithm of their
- * number. A question takes that for each name of the path, and asks the files on the way, for each folder above the path and for the path. Of
- * other folders neither takes any, whatever their names are.
+ * number. A question takes that for each name of the path, and what gix_glob_decide_in_tree takes for the files on the way. Of other folders
+ * neither takes any, whatever their names are.
  *
- * Threads may ask the same rules at once, while no thread adds a file or frees them. A question takes no memory.
+ * Threads may ask the same rules at once, while no thread adds a file or frees them, and as long as the allocator serves several threads.
  */
 #ifndef GIX_GLOB_RULES_H
 #define GIX_GLOB_RULES_H
@@ -55,7 +55,7 @@ enum gix_glob_verdict {
     GIX_GLOB_UNDECIDED = 0, /* no line decides: the path isn't ignored */
     GIX_GLOB_IGNORED = 1,   /* a line decides, and ignores the path */
     GIX_GLOB_KEPT = 2,      /* a line with a '!' decides: the path isn't ignored */
-    GIX_GLOB_NO_MEMORY = 3  /* only gix_glob_is_ignored says this */
+    GIX_GLOB_NO_MEMORY = 3  /* memory was refused: nothing is known of the path */
 };
 
 /* The line that decides. */
@@ -66,6 +66,9 @@ struct gix_glob_rule {
 };
 
 #define GIX_GLOB_RULE_INIT { GIX_GLOB_NONE, 0, NULL }
+
+/* Up to so many files on the way to a path are asked without memory. */
+#define GIX_GLOB_RULES_FEW 16u
 
 /* Rules with their files. Its fields are no caller's. */
 struct gix_glob_rules;
@@ -82,7 +85,7 @@ struct gix_glob_rules_file {
     size_t block_size;
     struct gix_glob_list list;
     size_t place;                             /* how many files were added before it */
-    const struct gix_glob_rules_file *before; /* the latest of these that has patterns, and the same folder; or NULL */
+    const struct gix_glob_rules_file *before; /* the latest of these with patterns and the same folder; or NULL */
 };
 
 /* A folder on the way to files with patterns. The folders in one folder are an AA tree by their names, so that names of no choice make a
@@ -332,22 +335,58 @@ static inline bool gix_glob_rules_room(struct gix_glob_rules *rules, size_t name
     return files && folders;
 }
 
-/* The file whose line decides about a path by itself: of those of a folder and the folders above it, the one that was added last among those
- * that have a match; and the place of its pattern. NULL where none has. */
-static inline const struct gix_glob_rules_file *gix_glob_rules_last(const struct gix_glob_rules *rules, size_t folder,
-                                                                    struct gix_glob_text path, bool is_dir, size_t *place)
+/* The files on the way to what lies in a folder, from the one that was added last on, as many as there is room for; and how many there are. */
+static inline size_t gix_glob_rules_way(const struct gix_glob_rules *rules, size_t folder, const struct gix_glob_rules_file **files, size_t room)
 {
-    const struct gix_glob_rules_file *last = NULL;
+    size_t count = 0;
     for (bool is_top = false; !is_top; folder = rules->folders[folder].above) {
         const struct gix_glob_rules_file *file = rules->folders[folder].last;
-        for (; file && (!last || file->place > last->place); file = file->before) {
-            const size_t match = gix_glob_last_match(&file->list, path, is_dir, rules->options.fold);
-            last = match != GIX_GLOB_NONE ? file : last;
-            *place = match != GIX_GLOB_NONE ? match : *place;
+        for (; file; file = file->before, count++) {
+            size_t at = count;
+            if (count >= room)
+                continue;
+            /* (one of a folder above was added before most) */
+            for (; at > 0 && files[at - 1]->place < file->place; at--)
+                files[at] = files[at - 1];
+            files[at] = file;
         }
         is_top = !folder;
     }
-    return last;
+    return count;
+}
+
+/* The deepest folder on the way to a path that has files or lies above some. False where a name of the path is none. */
+static inline bool gix_glob_rules_folder_of(const struct gix_glob_rules *rules, struct gix_glob_text path, size_t *folder)
+{
+    size_t below = 1;
+    *folder = 0;
+    for (size_t start = 0, end; start < path.len; start = end + 1) {
+        end = gix_glob_rules_end(path, start);
+        if (!gix_glob_rules_is_name(path, start, end))
+            return false;
+        if (below && end < path.len)
+            below = gix_glob_rules_folder_in(rules, *folder, gix_glob_text_of(path.bytes + start, end - start));
+        *folder = below && end < path.len ? below : *folder;
+    }
+    return true;
+}
+
+/* Asks some files, which stand from the last one on, by room for the list of each. */
+static inline enum gix_glob_verdict gix_glob_rules_ask(const struct gix_glob_rules *rules, const struct gix_glob_rules_file *const *files,
+                                                       struct gix_glob_list *lists, size_t count, const struct gix_glob_path *path,
+                                                       struct gix_glob_rule *rule)
+{
+    struct gix_glob_decision by = GIX_GLOB_DECISION_INIT;
+    const struct gix_glob_rules_file *file;
+    for (size_t i = 0; i < count; i++)
+        lists[i] = files[count - 1 - i]->list;
+    if (!gix_glob_decide_in_tree(gix_glob_lists_of(lists, count), path->text, path->is_dir, rules->options.fold, &by))
+        return GIX_GLOB_UNDECIDED;
+    file = files[count - 1 - by.list];
+    rule->file = file->place;
+    rule->line = file->numbers[by.pattern];
+    rule->pattern = &file->patterns[by.pattern];
+    return gix_glob_is_negative(rule->pattern) ? GIX_GLOB_KEPT : GIX_GLOB_IGNORED;
 }
 
 /* Keeps the root of options, with a slash at its end. */
@@ -467,38 +506,34 @@ static inline bool gix_glob_rules_read_file(struct gix_glob_rules *rules, struct
 /* What the rules say of a path: as gix_glob_decide_in_tree answers for the lists of all files.
  *   path    what is asked about. That of the root isn't decided about
  *   is_dir  whether it is a directory's, as it is in any case with a slash at its end
- *   rule    receives the line that decides; may be NULL */
+ *   rule    receives the line that decides; may be NULL
+ * Memory is taken where more than GIX_GLOB_RULES_FEW files with patterns lie on the way, and given back. */
 static inline enum gix_glob_verdict gix_glob_rules_decide(const struct gix_glob_rules *rules, struct gix_glob_text path, bool is_dir,
                                                           struct gix_glob_rule *rule)
 {
-    const struct gix_glob_rules_file *file = NULL;
-    size_t place = 0, folder = 0, below = 1;
-    bool is_ignored = false;
-    if (rule)
-        rule->pattern = NULL;
-    is_dir = is_dir || (path.len && path.bytes[path.len - 1] == '/');
-    if (!gix_glob_rules_below(rules, &path))
+    struct gix_glob_list few_lists[GIX_GLOB_RULES_FEW], *lists = few_lists;
+    const struct gix_glob_rules_file *few_files[GIX_GLOB_RULES_FEW], **files = few_files;
+    struct gix_glob_rule unasked = GIX_GLOB_RULE_INIT;
+    struct gix_glob_path asked;
+    enum gix_glob_verdict verdict = GIX_GLOB_NO_MEMORY;
+    size_t folder, count;
+    rule = rule ? rule : &unasked;
+    rule->pattern = NULL;
+    asked.is_dir = is_dir || (path.len && path.bytes[path.len - 1] == '/');
+    if (!gix_glob_rules_below(rules, &path) || !gix_glob_rules_folder_of(rules, path, &folder))
         return GIX_GLOB_UNDECIDED;
-    /* (the folders above it, from the topmost one on, and then the path) */
-    for (size_t start = 0, end; start < path.len; start = end + 1) {
-        end = gix_glob_rules_end(path, start);
-        if (!gix_glob_rules_is_name(path, start, end))
-            return GIX_GLOB_UNDECIDED;
-        if (is_ignored)
-            continue;
-        file = gix_glob_rules_last(rules, folder, gix_glob_text_of(path.bytes, end), is_dir || end < path.len, &place);
-        is_ignored = file && !gix_glob_is_negative(&file->patterns[place]);
-        below = below ? gix_glob_rules_folder_in(rules, folder, gix_glob_text_of(path.bytes + start, end - start)) : 0;
-        folder = below ? below : folder;
+    asked.text = path;
+    if ((count = gix_glob_rules_way(rules, folder, files, GIX_GLOB_RULES_FEW)) <= GIX_GLOB_RULES_FEW)
+        return gix_glob_rules_ask(rules, files, lists, count, &asked, rule);
+    lists = (struct gix_glob_list *)gix_glob_rules_resize(rules, NULL, 0, count * sizeof *lists);
+    files = (const struct gix_glob_rules_file **)gix_glob_rules_resize(rules, NULL, 0, count * sizeof *files);
+    if (lists && files) {
+        gix_glob_rules_way(rules, folder, files, count);
+        verdict = gix_glob_rules_ask(rules, files, lists, count, &asked, rule);
     }
-    if (!file)
-        return GIX_GLOB_UNDECIDED;
-    if (rule) {
-        rule->file = file->place;
-        rule->line = file->numbers[place];
-        rule->pattern = &file->patterns[place];
-    }
-    return is_ignored ? GIX_GLOB_IGNORED : GIX_GLOB_KEPT;
+    gix_glob_rules_resize(rules, lists, count * sizeof *lists, 0);
+    gix_glob_rules_resize(rules, files, count * sizeof *files, 0);
+    return verdict;
 }
 
 /* The smallest case: what the bytes of one ignore file, at the top, say of a path. It reads them anew each time. */
