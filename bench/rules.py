@@ -3,7 +3,7 @@
 
 What is printed is instructions a path, by valgrind's callgrind, less what the harness takes, of one list by the number of its patterns: the
 last match of the prepared list; the decision in a work tree, by the prepared list, by each pattern in turn, and by the handle. The status is 1
-where the handle takes more than 1.1 of what the prepared list takes."""
+where the handle takes more than 1.2 of what the prepared list takes."""
 import os
 import subprocess
 import sys
@@ -13,7 +13,7 @@ from matcher import HERE, LIBRARY, once
 from rust import SIZES, counted, make
 
 WHATS = ("last", "prepared", "turn", "rules")
-MOST = 1.1
+MOST = 1.2
 
 
 def main():

@@ -20,7 +20,10 @@ static void add(const char *file, const char *path, size_t len)
 static bool is_ignored(const char *path, size_t len, bool is_dir)
 {
     const struct gix_glob_text text = gix_glob_text_of(path, len);
-    return gix_glob_rules_decide(rules, text, is_dir, NULL) == GIX_GLOB_IGNORED;
+    const enum gix_glob_verdict verdict = gix_glob_rules_decide(rules, text, is_dir, NULL);
+    if (verdict == GIX_GLOB_NO_MEMORY)
+        exit(2);
+    return verdict == GIX_GLOB_IGNORED;
 }
 
 /* Adds the .gitignore of each folder above a path that is above none of the paths before it; but
@@ -47,11 +50,10 @@ int main(int argc, char **argv)
     add(".git/info/exclude", "", 0);
     add(".gitignore", "", 0);
     for (char **path = argv + 1; path < argv + argc; path++) {
-        const size_t len = strlen(*path), slashes = len > 1 && (*path)[len - 1] == '/';
         struct stat found;
-        const bool is_dir = slashes || (!lstat(*path, &found) && S_ISDIR(found.st_mode));
+        const bool is_dir = !lstat(*path, &found) && S_ISDIR(found.st_mode);
         add_folders(*path, argv + 1);
-        if (is_ignored(*path, len - slashes, is_dir))
+        if (is_ignored(*path, strlen(*path), is_dir))
             status = puts(*path) < 0 ? 2 : 0;
     }
     gix_glob_rules_free(rules);

@@ -1,5 +1,6 @@
 /* The handle of gix_glob_rules.h: it answers as gix_glob_decide_in_tree does for the lists of all its files, on drawn files and paths; each
- * refusal of memory leaves it as it was; and files are read by their names. Status 0 where all is so. */
+ * refusal of memory leaves it as it was; and files are read by their names. names.c and steps.c have the rest. Status 0 where all is so. */
+#include "rules.h"
 #include <gix_glob_rules.h>
 #include <unistd.h>
 
@@ -7,7 +8,7 @@ enum { MOST_FILES = 40, MOST_PATTERNS = 8, ROUNDS = 3000, PATHS = 60 };
 
 static int failed;
 
-static void check(bool is_so, const char *asked, size_t row)
+void check(bool is_so, const char *asked, size_t row)
 {
     if (!is_so && failed++ < 20)
         printf("rules: %s: not so in row %zu\n", asked, row);
@@ -21,12 +22,7 @@ static uint32_t drawn(uint32_t below)
     return (seed >> 8) % below;
 }
 
-/* Memory that is counted, and refused where its turn comes. */
-struct counted {
-    size_t bytes, calls, refused;
-};
-
-static void *counting(void *of, void *memory, size_t old_size, size_t size)
+void *counting(void *of, void *memory, size_t old_size, size_t size)
 {
     struct counted *counted = (struct counted *)of;
     if (size && ++counted->calls == counted->refused)
@@ -148,6 +144,34 @@ static void refusals_change_nothing(void)
     check(gix_glob_is_ignored(gix_glob_text_of(NULL, 0), path, false) == GIX_GLOB_UNDECIDED, "no file", 0);
 }
 
+/* Where many files lie on the way a question takes memory: a refusal is told, and the next try answers. */
+static void refused_questions_are_told(void)
+{
+    for (size_t refused = 0; refused < 3; refused++) {
+        struct counted counted = { 0, 0, 0 };
+        struct gix_glob_rules_options options = GIX_GLOB_RULES_OPTIONS_INIT;
+        struct gix_glob_rule rule = GIX_GLOB_RULE_INIT;
+        options.allocator.resize = counting;
+        options.allocator.of = &counted;
+        struct gix_glob_rules *rules = gix_glob_rules_new(&options);
+        for (size_t i = 0; i <= GIX_GLOB_RULES_FEW; i++) {
+            check(gix_glob_rules_add_file(rules, gix_glob_string(i % 2 ? "" : "a"), gix_glob_string(i % 2 ? "!x\n" : "x\n")), "a file is added", i);
+            counted.calls = i < GIX_GLOB_RULES_FEW ? 0 : counted.calls;
+            const enum gix_glob_verdict verdict = gix_glob_rules_decide(rules, gix_glob_string("a/x"), false, &rule);
+            check(verdict == (i % 2 ? GIX_GLOB_KEPT : GIX_GLOB_IGNORED) && rule.file == i, "the last file decides", i);
+            check(i >= GIX_GLOB_RULES_FEW || !counted.calls, "few files are asked without memory", i);
+        }
+        const size_t bytes = counted.bytes;
+        counted.refused = counted.calls + refused;
+        const enum gix_glob_verdict verdict = gix_glob_rules_decide(rules, gix_glob_string("a/x"), false, &rule);
+        check(verdict == (refused ? GIX_GLOB_NO_MEMORY : GIX_GLOB_IGNORED) && (rule.pattern != NULL) == !refused, "a refusal is told", refused);
+        check(counted.bytes == bytes, "a question keeps nothing", refused);
+        check(gix_glob_rules_decide(rules, gix_glob_string("a/x"), false, &rule) == GIX_GLOB_IGNORED, "the next try answers", refused);
+        gix_glob_rules_free(rules);
+        check(counted.bytes == 0, "all memory is given back", refused);
+    }
+}
+
 /* What isn't there and what is a directory count as files without lines; what can't be read isn't added; and memory may be refused. */
 static void files_are_read_by_their_names(void)
 {
@@ -185,6 +209,9 @@ int main(void)
     for (size_t round = 0; round < ROUNDS; round++)
         answers_are_those_of_all_lists(round);
     refusals_change_nothing();
+    refused_questions_are_told();
     files_are_read_by_their_names();
+    names_of_files();
+    steps();
     return failed > 0;
 }

@@ -24,6 +24,8 @@
  * libgix_glob_c.so.N with N = GIX_GLOB_VERSION_MAJOR, stays the same; what is new has a new name, and gix_glob_version() tells whether
  * it is there. What the library alone knows, it keeps in blocks whose size is asked of it. In version 0 the name changes with nothing.
  *
+ * C99 or C++11 is needed, and a processor of x86-64-v2.
+ *
  * For other languages: a struct of a pointer and a count that is passed by value is passed as two parameters, and one of a number as that
  * number, by the calling convention of x86-64 Linux, for which the library is made.
  *
@@ -32,6 +34,10 @@
  */
 #ifndef GIX_GLOB_H
 #define GIX_GLOB_H
+
+#if !defined(__cplusplus) && (!defined(__STDC_VERSION__) || __STDC_VERSION__ < 199901L)
+#error "gix_glob.h needs C99 or later (-std=c99)"
+#endif
 
 #include <stdbool.h>
 #include <stddef.h>
@@ -43,7 +49,9 @@
 #define GIX_GLOB_VERSION_PATCH 0
 #define GIX_GLOB_VERSION (GIX_GLOB_VERSION_MAJOR * 10000 + GIX_GLOB_VERSION_MINOR * 100 + GIX_GLOB_VERSION_PATCH)
 
-/* What compilers are told: a call's pointers to structs aren't NULL, its answer is to be looked at, and it only reads. */
+/* ---- what compilers are told: no caller writes it */
+
+/* A call's pointers to structs aren't NULL, its answer is to be looked at, and it only reads. */
 #if defined(__GNUC__)
 #define GIX_GLOB_CALL __attribute__((nonnull))
 #define GIX_GLOB_TELLS __attribute__((nonnull, warn_unused_result))
@@ -60,7 +68,9 @@
 extern "C" {
 #endif
 
-/* The version of the library, as that of the header. */
+/* ---- the version of the library */
+
+/* That of the library which was linked, as that of the header. */
 GIX_GLOB_CONST uint32_t gix_glob_version(void);
 
 /* No place, and no index: the only number that a call writes or answers for none. */
@@ -84,6 +94,7 @@ static inline void *gix_glob_some(const void *elements)
     return elements ? (void *)(uintptr_t)elements : (void *)&none;
 }
 
+/* So many bytes. */
 static inline struct gix_glob_text gix_glob_text_of(const void *bytes, size_t len)
 {
     struct gix_glob_text text;

@@ -5,11 +5,19 @@
  *     gix_glob_rules_decide(rules, gix_glob_string("src/a.o"), false, NULL) == GIX_GLOB_IGNORED
  *     gix_glob_rules_free(rules);
  *
- * All of this is C that a compiler puts into the program: the library itself allocates nothing. What is here keeps memory, reads
- * each file once, prepares its list, and picks the lists on the way to a path: those whose base the path begins with. Which pattern
- * decides is told by gix_glob_decide_in_tree, which is proved, for these lists; that the others say nothing is a law of docs/PROOFS.md.
+ * All of this is C that a compiler puts into the program, and needs C99 or C++11: the library itself allocates nothing. What is here keeps
+ * memory, reads each file once, prepares its list, and picks the files of the folders on the way to a path. Which pattern decides is told by
+ * gix_glob_decide_in_tree, which is proved, for their lists; that the others say nothing is a law of docs/PROOFS.md.
  *
- * Threads may ask the same rules at once, while no thread adds a file or frees them.
+ * A folder and a path are written alike: below the root, with single slashes between their names. `./` at the front and slashes at the end
+ * are passed over. What lies outside of the root, or has another name that is empty, `.` or `..`, is refused as a folder, and isn't decided
+ * about as a path.
+ *
+ * Adding a file takes time for its lines and for each name of its folder, which is searched among its neighbours: the logarithm of their
+ * number. A question takes that for each name of the path, and what gix_glob_decide_in_tree takes for the files on the way. Of other folders
+ * neither takes any, whatever their names are.
+ *
+ * Threads may ask the same rules at once, while no thread adds a file or frees them, and as long as the allocator serves several threads.
  */
 #ifndef GIX_GLOB_RULES_H
 #define GIX_GLOB_RULES_H
@@ -31,23 +39,23 @@ struct gix_glob_allocator {
     void *of;
 };
 
-/* How rules are made: struct gix_glob_rules_options options = GIX_GLOB_RULES_OPTIONS_INIT; */
+/* How rules are made. Zeros are the usual way: struct gix_glob_rules_options options = GIX_GLOB_RULES_OPTIONS_INIT; */
 struct gix_glob_rules_options {
-    struct gix_glob_text root;           /* what stands in front of each path and each file's folder; nothing lies outside of it. Empty where
-                                            these are told from the top of the work tree on */
-    uint32_t reading;                    /* GIX_GLOB_AS_GIT or GIX_GLOB_AS_CRATE */
+    struct gix_glob_text root;           /* the top of the work tree, as it stands in front of each path and each file's folder: `/` of those
+                                            that begin with a slash; empty where they begin at the top */
+    bool as_crate;                       /* whether lines are read as the Rust crate gix-glob reads them, and not as Git does */
     bool fold;                           /* whether the case of ASCII letters doesn't count */
     struct gix_glob_allocator allocator; /* by `resize` NULL, realloc and free */
 };
 
-#define GIX_GLOB_RULES_OPTIONS_INIT { GIX_GLOB_TEXT(), GIX_GLOB_AS_GIT, false, { NULL, NULL } }
+#define GIX_GLOB_RULES_OPTIONS_INIT { GIX_GLOB_TEXT(), false, false, { NULL, NULL } }
 
 /* What the rules say of a path. */
 enum gix_glob_verdict {
     GIX_GLOB_UNDECIDED = 0, /* no line decides: the path isn't ignored */
-    GIX_GLOB_IGNORED = 1,
-    GIX_GLOB_KEPT = 2,     /* a line with a '!' decides: the path isn't ignored */
-    GIX_GLOB_NO_MEMORY = 3 /* only gix_glob_is_ignored says this */
+    GIX_GLOB_IGNORED = 1,   /* a line decides, and ignores the path */
+    GIX_GLOB_KEPT = 2,      /* a line with a '!' decides: the path isn't ignored */
+    GIX_GLOB_NO_MEMORY = 3  /* memory was refused: nothing is known of the path */
 };
 
 /* The line that decides. */
@@ -58,6 +66,12 @@ struct gix_glob_rule {
 };
 
 #define GIX_GLOB_RULE_INIT { GIX_GLOB_NONE, 0, NULL }
+
+/* Up to so many files on the way to a path are asked without memory. */
+#define GIX_GLOB_RULES_FEW 16u
+
+/* Rules with their files. Its fields are no caller's. */
+struct gix_glob_rules;
 
 /* ---- what stands behind it: no caller reads it */
 
@@ -70,26 +84,27 @@ struct gix_glob_rules_file {
     uint64_t *block; /* what is prepared */
     size_t block_size;
     struct gix_glob_list list;
+    size_t place;                             /* how many files were added before it */
+    const struct gix_glob_rules_file *before; /* the latest of these with patterns and the same folder; or NULL */
 };
 
-/* A folder of files, and all lists on the way to what lies in it. */
+/* A folder on the way to files with patterns. The folders in one folder are an AA tree by their names, so that names of no choice make a
+ * search long. */
 struct gix_glob_rules_folder {
-    struct gix_glob_text base;
-    uint32_t hash;
-    struct gix_glob_list *lists;
-    size_t *files; /* the files of the lists */
-    size_t count, room, file_room;
+    struct gix_glob_text name;
+    size_t above;              /* the folder that it lies in */
+    size_t below;              /* the root of the tree of the folders in it; 0 where there are none, as in the next two */
+    size_t left, right, level; /* its own place in a tree */
+    const struct gix_glob_rules_file *last; /* its file that was added last */
 };
 
 struct gix_glob_rules {
     struct gix_glob_rules_options options;
-    uint8_t *root;
+    uint8_t *root; /* the bytes of the options' root: with a slash at its end, if there are any */
     struct gix_glob_rules_file **files;
     size_t file_count, file_room;
-    struct gix_glob_rules_folder *folders; /* the first is the top */
+    struct gix_glob_rules_folder *folders; /* the first is the top, and no folder of a tree, where its level is 0 */
     size_t folder_count, folder_room;
-    size_t *table; /* for each hash the place of a folder behind the first, or 0; as many as a power of two */
-    size_t table_size, longest;
 };
 
 static inline void *gix_glob_rules_resize(const struct gix_glob_rules *rules, void *memory, size_t old_size, size_t size)
@@ -103,14 +118,16 @@ static inline void *gix_glob_rules_resize(const struct gix_glob_rules *rules, vo
     return NULL;
 }
 
-/* Elements with room for one more than so many: twice as many as before, where all were taken. NULL, and all as it was, where memory
- * was refused. */
+/* Elements with room for more than so many: at least twice as many as before, where that changes. NULL, and all as it was, where memory was
+ * refused. */
 static inline void *gix_glob_rules_grown(const struct gix_glob_rules *rules, void *elements, size_t count, size_t *room, size_t size)
 {
-    const size_t more = *room ? 2 * *room : 4;
+    size_t more = *room ? *room : 4;
     if (count < *room)
         return elements;
-    if (more > SIZE_MAX / 2 / size || !(elements = gix_glob_rules_resize(rules, elements, *room * size, more * size)))
+    while (more <= count && more <= SIZE_MAX / 4 / size)
+        more *= 2;
+    if (more <= count || !(elements = gix_glob_rules_resize(rules, elements, *room * size, more * size)))
         return NULL;
     *room = more;
     return elements;
@@ -121,61 +138,129 @@ static inline uint8_t gix_glob_rules_byte(const struct gix_glob_rules *rules, ui
     return rules->options.fold && byte >= 'A' && byte <= 'Z' ? (uint8_t)(byte + 32) : byte;
 }
 
-static inline uint32_t gix_glob_rules_hash(const struct gix_glob_rules *rules, uint32_t hash, uint8_t byte)
+/* How so many bytes, and at least one, stand in order: 0 where they are the same. */
+static inline int gix_glob_rules_order(const struct gix_glob_rules *rules, const uint8_t *left, const uint8_t *right, size_t len)
 {
-    return (hash ^ gix_glob_rules_byte(rules, byte)) * 16777619u;
-}
-
-/* Whether a text begins with a folder's base. */
-static inline bool gix_glob_rules_begins(const struct gix_glob_rules *rules, struct gix_glob_text base, struct gix_glob_text text)
-{
-    if (base.len > text.len)
-        return false;
+    int order = 0;
     if (!rules->options.fold)
-        return !memcmp(base.bytes, text.bytes, base.len);
-    for (size_t i = 0; i < base.len; i++)
-        if (gix_glob_rules_byte(rules, base.bytes[i]) != gix_glob_rules_byte(rules, text.bytes[i]))
-            return false;
-    return true;
+        return memcmp(left, right, len);
+    for (size_t i = 0; !order && i < len; i++)
+        order = gix_glob_rules_byte(rules, left[i]) - gix_glob_rules_byte(rules, right[i]);
+    return order;
 }
 
-/* The place in the table of the folder whose base is the front of a text, so long; or the one where it would stand. */
-static inline size_t gix_glob_rules_place(const struct gix_glob_rules *rules, uint32_t hash, struct gix_glob_text text, size_t len)
+/* The same of names: by their lengths first. */
+static inline int gix_glob_rules_name_order(const struct gix_glob_rules *rules, struct gix_glob_text left, struct gix_glob_text right)
 {
-    size_t place = hash & (rules->table_size - 1);
-    text.len = len;
-    for (; rules->table[place]; place = (place + 1) & (rules->table_size - 1)) {
-        const struct gix_glob_rules_folder *folder = &rules->folders[rules->table[place]];
-        if (folder->hash == hash && folder->base.len == len && gix_glob_rules_begins(rules, folder->base, text))
-            break;
-    }
-    return place;
+    if (left.len != right.len)
+        return left.len < right.len ? -1 : 1;
+    return gix_glob_rules_order(rules, left.bytes, right.bytes, left.len);
 }
 
-/* The deepest folder that a text lies in, of those that have files. */
-static inline struct gix_glob_rules_folder *gix_glob_rules_folder_of(const struct gix_glob_rules *rules, struct gix_glob_text text)
+/* Where the name ends that begins at a place of a path: at the next slash, or at the path's end. */
+static inline size_t gix_glob_rules_end(struct gix_glob_text path, size_t start)
 {
-    const size_t most = text.len < rules->longest ? text.len : rules->longest;
-    size_t found = 0;
-    uint32_t hash = 2166136261u;
-    for (size_t i = 0; i < most; i++) {
-        hash = gix_glob_rules_hash(rules, hash, text.bytes[i]);
-        if (text.bytes[i] == '/') {
-            const size_t folder = rules->table[gix_glob_rules_place(rules, hash, text, i + 1)];
-            found = folder ? folder : found;
-        }
-    }
-    return &rules->folders[found];
+    const void *slash = memchr(path.bytes + start, '/', path.len - start);
+    return slash ? (size_t)((const uint8_t *)slash - path.bytes) : path.len;
 }
 
-/* Takes the root off a text; false where it lies outside. */
+/* The text from a place on, without slashes at its front. */
+static inline struct gix_glob_text gix_glob_rules_from(struct gix_glob_text text, size_t start)
+{
+    while (start < text.len && text.bytes[start] == '/')
+        start++;
+    return gix_glob_text_of(text.bytes + start, text.len - start);
+}
+
+/* The text without each `./` at its front. */
+static inline struct gix_glob_text gix_glob_rules_entered(struct gix_glob_text text)
+{
+    while (text.len && text.bytes[0] == '.' && (text.len == 1 || text.bytes[1] == '/'))
+        text = gix_glob_rules_from(text, 1);
+    return text;
+}
+
+/* Takes off a folder or a path its root, `./` at the front, and slashes at the end. Answers whether it lies below the root, as far as its front
+ * tells, or is the root, of which nothing is left. */
 static inline bool gix_glob_rules_below(const struct gix_glob_rules *rules, struct gix_glob_text *text)
 {
-    const size_t len = rules->options.root.len;
-    if (!gix_glob_rules_begins(rules, rules->options.root, *text) || (len > 0 && text->len > len && text->bytes[len] != '/'))
+    const struct gix_glob_text root = rules->options.root;
+    struct gix_glob_text rest = gix_glob_rules_entered(gix_glob_text_of(text->bytes, text->len));
+    if (!root.len && rest.len && rest.bytes[0] == '/')
         return false;
-    *text = gix_glob_text_of(text->bytes + len + (len > 0 && text->len > len), text->len - len - (len > 0 && text->len > len));
+    if (root.len) {
+        /* (the root itself may lack the slash at its end) */
+        const size_t len = rest.len < root.len ? root.len - 1 : root.len;
+        if (!rest.len || rest.len < len || (len && gix_glob_rules_order(rules, root.bytes, rest.bytes, len)))
+            return false;
+        rest = gix_glob_rules_entered(gix_glob_rules_from(rest, len));
+    }
+    while (rest.len && rest.bytes[rest.len - 1] == '/')
+        rest.len--;
+    *text = rest;
     return true;
+}
+
+/* Whether it is a name that begins at a place of a path and ends at another one: it isn't empty, `.` or `..`. */
+static inline bool gix_glob_rules_is_name(struct gix_glob_text path, size_t start, size_t end)
+{
+    const uint8_t *name = path.bytes + start;
+    return end > start && (name[0] != '.' || (end - start > 1 && (name[1] != '.' || end - start > 2)));
+}
+
+/* The folder of a name in another folder; 0 where no file lies there or below. */
+static inline size_t gix_glob_rules_folder_in(const struct gix_glob_rules *rules, size_t above, struct gix_glob_text name)
+{
+    size_t at = rules->folders[above].below;
+    for (int order; at && (order = gix_glob_rules_name_order(rules, name, rules->folders[at].name));)
+        at = order < 0 ? rules->folders[at].left : rules->folders[at].right;
+    return at;
+}
+
+/* Puts a folder into a tree, and answers its root. No folder of a tree is as deep as twice the logarithm of their number. */
+static inline size_t gix_glob_rules_insert(const struct gix_glob_rules *rules, size_t root, size_t folder)
+{
+    struct gix_glob_rules_folder *all = rules->folders;
+    size_t *side, next;
+    if (!root)
+        return folder;
+    side = gix_glob_rules_name_order(rules, all[folder].name, all[root].name) < 0 ? &all[root].left : &all[root].right;
+    *side = gix_glob_rules_insert(rules, *side, folder);
+    if (all[next = all[root].left].level == all[root].level) {
+        all[root].left = all[next].right;
+        all[next].right = root;
+        root = next;
+    }
+    if (all[all[next = all[root].right].right].level == all[root].level) {
+        all[root].right = all[next].left;
+        all[next].left = root;
+        all[next].level++;
+        root = next;
+    }
+    return root;
+}
+
+/* Puts a file that was read into its folder, for which there is room. */
+static inline void gix_glob_rules_put(struct gix_glob_rules *rules, struct gix_glob_rules_file *file)
+{
+    const struct gix_glob_text base = file->list.base;
+    size_t at = 0;
+    for (size_t start = 0, end; start < base.len; start = end + 1) {
+        struct gix_glob_rules_folder *folder = &rules->folders[rules->folder_count];
+        size_t below;
+        end = gix_glob_rules_end(base, start);
+        memset(folder, 0, sizeof *folder);
+        folder->name = gix_glob_text_of(base.bytes + start, end - start);
+        folder->above = at;
+        folder->level = 1;
+        if (!(below = gix_glob_rules_folder_in(rules, at, folder->name))) {
+            below = rules->folder_count++;
+            rules->folders[at].below = gix_glob_rules_insert(rules, rules->folders[at].below, below);
+        }
+        at = below;
+    }
+    file->before = rules->folders[at].last;
+    rules->folders[at].last = file;
 }
 
 static inline void gix_glob_rules_free_file(const struct gix_glob_rules *rules, struct gix_glob_rules_file *file)
@@ -185,6 +270,140 @@ static inline void gix_glob_rules_free_file(const struct gix_glob_rules *rules, 
     gix_glob_rules_resize(rules, file->numbers, file->number_room * sizeof *file->numbers, 0);
     gix_glob_rules_resize(rules, file->block, file->block_size, 0);
     gix_glob_rules_resize(rules, file, sizeof *file, 0);
+}
+
+/* Reads all lines of a file, and prepares them. */
+static inline bool gix_glob_rules_read_lines(const struct gix_glob_rules *rules, struct gix_glob_rules_file *file, size_t base_len)
+{
+    struct gix_glob_lines lines = gix_glob_lines_of(file->bytes + base_len, file->size - 1 - base_len);
+    const struct gix_glob_pattern blank = GIX_GLOB_PATTERN_INIT;
+    for (enum gix_glob_line line = GIX_GLOB_LINE_NOTHING; line != GIX_GLOB_LINE_END; file->count += line == GIX_GLOB_LINE_PATTERN) {
+        void *patterns = gix_glob_rules_grown(rules, file->patterns, file->count, &file->room, sizeof *file->patterns);
+        void *numbers = gix_glob_rules_grown(rules, file->numbers, file->count, &file->number_room, sizeof *file->numbers);
+        file->patterns = patterns ? (struct gix_glob_pattern *)patterns : file->patterns;
+        file->numbers = numbers ? (size_t *)numbers : file->numbers;
+        if (!patterns || !numbers)
+            return false;
+        file->patterns[file->count] = blank;
+        line = rules->options.as_crate ? gix_glob_parse_ignore_line(&lines, &file->patterns[file->count])
+                                       : gix_glob_parse_ignore_line_as_git(&lines, &file->patterns[file->count]);
+        file->numbers[file->count] = lines.number;
+    }
+    if (!file->count)
+        return true;
+    file->list = gix_glob_list_of(file->patterns, file->count, gix_glob_text_of(file->bytes, base_len));
+    file->block_size = gix_glob_prepared_size(file->count);
+    if (file->block_size == GIX_GLOB_NONE || !(file->block = (uint64_t *)gix_glob_rules_resize(rules, NULL, 0, file->block_size))) {
+        file->block_size = 0;
+        return false;
+    }
+    memset(file->block, 0, file->block_size);
+    return gix_glob_prepare_list(&file->list, file->block, file->block_size);
+}
+
+/* A file of a folder that is clean. NULL where memory was refused. */
+static inline struct gix_glob_rules_file *gix_glob_rules_file_of(const struct gix_glob_rules *rules, struct gix_glob_text folder,
+                                                                 struct gix_glob_text bytes)
+{
+    const size_t base_len = folder.len + (folder.len > 0);
+    struct gix_glob_rules_file *file = (struct gix_glob_rules_file *)gix_glob_rules_resize(rules, NULL, 0, sizeof *file);
+    if (!file)
+        return NULL;
+    memset(file, 0, sizeof *file);
+    file->size = base_len + bytes.len + 1;
+    file->place = rules->file_count;
+    if ((file->bytes = (uint8_t *)gix_glob_rules_resize(rules, NULL, 0, file->size))) {
+        memcpy(file->bytes, folder.bytes, folder.len);
+        file->bytes[folder.len] = '/';
+        memcpy(file->bytes + base_len, bytes.bytes, bytes.len);
+        file->bytes[file->size - 1] = 0;
+        if (gix_glob_rules_read_lines(rules, file, base_len))
+            return file;
+    }
+    gix_glob_rules_free_file(rules, file);
+    return NULL;
+}
+
+/* Makes room for one more file, and for so many folders. */
+static inline bool gix_glob_rules_room(struct gix_glob_rules *rules, size_t names)
+{
+    const size_t most = rules->folder_count + names;
+    void *files = gix_glob_rules_grown(rules, rules->files, rules->file_count, &rules->file_room, sizeof *rules->files), *folders;
+    rules->files = files ? (struct gix_glob_rules_file **)files : rules->files;
+    folders = gix_glob_rules_grown(rules, rules->folders, most, &rules->folder_room, sizeof *rules->folders);
+    rules->folders = folders ? (struct gix_glob_rules_folder *)folders : rules->folders;
+    return files && folders;
+}
+
+/* The files on the way to what lies in a folder, from the one that was added last on, as many as there is room for; and how many there are. */
+static inline size_t gix_glob_rules_way(const struct gix_glob_rules *rules, size_t folder, const struct gix_glob_rules_file **files, size_t room)
+{
+    size_t count = 0;
+    for (bool is_top = false; !is_top; folder = rules->folders[folder].above) {
+        const struct gix_glob_rules_file *file = rules->folders[folder].last;
+        for (; file; file = file->before, count++) {
+            size_t at = count;
+            if (count >= room)
+                continue;
+            /* (one of a folder above was added before most) */
+            for (; at > 0 && files[at - 1]->place < file->place; at--)
+                files[at] = files[at - 1];
+            files[at] = file;
+        }
+        is_top = !folder;
+    }
+    return count;
+}
+
+/* The deepest folder on the way to a path that has files or lies above some. False where a name of the path is none. */
+static inline bool gix_glob_rules_folder_of(const struct gix_glob_rules *rules, struct gix_glob_text path, size_t *folder)
+{
+    size_t below = 1;
+    *folder = 0;
+    for (size_t start = 0, end; start < path.len; start = end + 1) {
+        end = gix_glob_rules_end(path, start);
+        if (!gix_glob_rules_is_name(path, start, end))
+            return false;
+        if (below && end < path.len)
+            below = gix_glob_rules_folder_in(rules, *folder, gix_glob_text_of(path.bytes + start, end - start));
+        *folder = below && end < path.len ? below : *folder;
+    }
+    return true;
+}
+
+/* Asks some files, which stand from the last one on, by room for the list of each. */
+static inline enum gix_glob_verdict gix_glob_rules_ask(const struct gix_glob_rules *rules, const struct gix_glob_rules_file *const *files,
+                                                       struct gix_glob_list *lists, size_t count, const struct gix_glob_path *path,
+                                                       struct gix_glob_rule *rule)
+{
+    struct gix_glob_decision by = GIX_GLOB_DECISION_INIT;
+    const struct gix_glob_rules_file *file;
+    for (size_t i = 0; i < count; i++)
+        lists[i] = files[count - 1 - i]->list;
+    if (!gix_glob_decide_in_tree(gix_glob_lists_of(lists, count), path->text, path->is_dir, rules->options.fold, &by))
+        return GIX_GLOB_UNDECIDED;
+    file = files[count - 1 - by.list];
+    rule->file = file->place;
+    rule->line = file->numbers[by.pattern];
+    rule->pattern = &file->patterns[by.pattern];
+    return gix_glob_is_negative(rule->pattern) ? GIX_GLOB_KEPT : GIX_GLOB_IGNORED;
+}
+
+/* Keeps the root of options, with a slash at its end. */
+static inline bool gix_glob_rules_keep_root(struct gix_glob_rules *rules, struct gix_glob_text root)
+{
+    root = gix_glob_rules_entered(gix_glob_text_of(root.bytes, root.len));
+    rules->options.root = gix_glob_text_of(NULL, 0);
+    if (!root.len)
+        return true;
+    while (root.len && root.bytes[root.len - 1] == '/')
+        root.len--;
+    if (!(rules->root = (uint8_t *)gix_glob_rules_resize(rules, NULL, 0, root.len + 1)))
+        return false;
+    memcpy(rules->root, root.bytes, root.len);
+    rules->root[root.len] = '/';
+    rules->options.root = gix_glob_text_of(rules->root, root.len + 1);
+    return true;
 }
 
 /* ---- the calls */
@@ -197,13 +416,8 @@ static inline void gix_glob_rules_free(struct gix_glob_rules *rules)
         return;
     for (size_t i = 0; i < rules->file_count; i++)
         gix_glob_rules_free_file(rules, rules->files[i]);
-    for (size_t i = 0; i < rules->folder_count; i++) {
-        gix_glob_rules_resize(rules, rules->folders[i].lists, rules->folders[i].room * sizeof *rules->folders[i].lists, 0);
-        gix_glob_rules_resize(rules, rules->folders[i].files, rules->folders[i].file_room * sizeof *rules->folders[i].files, 0);
-    }
     gix_glob_rules_resize(rules, rules->files, rules->file_room * sizeof *rules->files, 0);
     gix_glob_rules_resize(rules, rules->folders, rules->folder_room * sizeof *rules->folders, 0);
-    gix_glob_rules_resize(rules, rules->table, rules->table_size * sizeof *rules->table, 0);
     gix_glob_rules_resize(rules, rules->root, rules->options.root.len, 0);
     last = *rules;
     gix_glob_rules_resize(&last, rules, sizeof *rules, 0);
@@ -220,18 +434,9 @@ static inline struct gix_glob_rules *gix_glob_rules_new(const struct gix_glob_ru
     seed.options = options ? *options : usual;
     if (!(rules = (struct gix_glob_rules *)gix_glob_rules_resize(&seed, NULL, 0, sizeof seed)))
         return NULL;
-    while (seed.options.root.len && seed.options.root.bytes[seed.options.root.len - 1] == '/')
-        seed.options.root.len--;
     *rules = seed;
-    rules->options.root = gix_glob_text_of(NULL, 0);
-    if (seed.options.root.len && (rules->root = (uint8_t *)gix_glob_rules_resize(rules, NULL, 0, seed.options.root.len))) {
-        memcpy(rules->root, seed.options.root.bytes, seed.options.root.len);
-        rules->options.root = gix_glob_text_of(rules->root, seed.options.root.len);
-    }
-    rules->folders = (struct gix_glob_rules_folder *)gix_glob_rules_grown(rules, NULL, 0, &rules->folder_room, sizeof *rules->folders);
-    if (rules->options.root.len == seed.options.root.len && rules->folders) {
+    if (gix_glob_rules_keep_root(rules, seed.options.root) && gix_glob_rules_room(rules, 0)) {
         memset(&rules->folders[0], 0, sizeof rules->folders[0]);
-        rules->folders[0].base = gix_glob_text_of(NULL, 0);
         rules->folder_count = 1;
         return rules;
     }
@@ -239,162 +444,39 @@ static inline struct gix_glob_rules *gix_glob_rules_new(const struct gix_glob_ru
     return NULL;
 }
 
-/* Reads all lines of a file, and prepares them. */
-static inline bool gix_glob_rules_read_lines(const struct gix_glob_rules *rules, struct gix_glob_rules_file *file, size_t base_len)
-{
-    struct gix_glob_lines lines = gix_glob_lines_of(file->bytes + base_len, file->size - 1 - base_len);
-    const struct gix_glob_pattern blank = GIX_GLOB_PATTERN_INIT;
-    for (enum gix_glob_line line = GIX_GLOB_LINE_NOTHING; line != GIX_GLOB_LINE_END; file->count += line == GIX_GLOB_LINE_PATTERN) {
-        void *patterns = gix_glob_rules_grown(rules, file->patterns, file->count, &file->room, sizeof *file->patterns);
-        void *numbers = gix_glob_rules_grown(rules, file->numbers, file->count, &file->number_room, sizeof *file->numbers);
-        file->patterns = patterns ? (struct gix_glob_pattern *)patterns : file->patterns;
-        file->numbers = numbers ? (size_t *)numbers : file->numbers;
-        if (!patterns || !numbers)
-            return false;
-        file->patterns[file->count] = blank;
-        line = rules->options.reading == GIX_GLOB_AS_CRATE ? gix_glob_parse_ignore_line(&lines, &file->patterns[file->count])
-                                                           : gix_glob_parse_ignore_line_as_git(&lines, &file->patterns[file->count]);
-        file->numbers[file->count] = lines.number;
-    }
-    if (!file->count)
-        return true;
-    file->list = gix_glob_list_of(file->patterns, file->count, gix_glob_text_of(file->bytes, base_len));
-    file->block_size = gix_glob_prepared_size(file->count);
-    if (file->block_size == GIX_GLOB_NONE || !(file->block = (uint64_t *)gix_glob_rules_resize(rules, NULL, 0, file->block_size))) {
-        file->block_size = 0;
-        return false;
-    }
-    memset(file->block, 0, file->block_size);
-    return gix_glob_prepare_list(&file->list, file->block, file->block_size);
-}
-
-/* Doubles the table of folders, where more than half of it would be taken. */
-static inline bool gix_glob_rules_widen(struct gix_glob_rules *rules)
-{
-    const size_t size = rules->table_size ? 2 * rules->table_size : 8;
-    size_t *table;
-    if (2 * rules->folder_count < rules->table_size)
-        return true;
-    if (!(table = (size_t *)gix_glob_rules_resize(rules, NULL, 0, size * sizeof *table)))
-        return false;
-    gix_glob_rules_resize(rules, rules->table, rules->table_size * sizeof *table, 0);
-    memset(table, 0, size * sizeof *table);
-    rules->table = table;
-    rules->table_size = size;
-    for (size_t i = 1; i < rules->folder_count; i++) {
-        const struct gix_glob_rules_folder *folder = &rules->folders[i];
-        table[gix_glob_rules_place(rules, folder->hash, folder->base, folder->base.len)] = i;
-    }
-    return true;
-}
-
-/* Makes room for one more list in a folder. */
-static inline bool gix_glob_rules_room(const struct gix_glob_rules *rules, struct gix_glob_rules_folder *folder)
-{
-    void *lists = gix_glob_rules_grown(rules, folder->lists, folder->count, &folder->room, sizeof *folder->lists);
-    void *files = gix_glob_rules_grown(rules, folder->files, folder->count, &folder->file_room, sizeof *folder->files);
-    folder->lists = lists ? (struct gix_glob_list *)lists : folder->lists;
-    folder->files = files ? (size_t *)files : folder->files;
-    return lists && files;
-}
-
-/* The folder of a base, which is added where there is none yet, with the lists on the way to it and room for one more. NULL, and all as it
- * was, where memory was refused. */
-static inline struct gix_glob_rules_folder *gix_glob_rules_folder_at(struct gix_glob_rules *rules, struct gix_glob_text base)
-{
-    struct gix_glob_rules_folder *above, *folder;
-    uint32_t hash = 2166136261u;
-    size_t place;
-    for (size_t i = 0; i < base.len; i++)
-        hash = gix_glob_rules_hash(rules, hash, base.bytes[i]);
-    if (!base.len)
-        return &rules->folders[0];
-    if (!gix_glob_rules_widen(rules))
-        return NULL;
-    place = gix_glob_rules_place(rules, hash, base, base.len);
-    if (rules->table[place])
-        return &rules->folders[rules->table[place]];
-    if (!(folder = (struct gix_glob_rules_folder *)gix_glob_rules_grown(rules, rules->folders, rules->folder_count, &rules->folder_room,
-                                                                        sizeof *folder)))
-        return NULL;
-    rules->folders = folder;
-    above = gix_glob_rules_folder_of(rules, base);
-    folder = &rules->folders[rules->folder_count];
-    memset(folder, 0, sizeof *folder);
-    folder->base = base;
-    folder->hash = hash;
-    while (gix_glob_rules_room(rules, folder) && folder->count < above->count) {
-        folder->lists[folder->count] = above->lists[folder->count];
-        folder->files[folder->count] = above->files[folder->count];
-        folder->count++;
-    }
-    if (folder->count == folder->room || folder->count == folder->file_room) {
-        gix_glob_rules_resize(rules, folder->lists, folder->room * sizeof *folder->lists, 0);
-        gix_glob_rules_resize(rules, folder->files, folder->file_room * sizeof *folder->files, 0);
-        return NULL;
-    }
-    rules->table[place] = rules->folder_count++;
-    rules->longest = base.len > rules->longest ? base.len : rules->longest;
-    return folder;
-}
-
-/* Puts the list of a file into its folder, and into all folders below that. */
-static inline bool gix_glob_rules_put(struct gix_glob_rules *rules, const struct gix_glob_rules_file *file)
-{
-    const struct gix_glob_text base = file->list.base;
-    for (size_t i = 0; i < rules->folder_count; i++)
-        if (gix_glob_rules_begins(rules, base, rules->folders[i].base) && !gix_glob_rules_room(rules, &rules->folders[i]))
-            return false;
-    /* (nothing is refused behind this: the base of a new folder lies in the file) */
-    if (!gix_glob_rules_folder_at(rules, base))
-        return false;
-    for (size_t i = 0; i < rules->folder_count; i++) {
-        struct gix_glob_rules_folder *folder = &rules->folders[i];
-        if (!gix_glob_rules_begins(rules, base, folder->base))
-            continue;
-        folder->lists[folder->count] = file->list;
-        folder->files[folder->count++] = rules->file_count;
-    }
-    return true;
-}
-
 /* Adds an ignore file. A later file comes after an earlier one, so files of excludes come first, then that of the top, and that of a folder
  * before those of the folders in it.
- *   folder  the folder of the file, with or without a slash at its end: below the root, or empty for the top; files of excludes have
- *           the top as theirs
+ *   folder  the folder of the file; for the top, which is that of files of excludes too, the root itself
  *   bytes   the bytes of the file, of which a copy is kept
- * Answers whether it was added. It isn't where memory was refused, or the folder lies outside of the root: all is then as it was. */
+ * Answers whether it was added. Else all is as it was, and errno tells the reason: EINVAL where the folder isn't below the root, ENOMEM where
+ * memory was refused. */
 static inline bool gix_glob_rules_add_file(struct gix_glob_rules *rules, struct gix_glob_text folder, struct gix_glob_text bytes)
 {
-    struct gix_glob_rules_file *file, **files;
-    size_t base_len;
-    if (!gix_glob_rules_below(rules, &folder) || folder.len > SIZE_MAX / 4 || bytes.len > SIZE_MAX / 4)
-        return false;
-    if (!(files = (struct gix_glob_rules_file **)gix_glob_rules_grown(rules, rules->files, rules->file_count, &rules->file_room, sizeof *files)))
-        return false;
-    rules->files = files;
-    if (!(file = (struct gix_glob_rules_file *)gix_glob_rules_resize(rules, NULL, 0, sizeof *file)))
-        return false;
-    memset(file, 0, sizeof *file);
-    base_len = folder.len + (folder.len && folder.bytes[folder.len - 1] != '/');
-    file->size = base_len + bytes.len + 1;
-    if ((file->bytes = (uint8_t *)gix_glob_rules_resize(rules, NULL, 0, file->size))) {
-        memcpy(file->bytes, folder.bytes, folder.len);
-        if (folder.len)
-            file->bytes[base_len - 1] = '/';
-        memcpy(file->bytes + base_len, bytes.bytes, bytes.len);
-        file->bytes[file->size - 1] = 0;
-        if (gix_glob_rules_read_lines(rules, file, base_len) && (!file->count || gix_glob_rules_put(rules, file))) {
-            rules->files[rules->file_count++] = file;
-            return true;
-        }
+    struct gix_glob_rules_file *file;
+    size_t names = 0;
+    bool is_clean = gix_glob_rules_below(rules, &folder);
+    for (size_t start = 0, end; is_clean && start < folder.len; start = end + 1, names++) {
+        end = gix_glob_rules_end(folder, start);
+        is_clean = gix_glob_rules_is_name(folder, start, end);
     }
-    gix_glob_rules_free_file(rules, file);
-    return false;
+    if (!is_clean) {
+        errno = EINVAL;
+        return false;
+    }
+    bytes = gix_glob_text_of(bytes.bytes, bytes.len);
+    if (folder.len > SIZE_MAX / 4 || bytes.len > SIZE_MAX / 4 || !gix_glob_rules_room(rules, names) ||
+        !(file = gix_glob_rules_file_of(rules, folder, bytes))) {
+        errno = ENOMEM;
+        return false;
+    }
+    if (file->count)
+        gix_glob_rules_put(rules, file);
+    rules->files[rules->file_count++] = file;
+    return true;
 }
 
 /* The same of a file by its name. A file that is missing, or is a directory, is added as one without lines.
- *   name  the file, as fopen takes it
+ *   name  the file, as fopen takes it: of a FIFO the end is waited for
  * Answers whether it was added. Where it can't be read it isn't, all is as it was, and errno tells the reason. */
 static inline bool gix_glob_rules_read_file(struct gix_glob_rules *rules, struct gix_glob_text folder, const char *name)
 {
@@ -408,6 +490,8 @@ static inline bool gix_glob_rules_read_file(struct gix_glob_rules *rules, struct
         count = fread(bytes + len, 1, room - len, file);
         len += count;
     }
+    if (file && count)
+        errno = ENOMEM;
     if (file)
         is_read = !count && (!ferror(file) || errno == EISDIR);
     is_added = is_read && gix_glob_rules_add_file(rules, folder, gix_glob_text_of(bytes, len));
@@ -420,29 +504,36 @@ static inline bool gix_glob_rules_read_file(struct gix_glob_rules *rules, struct
 }
 
 /* What the rules say of a path: as gix_glob_decide_in_tree answers for the lists of all files.
- *   path    below the root: what lies outside isn't decided
- *   is_dir  whether it is a directory's
- *   rule    receives the line that decides; may be NULL */
+ *   path    what is asked about. That of the root isn't decided about
+ *   is_dir  whether it is a directory's, as it is in any case with a slash at its end
+ *   rule    receives the line that decides; may be NULL
+ * Memory is taken where more than GIX_GLOB_RULES_FEW files with patterns lie on the way, and given back. */
 static inline enum gix_glob_verdict gix_glob_rules_decide(const struct gix_glob_rules *rules, struct gix_glob_text path, bool is_dir,
                                                           struct gix_glob_rule *rule)
 {
-    struct gix_glob_decision by = GIX_GLOB_DECISION_INIT;
-    const struct gix_glob_rules_folder *folder;
-    const struct gix_glob_rules_file *file;
-    if (rule)
-        rule->pattern = NULL;
-    if (rules->options.root.len && !gix_glob_rules_below(rules, &path))
+    struct gix_glob_list few_lists[GIX_GLOB_RULES_FEW], *lists = few_lists;
+    const struct gix_glob_rules_file *few_files[GIX_GLOB_RULES_FEW], **files = few_files;
+    struct gix_glob_rule unasked = GIX_GLOB_RULE_INIT;
+    struct gix_glob_path asked;
+    enum gix_glob_verdict verdict = GIX_GLOB_NO_MEMORY;
+    size_t folder, count;
+    rule = rule ? rule : &unasked;
+    rule->pattern = NULL;
+    asked.is_dir = is_dir || (path.len && path.bytes[path.len - 1] == '/');
+    if (!gix_glob_rules_below(rules, &path) || !gix_glob_rules_folder_of(rules, path, &folder))
         return GIX_GLOB_UNDECIDED;
-    folder = rules->longest ? gix_glob_rules_folder_of(rules, path) : &rules->folders[0];
-    if (!gix_glob_decide_in_tree(gix_glob_lists_of(folder->lists, folder->count), path, is_dir, rules->options.fold, &by))
-        return GIX_GLOB_UNDECIDED;
-    file = rules->files[folder->files[by.list]];
-    if (rule) {
-        rule->file = folder->files[by.list];
-        rule->line = file->numbers[by.pattern];
-        rule->pattern = &file->patterns[by.pattern];
+    asked.text = path;
+    if ((count = gix_glob_rules_way(rules, folder, files, GIX_GLOB_RULES_FEW)) <= GIX_GLOB_RULES_FEW)
+        return gix_glob_rules_ask(rules, files, lists, count, &asked, rule);
+    lists = (struct gix_glob_list *)gix_glob_rules_resize(rules, NULL, 0, count * sizeof *lists);
+    files = (const struct gix_glob_rules_file **)gix_glob_rules_resize(rules, NULL, 0, count * sizeof *files);
+    if (lists && files) {
+        gix_glob_rules_way(rules, folder, files, count);
+        verdict = gix_glob_rules_ask(rules, files, lists, count, &asked, rule);
     }
-    return gix_glob_is_negative(&file->patterns[by.pattern]) ? GIX_GLOB_KEPT : GIX_GLOB_IGNORED;
+    gix_glob_rules_resize(rules, lists, count * sizeof *lists, 0);
+    gix_glob_rules_resize(rules, files, count * sizeof *files, 0);
+    return verdict;
 }
 
 /* The smallest case: what the bytes of one ignore file, at the top, say of a path. It reads them anew each time. */
