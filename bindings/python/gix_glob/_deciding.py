@@ -7,6 +7,9 @@ from typing import Dict, List, NamedTuple, Optional, Sequence
 
 from ._library import Lists, Rules
 
+#: How many lists are kept for questions to come, as a multiple of the files.
+LISTS_KEPT = 64
+
 
 class Found(NamedTuple):
     """A pattern that decides: the place of its file among all, and its own place in the file."""
@@ -25,13 +28,11 @@ class _Way(NamedTuple):
 class _Folder:
     """A folder on the way to files: those that lie in it, by their places, and the folders in it that lead to others."""
 
-    __slots__ = ("below", "places", "way")
+    __slots__ = ("below", "places")
 
     def __init__(self) -> None:
         self.below: Dict[bytes, _Folder] = {}
         self.places: List[int] = []
-        #: what is asked about all that lies here, once that was asked
-        self.way: Optional[_Way] = None
 
 
 class Files:
@@ -41,6 +42,9 @@ class Files:
         self._rules = rules
         #: how many patterns the files before each have
         self.starts = [0, *accumulate(len(it.numbers) for it in rules)]
+        #: what is asked about all that lies in a folder, once that was asked
+        self._ways: Dict[_Folder, _Way] = {}
+        self._lists_kept = 0
         self._top = _Folder()
         for place, it in enumerate(rules):
             folder = self._top
@@ -51,13 +55,10 @@ class Files:
 
     def _way(self, path: bytes) -> _Way:
         """The files that may speak of a path."""
-        folder = self._top
-        if folder.below:
-            return self._way_down(path)
-        return folder.way or self._made([folder])
-
-    def _way_down(self, path: bytes) -> _Way:
-        folders, begin, end = [self._top], 0, path.find(b"/")
+        top = self._top
+        if not top.below:
+            return self._ways.get(top) or self._made([top])
+        folders, begin, end = [top], 0, path.find(b"/")
         while end >= 0:
             below = folders[-1].below.get(path[begin:end].lower())
             if below is None:
@@ -66,11 +67,17 @@ class Files:
             begin, end = end + 1, path.find(b"/", end + 1)
         while not folders[-1].places and len(folders) > 1:
             folders.pop()
-        return folders[-1].way or self._made(folders)
+        return self._ways.get(folders[-1]) or self._made(folders)
 
     def _made(self, folders: Sequence[_Folder]) -> _Way:
         places = sorted(place for folder in folders for place in folder.places)
-        folders[-1].way = way = _Way(places, Lists([self._rules[place] for place in places]))
+        way = _Way(places, Lists([self._rules[place] for place in places]))
+        # (many files above many folders would take memory for each pair)
+        self._lists_kept += len(places)
+        if self._lists_kept > LISTS_KEPT * len(self._rules):
+            self._ways.clear()
+            self._lists_kept = len(places)
+        self._ways[folders[-1]] = way
         return way
 
     def last_match(self, path: bytes, is_dir: bool, fold: bool) -> Optional[Found]:

@@ -182,9 +182,8 @@ class Matching:
     ) -> Iterator[AnyStr]:
         """The paths of the files below a folder that are ignored, without those of folders; all else is as
         `match_tree_entries` has it."""
-        files = (entry for entry in walk(root, on_error, follow_links) if not entry.is_dir())
-        found = self.match_entries(files, (), ignore_case=ignore_case, negate=negate)
-        return (entry.path for entry in found)
+        files = (entry.path for entry in walk(root, on_error, follow_links) if not entry.is_dir())
+        return self.match_files(files, ignore_case=ignore_case, negate=negate)
 
     def check_file(self, path: _P, separators: Separators = None, *, ignore_case: bool = False) -> CheckResult[_P]:
         """Whether a path of a tree is ignored, and by which of the `patterns`.

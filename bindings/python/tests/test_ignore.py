@@ -10,7 +10,7 @@ import tempfile
 import tracemalloc
 import unittest
 
-from gix_glob import IgnoreFile, IgnoreList, Pattern, Reading
+from gix_glob import IgnoreFile, IgnoreList, Pattern, Reading, _deciding
 
 
 def place(decision):
@@ -192,11 +192,16 @@ class Deciding(unittest.TestCase):
                 tracemalloc.stop()
 
     def test_files_one_below_the_other(self):
-        bases = ["d/" * depth for depth in range(1000)]
+        bases = ["d/" * depth for depth in range(200)]
         rules = IgnoreList([IgnoreFile.from_text("x%d" % (at % 7), base, str(at)) for at, base in enumerate(bases)])
-        self.assertEqual(rules.decide_in_tree("d/" * 500 + "x1").file.name, "498")
+        self.assertEqual(rules.decide_in_tree("d/" * 100 + "x1").file.name, "99")
         self.assertEqual(rules.decide("D/" * 20 + "x3", ignore_case=True).file.name, "17")
         self.assertIsNone(rules.decide("D/" * 20 + "x3"))
+        # (each folder has as many files above it as it is deep, and a few of them are kept)
+        for depth in range(1, 200):
+            self.assertEqual(rules.decide_in_tree("d/" * depth + "x%d" % (depth % 7)).file.name, str(depth))
+        kept = sum(len(way.places) for way in rules._by_folder._ways.values())
+        self.assertLessEqual(kept, _deciding.LISTS_KEPT * len(bases))
 
 
 class Constructors(unittest.TestCase):
