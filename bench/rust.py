@@ -15,8 +15,8 @@ from matcher import HERE, LIBRARY, once, rustc
 
 # what is counted: how a driver calls it, and the loads of matcher.py
 LOADS = (("match", "ignore"), ("match", "ignore_fold"), ("match", "plain"), ("decide", "lines"), ("decide", "lines_fold"))
-# what is asked of a list of 1,000 patterns: by its index, and about each folder on the way
-QUESTIONS = ("index", "tree")
+# what is asked of a prepared list of 1,000 patterns, from C and from Rust: by itself, and about each folder on the way
+QUESTIONS = {"index": ("c_index", "rust_index"), "tree": ("c_prepared_tree", "rust_tree")}
 OF_LIST = ("c_in_turn", "c_in_turn_as_git", "c_index", "c_index_as_git")
 SIZES = (10, 100, 1000, 10000)
 MOST = 1.05
@@ -66,8 +66,8 @@ def main():
     with tempfile.TemporaryDirectory() as folder:
         make(folder, 1000)
         nothing = counted(f"{out}/lists", "nothing", folder)
-        for what in QUESTIONS:
-            missed += compared(what, nothing, *(counted(f"{out}/lists", f"{by}_{what}", folder) for by in ("c", "rust")))
+        for what, asked in QUESTIONS.items():
+            missed += compared(what, nothing, *(counted(f"{out}/lists", by, folder) for by in asked))
         print("\n| Patterns | In turn | As Git reads | Prepared | As Git reads | Preparing a pattern |\n|---|---|---|---|---|---|")
         for size in SIZES:
             make(folder, size)

@@ -27,6 +27,7 @@ HERE = os.path.dirname(os.path.abspath(__file__))
 PACKAGE = "gix_glob"
 LIBRARY = "libgix_glob_c.so.0"
 LICENCES = ("LICENSE-APACHE", "LICENSE-MIT")
+AUTHOR = "Girvuzhan maintainers <maintainers@users.noreply.girvuzhan.example>"
 #: One date, so that the same files make the same archive: the first one that a zip file can tell.
 DATE = (1980, 1, 1, 0, 0, 0)
 SECONDS = 315532800
@@ -101,6 +102,7 @@ def _metadata() -> bytes:
         ("Version", _project("version")),
         ("Summary", _project("description")),
         ("Keywords", ",".join(_project("keywords"))),
+        ("Author-email", AUTHOR),
         ("License", "MIT OR Apache-2.0"),
         *(("Classifier", classifier) for classifier in _project("classifiers")),
         ("Requires-Python", _project("requires-python")),

@@ -8,7 +8,8 @@ import sys
 import rows
 from gix_glob import IgnoreFile, IgnoreList, Mode, Pattern, Reading, wildmatch
 
-READING = Reading.GIT if sys.argv[1:] == ["as-git"] else Reading.CRATE
+CRATE = Reading.CRATE
+READING = Reading.GIT if sys.argv[1:] == ["as-git"] else CRATE
 MODES = {
     b"plain": Mode(0),
     b"path": Mode.NO_MATCH_SLASH_LITERAL,
@@ -23,12 +24,12 @@ def agreed(found, *others):
 
 def matching(mode, pattern, value):
     # (a line takes a slash off each end)
-    line = Pattern(b"/" + pattern + b"/")
+    line = Pattern(b"/" + pattern + b"/", CRATE)
     return agreed(rows.told(wildmatch(pattern, value, MODES[mode])), rows.told(line.matches(value, MODES[mode])))
 
 
 def values(mode, line, value):
-    pattern = Pattern(line)
+    pattern = Pattern(line, CRATE)
     return agreed(rows.told(pattern.matches(value, MODES[mode])), rows.told(wildmatch(pattern.text, value, MODES[mode])))
 
 
@@ -36,7 +37,7 @@ def reading(how, line):
     if how != b"line":
         return ()
     try:
-        return parts(Pattern(line))
+        return parts(Pattern(line, CRATE))
     except ValueError:
         return [None, None, None]
 
@@ -52,7 +53,7 @@ def parts(pattern):
 
 def repository_paths(case, mode, line, path, place, kind):
     # (patterns always match as `path` does)
-    return matches(Reading.CRATE, b"fold" in (case, mode[-4:]), line, path, place, kind) if mode in (b"path", b"path+fold") else ()
+    return matches(CRATE, b"fold" in (case, mode[-4:]), line, path, place, kind) if mode in (b"path", b"path+fold") else ()
 
 
 def git_paths(case, line, path, place, kind):
@@ -79,7 +80,7 @@ def shown(file):
 
 
 def ignore_files(text):
-    return patterns_of(text, Reading.CRATE)
+    return patterns_of(text, CRATE)
 
 
 def git_files(text):
@@ -137,4 +138,4 @@ def trees_told(case, _there, path, *fields):
 
 OF_GIT = (git_reading, git_paths, git_files)
 OTHERS = (matching, values, reading, repository_paths, ignore_files, decided, trees, trees_told, *OF_GIT)
-rows.answer({it.__name__: it for it in ((trees,) if READING is Reading.GIT else OTHERS)})
+rows.answer({it.__name__: it for it in ((trees,) if READING is not CRATE else OTHERS)})

@@ -9,56 +9,44 @@ from __future__ import annotations
 import os
 import stat
 import sys
-from typing import Dict, List, Optional
+from typing import List, Optional
 
-from gix_glob import IgnoreFile, IgnoreList, Reading
+from gix_glob import IgnoreFile, IgnoreList
 
 
 def read(path: bytes, base: bytes = b"") -> Optional[IgnoreFile]:
     """The ignore file at a path, as that of a folder; None where there is none."""
     try:
-        return IgnoreFile.from_file(path, base, Reading.GIT)
+        return IgnoreFile.from_file(path, base)
     except (FileNotFoundError, NotADirectoryError, IsADirectoryError):
         return None
 
 
-class WorkTree:
-    """The rules of a work tree, whose files are read as paths need them."""
-
-    def __init__(self) -> None:
-        self._fronts = [it for it in (read(b".git/info/exclude"), read(b".gitignore")) if it is not None]
-        self._of_folder: Dict[bytes, Optional[IgnoreFile]] = {}
-
-    def _rules(self, path: bytes) -> IgnoreList:
-        """The files on the way to a path, from the top down; none of a folder below an ignored one."""
-        files: List[IgnoreFile] = list(self._fronts)
-        end = path.find(b"/")
-        while end >= 0:
-            folder = path[:end]
-            if IgnoreList(files).match_file(folder, is_dir=True):
-                break
-            if folder not in self._of_folder:
-                self._of_folder[folder] = read(folder + b"/.gitignore", folder)
-            file = self._of_folder[folder]
-            if file is not None:
-                files.append(file)
-            end = path.find(b"/", end + 1)
-        return IgnoreList(files)
-
-    def ignores(self, path: bytes) -> bool:
-        """Whether a path is ignored; what stands there tells whether it is a directory's."""
-        try:
-            is_dir = path.endswith(b"/") or stat.S_ISDIR(os.lstat(path).st_mode)
-        except OSError:
-            is_dir = False
-        text = path.rstrip(b"/")
-        return self._rules(text).match_file(text, is_dir=is_dir)
+def rules_for(paths: List[bytes]) -> IgnoreList:
+    """The ignore files on the way to some paths. None is looked for in a folder that is ignored, which those of the folders above it
+    tell."""
+    rules = IgnoreList(it for it in (read(b".git/info/exclude"), read(b".gitignore")) if it is not None)
+    ways = [path.split(b"/") for path in paths]
+    for depth in range(1, max(map(len, ways), default=0)):
+        folders = sorted({b"/".join(way[:depth]) for way in ways if len(way) > depth})
+        found = (read(it + b"/.gitignore", it) for it in folders if not rules.match_file(it, is_dir=True))
+        rules = IgnoreList([*rules.files, *(it for it in found if it is not None)])
+    return rules
 
 
-def main(paths: List[bytes]) -> int:
-    tree = WorkTree()
-    found = [path for path in paths if tree.ignores(path)]
-    sys.stdout.buffer.write(b"".join(path + b"\n" for path in found))
+def is_folder(path: bytes) -> bool:
+    """Whether a path is a folder's, by its slash or by what stands there."""
+    try:
+        return path.endswith(b"/") or stat.S_ISDIR(os.lstat(path).st_mode)
+    except OSError:
+        return False
+
+
+def main(words: List[bytes]) -> int:
+    paths = [word.rstrip(b"/") for word in words]
+    rules = rules_for(paths)
+    found = [word for word, path in zip(words, paths) if rules.match_file(path, is_dir=is_folder(word))]
+    sys.stdout.buffer.write(b"".join(word + b"\n" for word in found))
     return 0 if found else 1
 
 

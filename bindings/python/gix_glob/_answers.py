@@ -10,7 +10,7 @@ from __future__ import annotations
 import ctypes
 from typing import Any, Callable, List, NamedTuple, Optional, Sequence, Tuple
 
-from ._calls import AS_CRATE, AS_GIT, END, NONE, NOTHING, PATTERN, VERSION, Asked, Lines, Parts, Rules, blank
+from ._calls import AS_CRATE, AS_GIT, END, NONE, NOTHING, PATTERN, VERSION, Lines, ListParts, Parts, Place, blank
 
 #: The bytes behind what a call writes to.
 _MARK = b"\xa5" * 256
@@ -27,6 +27,15 @@ _PATHS = (
     (b"x/build", True, True, 2),
     (b"x/build", False, True, NONE),
     (b"k/a/x/b", False, True, NONE),
+)
+#: Paths, whether each is a directory's, and the places of the list and of the pattern that decide, of the file's patterns at the top and
+#: once more in the folder `k`.
+_IN_TREE = (
+    (b"x/a.log", False, (0, 0)),
+    (b"k/a.log", False, (1, 0)),
+    (b"k/ax/b", False, (0, 1)),
+    (b"k/build/a.log", False, (1, 2)),
+    (b"k/a/x/b", False, (NONE, NONE)),
 )
 
 
@@ -165,7 +174,7 @@ class _Prepared:
         self.rows, self.heads = _Room(ctypes.c_uint64 * (2 * count)), _Room(ctypes.c_uint64 * 256)
         told = ctypes.addressof(self._kept[1]), count
         self.has_room = [c.gix_glob_prepare(*told, self.rows.address, rows, self.heads.address) for rows in (count - 1, count)]
-        self.index = Rules(*told, self._kept[2].address, 0, self.rows.address, count, self.heads.address, 1)
+        self.index = ListParts(*told, self._kept[2].address, 0, self.rows.address, count, self.heads.address, 1)
 
 
 def _prepared_size(c: Any) -> bool:
@@ -189,14 +198,18 @@ def _last_match(c: Any) -> bool:
     return found == [told for _, _, _, told in _PATHS]
 
 
-def _last_matches(c: Any) -> bool:
-    prepared = _Prepared(c)
-    rows = [(_Text(path), is_dir, told) for path, is_dir, counts, told in _PATHS if counts]
-    asked = (Asked * len(rows))(*(Asked(path.address, path.length, is_dir) for path, is_dir, _ in rows))
-    places = _Room(ctypes.c_size_t * len(rows))
-    told = ctypes.byref(prepared.index), ctypes.addressof(asked), len(rows), places.address
-    has_room = [c.gix_glob_last_matches(*told, count, False) for count in (len(rows) - 1, len(rows))]
-    return has_room == [False, True] and list(places.it) == [told for _, _, told in rows] and places.is_kept()
+def _decide_in_tree(c: Any) -> bool:
+    # (two lists, the second one in a folder)
+    prepared, base, room = _Prepared(c), _Text(b"k/"), _Room(Place)
+    lists = (ListParts * 2)(prepared.index, prepared.index)
+    lists[1].base, lists[1].base_len = base.address, base.length
+    for path, is_dir, found in _IN_TREE:
+        room.it.list = room.it.pattern = NONE
+        told = path, len(path), is_dir, False, ctypes.byref(room.it)
+        decides = c.gix_glob_decide_in_tree(ctypes.addressof(lists), 2, *told)
+        if decides is not (found[0] != NONE) or (room.it.list, room.it.pattern) != found or not room.is_kept():
+            return False
+    return True
 
 
 #: The calls, each with what it is asked; one that takes what another one writes comes behind that one.
@@ -213,7 +226,7 @@ QUESTIONS: Sequence[Tuple[str, Callable[[Any], bool]]] = (
     ("gix_glob_rows_at", _rows_at),
     ("gix_glob_prepare", _prepare),
     ("gix_glob_last_match", _last_match),
-    ("gix_glob_last_matches", _last_matches),
+    ("gix_glob_decide_in_tree", _decide_in_tree),
 )
 
 

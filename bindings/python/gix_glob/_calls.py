@@ -33,7 +33,7 @@ class Parts(ctypes.Structure):
     ]
 
 
-class Rules(ctypes.Structure):
+class ListParts(ctypes.Structure):
     """struct gix_glob_list: patterns, their folder, and what was prepared for them."""
 
     _fields_ = [
@@ -48,10 +48,10 @@ class Rules(ctypes.Structure):
     ]
 
 
-class Asked(ctypes.Structure):
-    """struct gix_glob_path: a path that is asked about, in three words."""
+class Place(ctypes.Structure):
+    """struct gix_glob_decision: the index of a list, and that of a pattern in it."""
 
-    _fields_ = [("text", ctypes.c_void_p), ("text_len", ctypes.c_size_t), ("is_dir", ctypes.c_bool)]
+    _fields_ = [("list", ctypes.c_size_t), ("pattern", ctypes.c_size_t)]
 
 
 class Lines(ctypes.Structure):
@@ -86,18 +86,26 @@ CALLS = {
         ctypes.c_bool,
     ),
     "gix_glob_last_match": (
-        [ctypes.POINTER(Rules), ctypes.c_char_p, ctypes.c_size_t, ctypes.c_bool, ctypes.c_bool],
+        [ctypes.POINTER(ListParts), ctypes.c_char_p, ctypes.c_size_t, ctypes.c_bool, ctypes.c_bool],
         ctypes.c_size_t,
     ),
-    "gix_glob_last_matches": (
-        [ctypes.POINTER(Rules), ctypes.c_void_p, ctypes.c_size_t, ctypes.c_void_p, ctypes.c_size_t, ctypes.c_bool],
+    "gix_glob_decide_in_tree": (
+        [
+            ctypes.c_void_p,
+            ctypes.c_size_t,
+            ctypes.c_char_p,
+            ctypes.c_size_t,
+            ctypes.c_bool,
+            ctypes.c_bool,
+            ctypes.POINTER(Place),
+        ],
         ctypes.c_bool,
     ),
 }
 
 #: The header's other calls: a library of this version has them, too.
 OTHERS = (
-    "gix_glob_decide_in_tree",
+    "gix_glob_last_matches",
     "gix_glob_parse_attribute_line",
     "gix_glob_parse_attribute_line_as_git",
     "gix_glob_attribute_of",
@@ -113,8 +121,9 @@ def blank() -> Parts:
     return Parts(ctypes.addressof(_EMPTY), 0, NONE, 0, AS_CRATE)
 
 
-def prepared(library: Any, patterns: int, count: int) -> Tuple[Rules, Any]:
-    """gix_glob_list_of and gix_glob_prepare_list: so many patterns at an address as a list of the top, and the block in which it is prepared.
+def prepared(library: Any, patterns: int, count: int, base: int, base_len: int) -> Tuple[ListParts, Any]:
+    """gix_glob_list_of and gix_glob_prepare_list: so many patterns at an address as a list, whose base lies at another one, and the block in
+    which it is prepared.
 
     Raises:
         OverflowError: there are 2^32 patterns or more.
@@ -127,4 +136,4 @@ def prepared(library: Any, patterns: int, count: int) -> Tuple[Rules, Any]:
     rows = heads + library.gix_glob_rows_at()
     if not library.gix_glob_prepare(patterns, count, rows, count, heads):
         raise OverflowError("the library didn't prepare as many patterns as it said")
-    return Rules(patterns, count, ctypes.addressof(_EMPTY), 0, rows, count, heads, 1), block
+    return ListParts(patterns, count, base, base_len, rows, count, heads, 1), block

@@ -6,7 +6,8 @@ import os
 from typing import Any, Iterable, Iterator, Optional, Sequence, Tuple
 
 from . import _library
-from ._deciding import Bases, Found
+from ._deciding import Files, Found
+from ._decision import Decision
 from ._matching import Matching
 from ._pattern import Pattern
 from ._reading import Reading, checked
@@ -22,12 +23,11 @@ class _Ignoring(Matching):
         """The files, in order."""
         raise NotImplementedError
 
-    def _index(self, found: Found) -> int:
-        # (of a file that is there twice, the last place decides)
-        files = list(self._listed())
-        while files.pop() is not found.file:
-            pass
-        return sum(map(len, files)) + found.at
+    def _told(self, found: Optional[Found]) -> Optional[Decision]:
+        if found is None:
+            return None
+        file = self._listed()[found.file]
+        return Decision(file, file._rules.numbers[found.at], Pattern._of(file._rules.line(found.at)))
 
     @property
     def patterns(self) -> Sequence[Pattern]:
@@ -40,23 +40,23 @@ class _Ignoring(Matching):
 
     def __len__(self) -> int:
         """The number of patterns."""
-        return sum(len(file._rules.numbers) for file in self._listed())
+        return self._by_folder.starts[-1]
 
     def __bool__(self) -> bool:
         return True
 
-    def _told(self) -> Sequence[Tuple[bytes, Pattern]]:
-        return tuple((file._base, pattern) for file in self._listed() for _, pattern in file)
+    def _lines(self) -> Sequence[Tuple[bytes, Pattern]]:
+        return tuple((file.base, pattern) for file in self._listed() for _, pattern in file)
 
     def __eq__(self, other: object) -> bool:
         """Whether the same patterns, of the same folders and readings, stand in the same order, so that both decide alike. Names,
         numbers of lines and comments don't count, and neither does it into which files the patterns are put."""
         if not isinstance(other, _Ignoring):
             return NotImplemented
-        return self is other or (len(self) == len(other) and self._told() == other._told())
+        return self is other or (len(self) == len(other) and self._lines() == other._lines())
 
     def __hash__(self) -> int:
-        return hash(self._told())
+        return hash(self._lines())
 
     def __add__(self, other: "_Ignoring") -> "IgnoreList":
         """The files of both in one list, in which those of the other decide over these.
@@ -92,8 +92,7 @@ class IgnoreFile(_Ignoring):
     `from_file`. Each takes the folder `base`, and the `reading` of its lines.
     """
 
-    __slots__ = ("_base", "_name", "_reading", "_rules", "__weakref__")
-    _base: bytes
+    __slots__ = ("_name", "_reading", "_rules", "__weakref__")
     _name: Optional[Path]
     _reading: Reading
     _rules: _library.Rules
@@ -106,7 +105,7 @@ class IgnoreFile(_Ignoring):
 
     @classmethod
     def from_text(
-        cls, text: Text, base: Path = "", name: Optional[Path] = None, reading: Reading = Reading.CRATE
+        cls, text: Text, base: Path = "", name: Optional[Path] = None, reading: Reading = Reading.GIT
     ) -> "IgnoreFile":
         r"""The file that holds a text.
 
@@ -125,16 +124,19 @@ class IgnoreFile(_Ignoring):
             UnicodeEncodeError: a `str` is one that `os.fsencode` doesn't encode.
         """
         hint = "; IgnoreFile.from_file(path) reads the file at a path, IgnoreFile.from_lines(lines) lines"
+        for word, it in (("base", base), ("name", name)):
+            if isinstance(it, Reading):
+                raise TypeError(f"the {word} is to be a path, and is {it}: a reading is given by its name, reading={it}")
         file = cls.__new__(cls)
-        file._base = folder(base)
         file._name = name
         file._reading = checked(reading)
-        file._rules = _library.Rules(encoded(text, "the file's text", hint), reading)
+        file._rules = _library.Rules(encoded(text, "the file's text", hint), reading, folder(base))
+        file._by_folder = Files((file._rules,))
         return file
 
     @classmethod
     def from_lines(
-        cls, lines: Iterable[Text], base: Path = "", name: Optional[Path] = None, reading: Reading = Reading.CRATE
+        cls, lines: Iterable[Text], base: Path = "", name: Optional[Path] = None, reading: Reading = Reading.GIT
     ) -> "IgnoreFile":
         r"""The file of some lines, each with its line feed or without, as `str.splitlines` and an open file give them.
 
@@ -160,7 +162,7 @@ class IgnoreFile(_Ignoring):
         return cls.from_text(b"".join(texts), base, name, reading)
 
     @classmethod
-    def from_file(cls, path: Path, base: Path = "", reading: Reading = Reading.CRATE) -> "IgnoreFile":
+    def from_file(cls, path: Path, base: Path = "", reading: Reading = Reading.GIT) -> "IgnoreFile":
         """The file at a path, which is read whole; its name is the path.
 
         Raises:
@@ -187,7 +189,7 @@ class IgnoreFile(_Ignoring):
     @property
     def base(self) -> bytes:
         """The folder that the file lies in, with a slash at its end; empty for the top."""
-        return self._base
+        return self._rules.base
 
     @property
     def name(self) -> Optional[Path]:
@@ -202,9 +204,6 @@ class IgnoreFile(_Ignoring):
     def _listed(self) -> Sequence["IgnoreFile"]:
         return (self,)
 
-    def _bases(self, ignore_case: bool) -> Bases:
-        return Bases((self,), ignore_case)
-
     def __iter__(self) -> Iterator[Tuple[int, Pattern]]:
         """Each pattern with the number of its line."""
         rules = self._rules
@@ -212,10 +211,10 @@ class IgnoreFile(_Ignoring):
 
     def __repr__(self) -> str:
         name = "" if self._name is None else f" {self._name!r}"
-        return f"<IgnoreFile{name} of {len(self)} patterns, base {self._base!r}>"
+        return f"<IgnoreFile{name} of {len(self)} patterns, base {self.base!r}>"
 
     def __reduce__(self) -> Tuple[Any, ...]:
-        return type(self).from_text, (self._rules.text, self._base, self._name, self._reading)
+        return type(self).from_text, (self._rules.text, self.base, self._name, self._reading)
 
 
 class IgnoreList(_Ignoring):
@@ -233,21 +232,19 @@ class IgnoreList(_Ignoring):
     'web/.gitignore'
     """
 
-    __slots__ = ("_files", "_in_case", "_folded", "__weakref__")
+    __slots__ = ("_files", "__weakref__")
 
     def __init__(self, files: Iterable[IgnoreFile]) -> None:
         self._files: Sequence[IgnoreFile] = tuple(files)
         for file in self._files:
             if not isinstance(file, IgnoreFile):
                 raise TypeError(f"the files are to be IgnoreFiles, and no {type(file).__name__}")
-        self._in_case = Bases(self._files, False)
-        self._folded = Bases(self._files, True)
+        if len({file.reading for file in self._files}) > 1:
+            raise ValueError("the files of a list are to be of one reading, and some are Reading.GIT, others Reading.CRATE")
+        self._by_folder = Files([file._rules for file in self._files])
 
     def _listed(self) -> Sequence[IgnoreFile]:
         return self._files
-
-    def _bases(self, ignore_case: bool) -> Bases:
-        return self._folded if ignore_case else self._in_case
 
     @property
     def files(self) -> Sequence[IgnoreFile]:

@@ -3,11 +3,11 @@
 from __future__ import annotations
 
 import os
-from typing import AnyStr, Iterable, Iterator, Optional, Protocol, Sequence, Tuple, TypeVar, Union
+from typing import AnyStr, Iterable, Iterator, Optional, Protocol, TypeVar, Union
 
-from ._deciding import Asked, Bases, Found, Tree, decided, last_match
+from ._deciding import Files, Found
 from ._decision import CheckResult, Decision
-from ._texts import Path, Separators, plain, separators_of, split
+from ._texts import Path, Separators, bare, separators_of, split
 from ._walking import OnError, TreeEntry, walk
 
 
@@ -32,20 +32,14 @@ def _several(items: Iterable[_P]) -> Iterator[_P]:
     return iter(items)
 
 
-def _is_ignored(found: Optional[Found]) -> bool:
-    return found is not None and found.is_ignored
-
-
 class Matching:
     """The calls that ask about paths, for one file and for several."""
 
-    __slots__ = ()
+    __slots__ = ("_by_folder",)
+    _by_folder: Files
 
-    def _bases(self, ignore_case: bool) -> Bases:
-        raise NotImplementedError
-
-    def _index(self, found: Found) -> int:
-        """The place of a pattern among those of all files."""
+    def _told(self, found: Optional[Found]) -> Optional[Decision]:
+        """The line of a pattern."""
         raise NotImplementedError
 
     def decide(self, path: Path, is_dir: bool = False, *, ignore_case: bool = False) -> Optional[Decision]:
@@ -68,9 +62,7 @@ class Matching:
             UnicodeEncodeError: it is a `str` that `os.fsencode` doesn't encode. This is a ValueError, too.
         """
         text, has_slash = split(path)
-        bases = self._bases(ignore_case)
-        found = last_match(bases.files_above(text), text, bool(is_dir or has_slash), bases.fold)
-        return found.told() if found else None
+        return self._told(self._by_folder.last_match(text, bool(is_dir or has_slash), bool(ignore_case)))
 
     def decide_in_tree(self, path: Path, is_dir: bool = False, *, ignore_case: bool = False) -> Optional[Decision]:
         """The line that decides about a path of a tree, as `git check-ignore` tells: that of the topmost folder above the path
@@ -84,8 +76,7 @@ class Matching:
         Its arguments and errors are those of `decide`.
         """
         text, has_slash = split(path)
-        found = self._in_tree((text, bool(is_dir or has_slash)), ignore_case)
-        return found.told() if found else None
+        return self._told(self._by_folder.decide(text, bool(is_dir or has_slash), bool(ignore_case)))
 
     def match_file(
         self, path: Path, is_dir: bool = False, *, separators: Separators = None, ignore_case: bool = False
@@ -98,10 +89,10 @@ class Matching:
 
         Its arguments and errors are those of `decide`; `separators` are those of `match_files`.
         """
-        if isinstance(is_dir, (str, bytes, list, tuple, set, frozenset)):
+        if type(is_dir) is not bool and isinstance(is_dir, (str, bytes, list, tuple, set, frozenset)):
             raise TypeError("is_dir is to be a bool; separators are given by their name")
         text, has_slash = split(path, separators_of(separators))
-        return _is_ignored(self._in_tree((text, bool(is_dir or has_slash)), ignore_case))
+        return self._by_folder.ignores(text, bool(is_dir or has_slash), bool(ignore_case))
 
     def match_files(
         self,
@@ -114,8 +105,7 @@ class Matching:
         """The paths that are ignored, of many paths of a tree, in their order; each as `match_file` answers.
 
         A path that ends in a slash is a directory's, any other one a file's. No pattern matches a path that is empty, begins with
-        a slash, or has two in a row. Some thousand paths are taken at a time, and the folders above them are decided about once,
-        so this is the call for many paths.
+        a slash, or has two in a row.
 
         >>> from gix_glob import IgnoreFile
         >>> rules = IgnoreFile.from_lines(["*.log", "!keep.log", "build/"])
@@ -134,8 +124,9 @@ class Matching:
             TypeError: `paths` is one path, or no iterable; behind the paths before it, where one is no path.
             UnicodeEncodeError: behind the paths before it, where one is a `str` that `os.fsencode` doesn't encode.
         """
-        found = self._all(_several(paths), separators, ignore_case)
-        return (path for path, it in found if _is_ignored(it) is not bool(negate))
+        others, fold, kept, ignores = separators_of(separators), bool(ignore_case), bool(negate), self._by_folder.ignores
+
+        return (path for path in _several(paths) if ignores(*bare(path, others), fold) is not kept)
 
     def match_entries(
         self,
@@ -147,20 +138,19 @@ class Matching:
     ) -> Iterator[_E]:
         """The entries that are ignored, of many, as `match_files` tells of their paths. An entry that says by `is_dir()` that it
         is a directory is asked about as one. Arguments and errors are those of `match_files`."""
-        others = separators_of(separators)
+        others, fold, kept, ignores = separators_of(separators), bool(ignore_case), bool(negate), self._by_folder.ignores
 
-        def asked(entry: _E) -> Asked:
-            path = plain(entry.path, others)
-            return path and (path[0], path[1] or entry.is_dir())
+        def is_ignored(entry: _E) -> bool:
+            path, has_slash = bare(entry.path, others)
+            return ignores(path, bool(has_slash or entry.is_dir()), fold)
 
-        found = decided(self._tree(ignore_case), iter(entries), asked)
-        return (entry for entry, it in found if _is_ignored(it) is not bool(negate))
+        return (entry for entry in entries if is_ignored(entry) is not kept)
 
     def match_tree_entries(
         self,
         root: Union[AnyStr, "os.PathLike[AnyStr]"],
         on_error: OnError = None,
-        follow_links: Optional[bool] = None,
+        follow_links: bool = False,
         *,
         ignore_case: bool = False,
         negate: bool = False,
@@ -174,12 +164,10 @@ class Matching:
             root: the folder, which is the top of the tree.
             on_error: what is called with an error of the file system, which then is passed over, or raised by what is called.
                 Errors are passed over by default, but for that of the folder itself, which is raised.
-            follow_links: whether a link to a folder is walked, too, as it is by default. Git doesn't.
+            follow_links: whether links are followed, as Git doesn't: a link is then what it leads to, and a folder is walked also
+                over a link, but over links only once. One that leads out of the root stays a link.
             ignore_case: whether the case of ASCII letters doesn't count.
             negate: whether those are told that aren't ignored.
-
-        Raises:
-            RecursionError: a link leads to a folder above it.
         """
         return self.match_entries(walk(root, on_error, follow_links), (), ignore_case=ignore_case, negate=negate)
 
@@ -187,16 +175,15 @@ class Matching:
         self,
         root: Union[AnyStr, "os.PathLike[AnyStr]"],
         on_error: OnError = None,
-        follow_links: Optional[bool] = None,
+        follow_links: bool = False,
         *,
         ignore_case: bool = False,
         negate: bool = False,
     ) -> Iterator[AnyStr]:
         """The paths of the files below a folder that are ignored, without those of folders; all else is as
         `match_tree_entries` has it."""
-        files = (entry for entry in walk(root, on_error, follow_links) if not entry.is_dir())
-        found = self.match_entries(files, (), ignore_case=ignore_case, negate=negate)
-        return (entry.path for entry in found)
+        files = (entry.path for entry in walk(root, on_error, follow_links) if not entry.is_dir())
+        return self.match_files(files, ignore_case=ignore_case, negate=negate)
 
     def check_file(self, path: _P, separators: Separators = None, *, ignore_case: bool = False) -> CheckResult[_P]:
         """Whether a path of a tree is ignored, and by which of the `patterns`.
@@ -207,27 +194,17 @@ class Matching:
 
         Its arguments are those of `match_files`, its errors those of `decide`.
         """
-        return self._result(path, self._in_tree(split(path, separators_of(separators)), ignore_case))
+        return self._result(path, self._by_folder.decide(*split(path, separators_of(separators)), bool(ignore_case)))
 
     def check_files(
         self, paths: Iterable[_P], separators: Separators = None, *, ignore_case: bool = False
     ) -> Iterator[CheckResult[_P]]:
         """The same for many paths, each as it comes. Its arguments and errors are those of `match_files`."""
-        found = self._all(_several(paths), separators, ignore_case)
-        return (self._result(path, it) for path, it in found)
+        others, fold, decide = separators_of(separators), bool(ignore_case), self._by_folder.decide
+        return (self._result(path, decide(*bare(path, others), fold)) for path in _several(paths))
 
     def _result(self, path: _P, found: Optional[Found]) -> CheckResult[_P]:
-        return CheckResult(path, found.is_ignored, self._index(found)) if found else CheckResult(path, None, None)
-
-    def _tree(self, ignore_case: bool) -> Tree:
-        return Tree(self._bases(bool(ignore_case)))
-
-    def _in_tree(self, asked: Tuple[bytes, bool], ignore_case: bool) -> Optional[Found]:
-        return self._tree(ignore_case).decide([asked])[0]
-
-    def _all(
-        self, paths: Iterator[_P], separators: Separators, ignore_case: bool
-    ) -> Iterator[Tuple[_P, Optional[Found]]]:
-        """Each path with what decides about it."""
-        others: Sequence[bytes] = separators_of(separators)
-        return decided(self._tree(ignore_case), paths, lambda path: plain(path, others))
+        if found is None:
+            return CheckResult(path, None, None)
+        files = self._by_folder
+        return CheckResult(path, files.is_ignored(found), files.starts[found.file] + found.at)

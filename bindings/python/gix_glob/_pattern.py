@@ -51,19 +51,20 @@ class Pattern:
     >>> Pattern("src/**/*.rs").matches_path("src/deep/lib.rs")
     True
 
-    A line that is empty or white space alone, also behind a `!`, has no pattern, but as Git reads it:
+    It is read as Git reads it, or, with `Reading.CRATE`, as the Rust crate does, for which a line that is empty or white space alone, also
+    behind a `!`, has no pattern:
 
-    >>> Pattern(" \t")
+    >>> Pattern("a**/b").matches_path("ax/y/b"), Pattern("a**/b", Reading.CRATE).matches_path("ax/y/b")
+    (True, False)
+    >>> Pattern(" \t", Reading.CRATE)
     Traceback (most recent call last):
     ValueError: the line b' \t' is blank
-    >>> Pattern("a**/b").matches_path("ax/y/b"), Pattern("a**/b", Reading.GIT).matches_path("ax/y/b")
-    (False, True)
     """
 
     __slots__ = ("_line",)
     _line: _library.Line
 
-    def __init__(self, line: Text, reading: Reading = Reading.CRATE) -> None:
+    def __init__(self, line: Text, reading: Reading = Reading.GIT) -> None:
         text = encoded(line, "a line")
         read = _library.parse(text, checked(reading))
         if read is None:
@@ -141,7 +142,7 @@ class Pattern:
     def __bytes__(self) -> bytes:
         r"""A line that is read back to this pattern.
 
-        >>> bytes(Pattern("!a/")), bytes(Pattern(r"\!a")), bytes(Pattern(r"\#a"))
+        >>> bytes(Pattern("!a/")), bytes(Pattern(r"\!a")), bytes(Pattern(r"\#a", Reading.CRATE))
         (b'!a/', b'\\!a', b'#a')
         """
         text, mode = self.text, self.mode
@@ -152,7 +153,7 @@ class Pattern:
         return sign + slash + escape + text + (b"/" if PatternMode.MUST_BE_DIR in mode else b"")
 
     def __repr__(self) -> str:
-        return f"Pattern({bytes(self)!r})" if self.reading is Reading.CRATE else f"Pattern({bytes(self)!r}, {self.reading})"
+        return f"Pattern({bytes(self)!r})" if self.reading is Reading.GIT else f"Pattern({bytes(self)!r}, {self.reading})"
 
     def _parts(self) -> Tuple[bytes, int, Reading]:
         return self._line.text, self._line.mode, self._line.reading

@@ -8,11 +8,11 @@ import enum
 class Reading(enum.Enum):
     """Whose reading of a line counts, and of what its pattern matches."""
 
-    #: That of the Rust crate `gix-glob`.
-    CRATE = "crate"
-    #: Git's own: what a pattern with a slash has before its first `*`, `?`, `[` or `\\` is compared by itself, what follows is a
-    #: pattern of its own, and where the case of letters doesn't count, members of sets and escaped letters stay as they are.
+    #: Git's own, which counts where no other one is told.
     GIT = "git"
+    #: That of the Rust crate `gix-glob`. What a pattern with a slash has before its first `*`, `?`, `[` or `\\` isn't compared by itself,
+    #: so that `a**/b` doesn't match `ax/y/b`; and where the case of letters doesn't count, it doesn't either in sets and behind a `\\`.
+    CRATE = "crate"
 
 
 def checked(reading: Reading) -> Reading:

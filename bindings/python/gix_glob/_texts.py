@@ -26,37 +26,37 @@ def encoded(text: Text, what: str = "a text", hint: str = "") -> bytes:
 
 
 def separators_of(separators: Separators) -> Sequence[bytes]:
-    """The bytes of separators other than the slash."""
+    """The bytes of separators other than the slash, which is the only one of Linux."""
     if separators is None:
-        separators = [it for it in (os.sep, os.altsep) if it]
+        return ()
     found = [encoded(it, "a separator") for it in separators]
     if b"" in found:
         raise ValueError("a separator is empty")
     return [it for it in found if it != b"/"]
 
 
-def plain(path: Path, separators: Sequence[bytes] = ()) -> Optional[Tuple[bytes, bool]]:
-    """The bytes of a path without the slash at its end, and whether one was there; None where it is no path below a folder.
-
-    Each separator is a slash, too. A `./` in front is passed over."""
-    text = _exact(os.fsencode(path))
+def bare(path: Path, separators: Sequence[bytes] = ()) -> Tuple[bytes, bool]:
+    """The bytes of a path without a `./` in front and the slash at its end, and whether that was there. Each separator is a slash, too."""
+    text = os.fsencode(path)
+    if type(text) is not bytes:
+        text = _exact(text)
     for separator in separators:
         text = text.replace(separator, b"/")
-    if text.startswith(b"./"):
+    if text[:2] == b"./":
         text = text[2:]
-    is_dir = text.endswith(b"/")
-    whole = text[:-1] if is_dir else text
-    if not whole or whole.startswith(b"/") or b"//" in text:
-        return None
-    return whole, is_dir
+    return (text[:-1], True) if text[-1:] == b"/" else (text, False)
 
 
 def split(path: Path, separators: Sequence[bytes] = ()) -> Tuple[bytes, bool]:
-    """The same, where None is an error."""
-    found = plain(path, separators)
-    if found is None:
+    """The same of a path below a folder. (About any other the library says that no pattern matches it.)
+
+    Raises:
+        ValueError: it is empty, begins with a slash, or has two in a row."""
+    text, is_dir = bare(path, separators)
+    # (with slashes around it a path has an empty part where two meet)
+    if b"//" in b"/" + text + b"/":
         raise ValueError(f"{path!r} is no path below a folder: it is empty, begins with a slash, or has two in a row")
-    return found
+    return text, is_dir
 
 
 def folder(path: Path) -> bytes:

@@ -3,8 +3,7 @@
 from __future__ import annotations
 
 import os
-import stat
-from typing import Any, AnyStr, Callable, Generic, Iterator, List, NamedTuple, Optional, Tuple, Union
+from typing import Any, AnyStr, Callable, Generic, Iterator, List, NamedTuple, Optional, Set, Tuple, Union
 
 #: What is called with an error of the file system.
 OnError = Optional[Callable[[OSError], Any]]
@@ -13,101 +12,110 @@ OnError = Optional[Callable[[OSError], Any]]
 class TreeEntry(Generic[AnyStr]):
     """A file or folder that was found in a tree.
 
-    Where the walk didn't follow links, a link is a link, and no folder, whatever it points to.
+    Where the walk didn't follow a link, that is a link, and no folder, whatever it points to.
     """
 
-    __slots__ = ("name", "path", "_lstat", "_stat")
+    __slots__ = ("name", "path", "_found", "_follows")
     #: The last part of the path.
     name: AnyStr
     #: The path from the folder that was walked, without a slash at its end.
     path: AnyStr
 
-    def __init__(self, name: AnyStr, path: AnyStr, lstat: os.stat_result, stat: os.stat_result) -> None:
-        self.name = name
+    def __init__(self, path: AnyStr, found: "os.DirEntry[AnyStr]", follows: bool) -> None:
+        self.name = found.name
         self.path = path
-        self._lstat = lstat
-        self._stat = stat
+        self._found = found
+        self._follows = follows
+
+    def _is_followed(self, follow_links: Optional[bool]) -> bool:
+        return self._follows and (follow_links is None or bool(follow_links))
 
     def stat(self, follow_links: Optional[bool] = None) -> os.stat_result:
-        """What the system told: of what a link points to, or with False of the link."""
-        return self._lstat if follow_links is not None and not follow_links else self._stat
+        """What the system tells when it is asked first: of what a link points to that was followed, or with False of the link."""
+        return self._found.stat(follow_symlinks=self._is_followed(follow_links))
 
     def is_dir(self, follow_links: Optional[bool] = None) -> bool:
-        """Whether it is a folder; a link to one is one, too, but with False."""
-        return stat.S_ISDIR(self.stat(follow_links).st_mode)
+        """Whether it is a folder; a link to one that was followed is one, too, but with False."""
+        return self._found.is_dir(follow_symlinks=self._is_followed(follow_links))
 
     def is_file(self, follow_links: Optional[bool] = None) -> bool:
-        """Whether it is a regular file; a link to one is one, too, but with False."""
-        return stat.S_ISREG(self.stat(follow_links).st_mode)
+        """Whether it is a regular file; a link to one that was followed is one, too, but with False."""
+        return self._found.is_file(follow_symlinks=self._is_followed(follow_links))
 
     def is_symlink(self) -> bool:
         """Whether it is a link."""
-        return stat.S_ISLNK(self._lstat.st_mode)
+        return self._found.is_symlink()
 
     def __repr__(self) -> str:
         return f"TreeEntry({self.path!r})"
 
 
 class _Level(NamedTuple):
-    """A folder that the walk is in: its device and number, its path, and what it holds that wasn't walked yet."""
+    """A folder that the walk is in: what stands before its names, what it holds that wasn't walked yet, and whether a link led to it."""
 
-    identity: Tuple[int, int]
-    path: Any
+    front: Any
     rest: Iterator[Any]
+    is_linked: bool
 
 
 class _Walk(Generic[AnyStr]):
     """A walk through a tree, in the order of names."""
 
     def __init__(self, root: AnyStr, on_error: OnError, follow_links: bool) -> None:
-        self._root: AnyStr = root
         self._on_error = on_error
         self._follow_links = follow_links
+        self._top: AnyStr = os.path.join(os.path.realpath(root), root[:0])
+        self._slash: AnyStr = self._top[-1:]
+        # (the folders that were walked over links)
+        self._linked: Set[Tuple[int, int]] = set()
         # (the tree's own folder is to be there, so its errors aren't passed over)
-        self._levels: List[_Level] = [_Level(_identity(os.stat(root)), root[:0], iter(_listed(root)))]
+        self._levels: List[_Level] = [_Level(root[:0], iter(_listed(root)), False)]
 
     def entries(self) -> Iterator[TreeEntry[AnyStr]]:
         while self._levels:
-            found = next(self._levels[-1].rest, None)
+            level = self._levels[-1]
+            found = next(level.rest, None)
             if found is None:
                 self._levels.pop()
                 continue
-            entry = self._entry(found, os.path.join(self._levels[-1].path, found.name))
+            try:
+                entry = self._entry(found, level.front + found.name)
+            except OSError as error:
+                self._told(error)
+                continue
             if entry:
                 yield entry
                 if entry.is_dir():
-                    self._enter(entry)
+                    self._enter(entry, found, level.is_linked or entry.is_symlink())
 
     def _entry(self, found: "os.DirEntry[AnyStr]", path: AnyStr) -> Optional[TreeEntry[AnyStr]]:
-        """The entry; None where the system doesn't tell what it is, or where it is no file, folder or link."""
-        try:
-            told = found.stat(follow_symlinks=False)
-            followed = found.stat() if self._follow_links and stat.S_ISLNK(told.st_mode) else told
-        except OSError as error:
-            self._told(error)
-            return None
-        kinds = (stat.S_ISDIR, stat.S_ISREG, stat.S_ISLNK)
-        return TreeEntry(found.name, path, told, followed) if any(is_kind(followed.st_mode) for is_kind in kinds) else None
+        """The entry; None where it is no file, folder or link."""
+        follows = self._follow_links and (not found.is_symlink() or self._is_inside(found))
+        is_known = found.is_dir(follow_symlinks=follows) or found.is_file(follow_symlinks=follows)
+        return TreeEntry(path, found, follows) if is_known or found.is_symlink() and not follows else None
 
-    def _enter(self, entry: TreeEntry[AnyStr]) -> None:
-        identity = _identity(entry.stat())
-        above = next((level.path for level in self._levels if level.identity == identity), None)
-        if above is not None:
-            raise RecursionError(f"{entry.path!r} is the same folder as {above!r} above it, by a link")
+    def _is_inside(self, link: "os.DirEntry[AnyStr]") -> bool:
+        """Whether a link leads to somewhere in the tree. An OSError tells that it leads nowhere."""
+        link.stat()
+        return os.path.join(os.path.realpath(link.path), self._top[:0]).startswith(self._top)
+
+    def _enter(self, entry: TreeEntry[AnyStr], found: "os.DirEntry[AnyStr]", is_linked: bool) -> None:
         try:
-            rest = _listed(os.path.join(self._root, entry.path))
+            if is_linked:
+                told = entry.stat()
+                identity = told.st_dev, told.st_ino
+                if identity in self._linked:
+                    return
+                self._linked.add(identity)
+            rest = _listed(found.path)
         except OSError as error:
             self._told(error)
             return
-        self._levels.append(_Level(identity, entry.path, iter(rest)))
+        self._levels.append(_Level(entry.path + self._slash, iter(rest), is_linked))
 
     def _told(self, error: OSError) -> None:
         if self._on_error is not None:
             self._on_error(error)
-
-
-def _identity(told: os.stat_result) -> Tuple[int, int]:
-    return told.st_dev, told.st_ino
 
 
 def _listed(folder: AnyStr) -> List["os.DirEntry[AnyStr]"]:
@@ -116,9 +124,9 @@ def _listed(folder: AnyStr) -> List["os.DirEntry[AnyStr]"]:
 
 
 def walk(
-    root: Union[AnyStr, "os.PathLike[AnyStr]"], on_error: OnError = None, follow_links: Optional[bool] = None
+    root: Union[AnyStr, "os.PathLike[AnyStr]"], on_error: OnError = None, follow_links: Optional[bool] = False
 ) -> Iterator[TreeEntry[AnyStr]]:
     """What lies below a folder: each folder before what it holds, and in one the names in the order of their bytes."""
     if on_error is not None and not callable(on_error):
         raise TypeError(f"on_error is to be called with an error, and is {on_error!r}")
-    return _Walk(os.fspath(root), on_error, follow_links is None or bool(follow_links)).entries()
+    return _Walk(os.fspath(root), on_error, bool(follow_links)).entries()

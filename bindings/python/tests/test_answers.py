@@ -76,7 +76,7 @@ class Answers(unittest.TestCase):
                     self.assert_refused(name, other_answer)
 
     def test_nothing_is_written(self):
-        for name in (name for name in _calls.CALLS if "parse" in name):
+        for name in (name for name in _calls.CALLS if "parse" in name or "decide" in name):
             with self.subTest(call=name):
                 self.assert_refused(name, silent)
 
@@ -87,7 +87,7 @@ class Answers(unittest.TestCase):
             "gix_glob_parse_ignore_line": [lambda words, at=at: end_of(words, at) for at in range(2)],
             "gix_glob_parse_ignore_line_as_git": [lambda words, at=at: end_of(words, at) for at in range(2)],
             "gix_glob_prepare": [lambda words: words[2] + 16 * words[1], lambda words: words[4] + 2048],
-            "gix_glob_last_matches": [lambda words: words[3] + 8 * words[2]],
+            "gix_glob_decide_in_tree": [lambda words: end_of(words, 6)],
         }
         for name, places in ends.items():
             for at, end in enumerate(places):

@@ -116,6 +116,7 @@ class Wheel(Folder):
         told = email.message_from_bytes(files_of(self.path(backend.build_wheel(self.out)))[f"{INFO}/METADATA"])
         version = gix_glob.__version__
         fields = {"Name": "gix-glob", "Version": version, "License": "MIT OR Apache-2.0", "Requires-Python": ">=3.9"}
+        fields["Author-email"] = "Girvuzhan maintainers <maintainers@users.noreply.girvuzhan.example>"
         self.assertEqual({field: told[field] for field in fields}, fields)
         classifiers = told.get_all("Classifier")
         self.assertEqual(len([it for it in classifiers if it.startswith("License :: OSI Approved :: ")]), 2)
@@ -236,9 +237,15 @@ class Project(unittest.TestCase):
         for key in ("name", "version", "description", "requires-python", "keywords", "classifiers"):
             self.assertEqual(backend._project(key), project[key])
         self.assertEqual(project["license"], {"text": "MIT OR Apache-2.0"})
+        self.assertEqual([f"{it['name']} <{it['email']}>" for it in project["authors"]], [backend.AUTHOR])
         self.assertEqual(project["version"], gix_glob.__version__)
         with self.assertRaises(KeyError):
-            backend._project("authors")
+            backend._project("urls")
+
+    @unittest.skipUnless(os.path.exists(os.path.join(TOP, "packaging", "debian")), "there is no checkout here")
+    def test_the_author_is_that_of_debians_packages(self):
+        with open(os.path.join(TOP, "packaging", "debian", "control"), encoding="utf-8") as file:
+            self.assertIn(f"Maintainer: {backend.AUTHOR}\n", file.read())
 
     @unittest.skipUnless(os.path.exists(os.path.join(TOP, "LICENSE-MIT")), "there is no checkout here")
     def test_licences_are_the_checkouts(self):

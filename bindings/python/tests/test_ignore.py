@@ -7,8 +7,8 @@ import pathlib
 import pickle
 import random
 import tempfile
+import tracemalloc
 import unittest
-from unittest import mock
 
 from gix_glob import IgnoreFile, IgnoreList, Pattern, Reading, _deciding
 
@@ -77,10 +77,28 @@ class TwoReadings(unittest.TestCase):
                         found = rules.decide_in_tree(path, is_dir, ignore_case=fold)
                         self.assertEqual(None if found is None else found.line, line)
 
-    def test_each_file_by_its_own(self):
-        text = "a**/b\n"
-        files = [IgnoreFile.from_text(text, "", "git", Reading.GIT), IgnoreFile.from_text(text, "", "crate")]
-        self.assertEqual(place(IgnoreList(files).decide_in_tree("ax/y/b")), ("git", 1, True))
+    def test_git_where_none_is_told(self):
+        for file in (IgnoreFile.from_text("a**/b"), IgnoreFile.from_lines(["a**/b"])):
+            self.assertIs(file.reading, Reading.GIT)
+            self.assertTrue(file.match_file("ax/y/b"))
+        self.assertIs(Pattern("a**/b").reading, Reading.GIT)
+        with tempfile.NamedTemporaryFile() as file:
+            self.assertIs(IgnoreFile.from_file(file.name).reading, Reading.GIT)
+
+    def test_a_list_is_of_one_reading(self):
+        by_git, by_crate = IgnoreFile.from_text("a"), IgnoreFile.from_text("a", reading=Reading.CRATE)
+        for make in (lambda: IgnoreList([by_git, by_crate]), lambda: by_crate + by_git):
+            with self.assertRaisesRegex(ValueError, "of one reading"):
+                make()
+        self.assertTrue((by_crate + by_crate).match_file("a"))
+
+    def test_a_reading_in_the_place_of_another_word(self):
+        for word, words in (("base", [Reading.GIT]), ("name", ["", Reading.GIT])):
+            for make in (IgnoreFile.from_text, lambda it, *words: IgnoreFile.from_lines([it], *words)):
+                with self.subTest(word=word), self.assertRaisesRegex(TypeError, f"the {word} .*reading=Reading.GIT"):
+                    make("a", *words)
+        with tempfile.NamedTemporaryFile() as file, self.assertRaisesRegex(TypeError, "the base .*reading=Reading.GIT"):
+            IgnoreFile.from_file(file.name, Reading.GIT)
 
     def test_other_values_are_no_reading(self):
         for call in (lambda it: IgnoreFile.from_text("a", reading=it), lambda it: Pattern("a", it)):
@@ -135,7 +153,7 @@ class Deciding(unittest.TestCase):
         self.assertEqual(found, [paths[at] for at in (0, 1, 2, 4, 6, 7)])
         self.assertTrue(all(any(one is other for other in paths) for one in found))
         self.assertEqual(list(rules.match_files([])), [])
-        # some at a time, also without an end
+        # also without an end
         self.assertEqual(next(rules.match_files(iter(lambda: "a.o", None))), "a.o")
         self.assertEqual(list(rules.match_files(["A.O", "BUILD/x"])), [])
         self.assertEqual(list(rules.match_files(["A.O", "BUILD/x"], ignore_case=True)), ["A.O", "BUILD/x"])
@@ -143,31 +161,47 @@ class Deciding(unittest.TestCase):
     def test_random_lists_and_paths(self):
         draw = random.Random(1)
         kinds = set()
-        with mock.patch.multiple(_deciding, MOST_FOLDERS=5, PARTS_AT_ONCE=9):
-            for _ in range(1000):
-                rules, fold = random_list(draw), draw.random() < 0.3
-                paths = [
-                    "/".join(draw.choice("abA") for _ in range(draw.randrange(1, 5))) + draw.choice(("", "/"))
-                    for _ in range(12)
-                ]
-                wanted = []
-                for path in paths:
-                    text, is_dir = path.rstrip("/").encode(), path.endswith("/")
-                    alone, in_tree = plainly(rules, text, is_dir, fold), plainly_in_tree(rules, text, is_dir, fold)
-                    self.assertEqual(place(rules.decide(path, ignore_case=fold)), alone)
-                    self.assertEqual(place(rules.decide_in_tree(path, ignore_case=fold)), in_tree)
-                    kinds.add((alone and alone[2], in_tree and in_tree[2], alone == in_tree))
-                    wanted += [path] if in_tree and in_tree[2] else []
-                self.assertEqual(list(rules.match_files(paths, ignore_case=fold)), wanted)
+        for _ in range(1000):
+            rules, fold = random_list(draw), draw.random() < 0.3
+            paths = [
+                "/".join(draw.choice("abA") for _ in range(draw.randrange(1, 5))) + draw.choice(("", "/"))
+                for _ in range(12)
+            ]
+            wanted = []
+            for path in paths:
+                text, is_dir = path.rstrip("/").encode(), path.endswith("/")
+                alone, in_tree = plainly(rules, text, is_dir, fold), plainly_in_tree(rules, text, is_dir, fold)
+                self.assertEqual(place(rules.decide(path, ignore_case=fold)), alone)
+                self.assertEqual(place(rules.decide_in_tree(path, ignore_case=fold)), in_tree)
+                kinds.add((alone and alone[2], in_tree and in_tree[2], alone == in_tree))
+                wanted += [path] if in_tree and in_tree[2] else []
+            self.assertEqual(list(rules.match_files(paths, ignore_case=fold)), wanted)
         self.assertEqual(len(kinds), 6, kinds)
 
-    def test_few_folders_are_remembered(self):
-        with mock.patch.object(_deciding, "MOST_FOLDERS", 5):
-            tree = _deciding.Tree(IgnoreFile.from_text("x")._bases(False))
-            for number in range(100):
-                self.assertNotEqual(tree.decide([(b"d%d/e/x" % number, False)]), [None])
-                # (the top is one more)
-                self.assertLessEqual(len(tree._folders), 6)
+    def test_a_long_path_takes_little_memory(self):
+        rules = IgnoreList([IgnoreFile.from_text("y"), IgnoreFile.from_text("x", "d/d")])
+        for count in (1 << 15, 1 << 16):
+            path = "d/" * count + "x"
+            tracemalloc.start()
+            try:
+                self.assertTrue(rules.match_file(path))
+                self.assertEqual(list(rules.match_files([path])), [path])
+                # (some copies of the path, and nothing for each of its folders)
+                self.assertLess(tracemalloc.get_traced_memory()[1], 10 * len(path))
+            finally:
+                tracemalloc.stop()
+
+    def test_files_one_below_the_other(self):
+        bases = ["d/" * depth for depth in range(200)]
+        rules = IgnoreList([IgnoreFile.from_text("x%d" % (at % 7), base, str(at)) for at, base in enumerate(bases)])
+        self.assertEqual(rules.decide_in_tree("d/" * 100 + "x1").file.name, "99")
+        self.assertEqual(rules.decide("D/" * 20 + "x3", ignore_case=True).file.name, "17")
+        self.assertIsNone(rules.decide("D/" * 20 + "x3"))
+        # (each folder has as many files above it as it is deep, and a few of them are kept)
+        for depth in range(1, 200):
+            self.assertEqual(rules.decide_in_tree("d/" * depth + "x%d" % (depth % 7)).file.name, str(depth))
+        kept = sum(len(way.places) for way in rules._by_folder._ways.values())
+        self.assertLessEqual(kept, _deciding.LISTS_KEPT * len(bases))
 
 
 class Constructors(unittest.TestCase):
@@ -232,7 +266,7 @@ class Rules(unittest.TestCase):
             IgnoreFile.from_lines(["!a.o", "*.o"], "web"),
             IgnoreFile.from_lines(["*.o"], "web"),
             IgnoreFile.from_lines(["*.o", "!a.o/"], "web"),
-            IgnoreFile.from_lines(["*.o", "!a.o"], "web", reading=Reading.GIT),
+            IgnoreFile.from_lines(["*.o", "!a.o"], "web", reading=Reading.CRATE),
             IgnoreList([one, one]),
             IgnoreFile.from_text(""),
         ]
@@ -271,7 +305,7 @@ class Rules(unittest.TestCase):
 class Lines(unittest.TestCase):
     def test_lines_and_texts(self):
         text = b"\xef\xbb\xbf*.o  \r\n\n# x\n a\\ \n!b\t\n\\#c"
-        wanted = [(1, b"*.o"), (4, b" a\\ "), (5, b"b\t"), (6, b"#c")]
+        wanted = [(1, b"*.o"), (4, b" a\\ "), (5, b"b\t"), (6, b"\\#c")]
         for lines in (
             text.split(b"\n"),
             text.splitlines(),

@@ -21,13 +21,12 @@ HEADER = os.path.join(PACKAGE, "..", "..", "crates", "gix_glob_c", "include", "g
 TYPES = {
     "const uint8_t *": (ctypes.c_void_p, ctypes.c_char_p),
     "const struct gix_glob_pattern *": (ctypes.c_void_p, ctypes.POINTER(_calls.Parts)),
-    "const struct gix_glob_list *": (ctypes.POINTER(_calls.Rules),),
+    "const struct gix_glob_list *": (ctypes.c_void_p, ctypes.POINTER(_calls.ListParts)),
     "void *": (ctypes.c_void_p,),
     "const void *": (ctypes.c_void_p,),
-    "const struct gix_glob_path *": (ctypes.c_void_p,),
-    "size_t *": (ctypes.c_void_p,),
     "struct gix_glob_pattern *": (ctypes.POINTER(_calls.Parts),),
     "struct gix_glob_lines *": (ctypes.POINTER(_calls.Lines),),
+    "struct gix_glob_decision *": (ctypes.POINTER(_calls.Place),),
     "void ": (None,),
     "bool ": (ctypes.c_bool,),
     "size_t ": (ctypes.c_size_t,),
@@ -57,8 +56,7 @@ PASSED = {
     "struct gix_glob_text ": ("const uint8_t *", "size_t "),
     "struct gix_glob_patterns ": ("const struct gix_glob_pattern *", "size_t "),
     "struct gix_glob_rows ": ("void *", "size_t "),
-    "struct gix_glob_paths ": ("const struct gix_glob_path *", "size_t "),
-    "struct gix_glob_places ": ("size_t *", "size_t "),
+    "struct gix_glob_lists ": ("const struct gix_glob_list *", "size_t "),
     "struct gix_glob_match_mode ": ("uint8_t ",),
     "struct gix_glob_pattern_mode ": ("uint32_t ",),
     "void": (),
@@ -102,8 +100,8 @@ class Declarations(unittest.TestCase):
                 self.assertIn(answer, TYPES[calls[name][1]])
         structs = {
             "gix_glob_pattern": _calls.Parts,
-            "gix_glob_list": _calls.Rules,
-            "gix_glob_path": _calls.Asked,
+            "gix_glob_list": _calls.ListParts,
+            "gix_glob_decision": _calls.Place,
             "gix_glob_lines": _calls.Lines,
         }
         for name, struct in structs.items():
@@ -113,7 +111,6 @@ class Declarations(unittest.TestCase):
                 self.assertEqual([field for _, field in fields], [field for field, _ in struct._fields_])
                 for (one, _), (_, it) in zip(fields, struct._fields_):
                     self.assertIn(it, TYPES[one])
-        self.assertEqual(ctypes.sizeof(_calls.Asked), 24)
         for name, number in (("NEGATIVE", _calls.NEGATIVE), ("AS_CRATE", _calls.AS_CRATE), ("AS_GIT", _calls.AS_GIT)):
             self.assertEqual(int(re.search(rf"GIX_GLOB_{name} (\d+)u", code)[1]), number)
         self.assertEqual(_calls.NONE, 2**64 - 1)
@@ -142,7 +139,7 @@ class Finding(unittest.TestCase):
             self.assert_told(run("import gix_glob", GIX_GLOB_LIBRARY=folder), folder)
             # a library without the calls
             os.symlink(sys.modules["_ctypes"].__file__, other)
-            self.assert_told(run("import gix_glob", GIX_GLOB_LIBRARY=other), "gix_glob_decide_in_tree")
+            self.assert_told(run("import gix_glob", GIX_GLOB_LIBRARY=other), "gix_glob_last_matches")
 
     def test_the_file_beside_the_package_and_the_systems(self):
         program = "import gix_glob; print(gix_glob.wildmatch('*', 'a'))"
@@ -315,29 +312,27 @@ class Misuse(unittest.TestCase):
             with self.assertRaises(TypeError):
                 call(Bytes(b"ab"))
         rules = _library.Rules(b"a", Reading.CRATE)
-        for call in (rules.last_match, _library.parse(b"a", Reading.CRATE).matches_path):
+        for call in (rules.last_match, _library.Lists([rules]).decide, _library.parse(b"a", Reading.CRATE).matches_path):
             with self.assertRaises(TypeError):
                 call(Bytes(b"ab"), False, False)
-        with self.assertRaises(TypeError):
-            rules.last_matches([Bytes(b"ab")], [False], False)
 
-    def test_several_paths_at_once(self):
-        rules = _library.Rules(b"a\n!b/", Reading.CRATE)
-        found = rules.last_matches([b"x/a", b"b", b"b", b"", b"a\0"], [False, True, False, False, False], False)
-        self.assertEqual(list(found), [0, 1] + [_calls.NONE] * 3)
-        self.assertEqual(list(rules.last_matches([], [], False)), [])
-        for paths in (["a"], [b"a", None], [bytearray(b"a")]):
-            with self.assertRaises(TypeError):
-                rules.last_matches(paths, [False] * len(paths), False)
-        for are_dirs in ([], [False, False]):
-            with self.assertRaises(ValueError):
-                rules.last_matches([b"a"], are_dirs, False)
+    def test_lists(self):
+        rules = [_library.Rules(b"a\n!b/", Reading.CRATE), _library.Rules(b"", Reading.CRATE), _library.Rules(b"!a", Reading.CRATE, b"d/")]
+        lists = _library.Lists(rules)
+        asked = ((b"x/a", False, (0, 0)), (b"b", True, (0, 1)), (b"b", False, None), (b"d/a", False, (2, 0)), (b"", False, None))
+        for path, is_dir, found in asked:
+            self.assertEqual(lists.decide(path, is_dir, False), found)
+        self.assertIsNone(_library.Lists([]).decide(b"a", False, False))
+        # (they keep what they lead to)
+        del rules
+        self.assertEqual(lists.decide(b"d/a", False, False), (2, 0))
 
     def test_places_outside_a_file(self):
         rules = _library.Rules(b"a\nb", Reading.CRATE)
         for at in (2, -3, 1 << 70):
-            with self.assertRaises(IndexError):
-                rules.line(at)
+            for call in (rules.line, rules.is_negative):
+                with self.assertRaises(IndexError):
+                    call(at)
 
     def test_objects_that_were_not_made(self):
         with self.assertRaises(AttributeError):
@@ -352,9 +347,10 @@ class Misuse(unittest.TestCase):
                 self.assertEqual(Pattern(b"x" + byte).matches(b"x" + byte), byte not in b"\\[")
             if byte not in b"/":
                 self.assertTrue(Pattern("a?").matches_path(b"d/a" + byte))
-        self.assertEqual([it.text for _, it in IgnoreFile.from_text(b"a\0b\n\0\n\0")], [b"a\0b", b"\0", b"\0"])
-        self.assertEqual(IgnoreFile.from_text(b"a\0b").decide("a\0b").line, 1)
-        self.assertIsNone(IgnoreFile.from_text(b"a\0b").decide("a"))
+        text, crate = b"a\0b\n\0\n\0", Reading.CRATE
+        self.assertEqual([it.text for _, it in IgnoreFile.from_text(text, reading=crate)], [b"a\0b", b"\0", b"\0"])
+        self.assertEqual(IgnoreFile.from_text(b"a\0b", reading=crate).decide("a\0b").line, 1)
+        self.assertIsNone(IgnoreFile.from_text(b"a\0b", reading=crate).decide("a"))
 
     def test_names_that_are_no_text(self):
         name = os.fsdecode(b"caf\xe9.o")
@@ -392,8 +388,8 @@ class Misuse(unittest.TestCase):
                 next(found)
 
     def test_empty_files(self):
-        for text in ("", "\n", "#", "\ufeff", "\ufeff#", " \n!\n"):
-            rules = IgnoreFile.from_text(text)
+        blank = IgnoreFile.from_text(" \n!\n", reading=Reading.CRATE)
+        for rules in (blank, *map(IgnoreFile.from_text, ("", "\n", "#", "\ufeff", "\ufeff#"))):
             self.assertEqual((len(rules), rules.decide("a"), list(rules.match_files(["a/b"]))), (0, None, []))
         self.assertEqual(list(IgnoreList([]).match_files(["a", "b/c"])), [])
         self.assertIsNone(IgnoreList([]).decide("a"))

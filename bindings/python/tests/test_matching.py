@@ -116,16 +116,17 @@ class Tree(unittest.TestCase):
         below_link = ["build2/d/y.c", "build2/keep.o", "build2/link.o", "build2/x.o"]
         for top in (self.top, pathlib.Path(self.top)):
             # `broken.o` leads to no file
-            self.assertEqual(list(self.rules.match_tree_files(top)), ignored + below_link)
-            found = list(self.rules.match_tree_files(top, follow_links=False))
-            self.assertEqual(found, ["a.o", "b/link.o", "b/x.o", "broken.o", "build/deep/z.c", "build/z.c"])
-            kept = list(self.rules.match_tree_files(top, follow_links=False, negate=True))
+            self.assertEqual(list(self.rules.match_tree_files(top, follow_links=True)), ignored + below_link)
+            for words in ({}, {"follow_links": False}, {"follow_links": None}):
+                found = list(self.rules.match_tree_files(top, **words))
+                self.assertEqual(found, ["a.o", "b/link.o", "b/x.o", "broken.o", "build/deep/z.c", "build/z.c"])
+            kept = list(self.rules.match_tree_files(top, negate=True))
             self.assertEqual(kept, [".git/HEAD", "a.c", "b/d/y.c", "b/keep.o", "build2"])
-        found = list(self.rules.match_tree_files(os.fsencode(self.top)))
+        found = list(self.rules.match_tree_files(os.fsencode(self.top), follow_links=True))
         self.assertEqual(found, [os.fsencode(path) for path in ignored + below_link])
 
     def test_entries(self):
-        found = list(self.rules.match_tree_entries(self.top, follow_links=False))
+        found = list(self.rules.match_tree_entries(self.top))
         paths = ["a.o", "b/link.o", "b/x.o", "broken.o", "build", "build/deep", "build/deep/z.c", "build/z.c"]
         self.assertEqual([entry.path for entry in found], paths)
         self.assertEqual([entry.path for entry in found if entry.is_dir()], ["build", "build/deep"])
@@ -133,7 +134,8 @@ class Tree(unittest.TestCase):
         self.assertIs(type(link), TreeEntry)
         self.assertEqual((link.name, link.is_symlink(), link.is_file()), ("link.o", True, False))
         self.assertEqual(repr(link), "TreeEntry('b/link.o')")
-        followed = next(entry for entry in self.rules.match_tree_entries(self.top) if entry.path == "build2")
+        found = self.rules.match_tree_entries(self.top, follow_links=True)
+        followed = next(entry for entry in found if entry.path == "build2")
         self.assertEqual((followed.is_dir(), followed.is_dir(False), followed.is_symlink()), (True, False, True))
         self.assertNotEqual(followed.stat(), followed.stat(follow_links=False))
         self.assertEqual(followed.stat().st_ino, os.stat(self.path("b")).st_ino)
@@ -166,28 +168,57 @@ class Tree(unittest.TestCase):
             self.rules.match_tree_files(self.top, "raise")
         errors = []
         list(self.rules.match_tree_files(self.top, errors.append))
+        self.assertEqual(errors, [])
+        list(self.rules.match_tree_files(self.top, errors.append, True))
         self.assertEqual([(type(it), it.filename) for it in errors], [(FileNotFoundError, self.path("broken.o"))])
 
         def fail(error):
             raise error
 
         with self.assertRaises(FileNotFoundError):
-            list(self.rules.match_tree_files(self.top, fail))
+            list(self.rules.match_tree_files(self.top, fail, True))
 
     @unittest.skipIf(os.geteuid() == 0, "a folder that may not be read is left out: root may read all")
     def test_a_folder_that_may_not_be_read(self):
         os.chmod(self.path("b"), 0)
         self.addCleanup(os.chmod, self.path("b"), 0o700)
         errors = []
-        found = list(self.rules.match_tree_files(self.top, errors.append, False))
+        found = list(self.rules.match_tree_files(self.top, errors.append))
         self.assertEqual(found, ["a.o", "broken.o", "build/deep/z.c", "build/z.c"])
         self.assertEqual([type(it) for it in errors], [PermissionError])
 
     def test_links_to_a_folder_above(self):
         os.symlink("..", self.path("b/d/up"))
-        with self.assertRaisesRegex(RecursionError, "'b/d/up' is the same folder as 'b'"):
-            list(self.rules.match_tree_files(self.top))
-        self.assertIn("b/x.o", list(self.rules.match_tree_files(self.top, follow_links=False)))
+        # (over links, `b` and `b/d` are walked where a link leads there first)
+        found = list(IgnoreFile.from_text("b/").match_tree_files(self.top, follow_links=True))
+        below = ["b/d/up/d/y.c", "b/d/up/keep.o", "b/d/up/link.o", "b/d/up/x.o"]
+        self.assertEqual(found, [*below, "b/d/y.c", "b/keep.o", "b/link.o", "b/x.o"])
+
+    def test_links_out_of_the_tree(self):
+        os.symlink("..", self.path("b/d/top"))
+        os.symlink("../x.o", self.path("b/d/file"))
+        root = self.path("b/d")
+        os.symlink("d", self.path("b/other"))
+        for top in (root, self.path("b/other")):
+            found = list(IgnoreFile.from_text("*").match_tree_entries(top, follow_links=True))
+            links = [(path, False, False, True) for path in ("file", "top")]
+            told = [(it.path, it.is_dir(), it.is_file(), it.is_symlink()) for it in found]
+            self.assertEqual(told, [*links, ("y.c", False, True, False)])
+
+    def test_links_are_walked_in_proportion(self):
+        # (each folder leads to the next one over two links, so over links there are 2^levels ways to the last)
+        for levels in (16, 32):
+            top = os.path.join(self.top, f"ladder{levels}")
+            for level in range(levels + 1):
+                os.makedirs(os.path.join(top, f"d{level:02}"))
+            for level in range(levels):
+                for name in ("a", "b"):
+                    os.symlink(f"../d{level + 1:02}", os.path.join(top, f"d{level:02}", name))
+            found = list(IgnoreList([]).match_tree_entries(top, negate=True))
+            self.assertEqual(len(found), 3 * levels + 1)
+            # (each folder but the first is walked once more)
+            found = list(IgnoreList([]).match_tree_entries(top, follow_links=True, negate=True))
+            self.assertEqual(len(found), 3 * levels + 1 + 2 * (levels - 1))
 
     def test_a_deep_tree(self):
         deep = "d/" * 400 + "x.o"
@@ -195,7 +226,7 @@ class Tree(unittest.TestCase):
         limit = sys.getrecursionlimit()
         sys.setrecursionlimit(300)
         try:
-            found = list(self.rules.match_tree_files(self.top, follow_links=False))
+            found = list(self.rules.match_tree_files(self.top))
         finally:
             sys.setrecursionlimit(limit)
         self.assertIn(deep, found)
@@ -203,7 +234,7 @@ class Tree(unittest.TestCase):
     @unittest.skipUnless(pathspec, "pathspec is left out: it isn't installed (Debian's package is python3-pathspec)")
     def test_beside_pathspec(self):
         theirs = pathspec.GitIgnoreSpec.from_lines(["*.o", "!keep.o", "build/", "build2/"])
-        for follow in (None, True, False):
+        for follow in (True, False):
             # (it leaves out a link that leads nowhere, also where links aren't followed; here what lies in an ignored folder is
             # ignored)
             here = {it for it in self.rules.match_tree_files(self.top, follow_links=follow) if it != "broken.o"}
@@ -211,7 +242,7 @@ class Tree(unittest.TestCase):
         entries = list(pathspec.util.iter_tree_entries(self.top))
         self.assertEqual(
             sorted(it.path for it in self.rules.match_entries(entries)),
-            sorted(it.path for it in self.rules.match_tree_entries(self.top)),
+            sorted(it.path for it in self.rules.match_tree_entries(self.top, follow_links=True)),
         )
 
 

@@ -6,7 +6,7 @@ import pathlib
 import pickle
 import unittest
 
-from gix_glob import Mode, Pattern, PatternMode, wildmatch
+from gix_glob import Mode, Pattern, PatternMode, Reading, wildmatch
 
 #: lines of all kinds
 LINES = ("!/*.o/", r"\#x", r"\!x", "#x", "a/b?c", "/", "a\\/", "a ", "\0", "é", b"\xe9")
@@ -24,13 +24,16 @@ class Patterns(unittest.TestCase):
     def test_blank_lines(self):
         for line in ("", " \t\r\n\f", "! ", b"!"):
             with self.subTest(line=line), self.assertRaisesRegex(ValueError, "is blank"):
-                Pattern(line)
+                Pattern(line, Reading.CRATE)
+            self.assertFalse(Pattern(line).matches_path("a"))
 
     def test_what_is_shown_is_read_back(self):
-        for line in [*LINES, "!\\#x", "\\\\#", "!!x", "/!x", "\\!x/", "a/", "!a", "//a//"]:
-            with self.subTest(line=line):
-                pattern = Pattern(line)
-                for other in (Pattern(bytes(pattern)), copy.deepcopy(pattern), pickle.loads(pickle.dumps(pattern))):
+        lines = [*LINES, "!\\#x", "\\\\#", "!!x", "/!x", "\\!x/", "a/", "!a", "//a//"]
+        for line, reading in itertools.product(lines, Reading):
+            with self.subTest(line=line, reading=reading):
+                pattern = Pattern(line, reading)
+                others = Pattern(bytes(pattern), reading), copy.deepcopy(pattern), pickle.loads(pickle.dumps(pattern))
+                for other in others:
                     self.assertEqual(pattern, other)
                     self.assertEqual(hash(pattern), hash(other))
                 self.assertEqual(eval(repr(pattern)), pattern)
@@ -39,17 +42,19 @@ class Patterns(unittest.TestCase):
         count = 0
         for length in range(6):
             for line in itertools.product(b"!#/\\ a*", repeat=length):
+                self.assertEqual(Pattern(bytes(Pattern(bytes(line)))), Pattern(bytes(line)), line)
                 try:
-                    pattern = Pattern(bytes(line))
+                    pattern = Pattern(bytes(line), Reading.CRATE)
                 except ValueError:
                     continue
                 count += 1
-                self.assertEqual(Pattern(bytes(pattern)), pattern, line)
+                self.assertEqual(Pattern(bytes(pattern), Reading.CRATE), pattern, line)
         self.assertGreater(count, 19_000)
 
     def test_equality(self):
         self.assertNotEqual(Pattern("a"), Pattern("a/"))
         self.assertNotEqual(Pattern("a"), "a")
+        self.assertNotEqual(Pattern("a"), Pattern("a", Reading.CRATE))
 
     def test_modes_may_have_other_bits(self):
         for mode, wanted in ((0x10000, True), (Mode.NO_MATCH_SLASH_LITERAL + 0x10000, False)):

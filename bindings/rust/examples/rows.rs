@@ -6,7 +6,7 @@ use std::io::{self, BufRead, Write};
 use std::panic;
 use std::path::Path;
 
-use gix_glob::decide::{Index, Lists};
+use gix_glob::decide::{Index, Lists, Reading};
 use gix_glob::pattern::{self, Case};
 use gix_glob::search::pattern::{List, Mapping, strip_base_handle_recompute_basename_pos};
 use gix_glob::wildmatch::Mode;
@@ -16,28 +16,23 @@ type Field = Option<Vec<u8>>;
 
 /// A parser of one pattern a line, which may read as Git does.
 #[derive(Clone, PartialEq, Eq, Debug, Hash, PartialOrd, Ord, Default)]
-struct Lines {
-    as_git: bool,
-}
+struct Lines<const AS_GIT: bool>;
 
-const LINES: Lines = Lines { as_git: false };
+const LINES: Lines<false> = Lines;
 
-impl Lines {
-    fn read(&self, line: &[u8]) -> Option<Pattern> {
-        if !self.as_git {
-            return Pattern::from_bytes(line);
-        }
-        // (a line without bytes has no pattern in a file)
-        (!line.is_empty()).then(|| Pattern::from_git_line(line))
-    }
-}
-
-impl search::Pattern for Lines {
+impl<const AS_GIT: bool> search::Pattern for Lines<AS_GIT> {
     type Value = ();
 
+    const READING: Reading = if AS_GIT { Reading::Git } else { Reading::Crate };
+
     fn bytes_to_patterns(&self, bytes: &[u8], _source: &Path) -> Vec<Mapping<()>> {
+        // (a line without bytes has no pattern in a file)
+        let as_git = |line: &[u8]| (!line.is_empty()).then(|| Pattern::from_git_line(line));
         let lines = bytes.split(|&byte| byte == b'\n').zip(1..);
-        let read = |(line, sequence_number)| Some(Mapping { pattern: self.read(line)?, value: (), sequence_number });
+        let read = |(line, sequence_number)| {
+            let pattern = if AS_GIT { as_git(line) } else { Pattern::from_bytes(line) }?;
+            Some(Mapping { pattern, value: (), sequence_number })
+        };
         lines.filter_map(read).collect()
     }
 }
@@ -183,8 +178,8 @@ fn path_matched_as_git(fields: &[Field]) -> Option<String> {
     }
     let case = case_of(case);
     let is_matched = Pattern::from_git_line(line).matches_path_as_git(path.into(), is_dir, case);
-    let list = List::from_bytes(line, "file".into(), None, Lines { as_git: true });
-    Some(agreed(is_matched, &[Index::as_git(&list)?.last_match(path.into(), is_dir, case).is_some()]))
+    let list = List::from_bytes(line, "file".into(), None, Lines::<true>);
+    Some(agreed(is_matched, &[Index::new(&list)?.last_match(path.into(), is_dir, case).is_some()]))
 }
 
 // ---- lists
@@ -226,7 +221,7 @@ fn listed(fields: &[Field]) -> Option<String> {
     Some(spelt(text.as_bytes()))
 }
 
-fn numbers(list: &List<Lines>, path: &[u8], is_dir: bool, case: Case) -> String {
+fn numbers(list: &List<Lines<false>>, path: &[u8], is_dir: bool, case: Case) -> String {
     let start = path.iter().rposition(|&byte| byte == b'/').map(|slash| slash + 1);
     let base = list.base.as_ref().map_or(0, |base| base.len());
     let start = start.filter(|&start| start >= base);
@@ -243,15 +238,15 @@ fn numbers(list: &List<Lines>, path: &[u8], is_dir: bool, case: Case) -> String 
 
 /// The lists of ignore files, two fields for each; `None` where a line has to be read as one of an ignore file, which is the
 /// business of the crate's caller.
-fn lists_of(files: &[Field], lines: &Lines) -> Option<Vec<List<Lines>>> {
+fn lists_of<const AS_GIT: bool>(files: &[Field]) -> Option<Vec<List<Lines<AS_GIT>>>> {
     let list = |file: &[Field]| {
         let bytes = file[1].as_deref()?;
-        let is_ended = |line: &[u8]| line.ends_with(b" ") || line.ends_with(b"\r") || lines.as_git && line.contains(&0);
+        let is_ended = |line: &[u8]| line.ends_with(b" ") || line.ends_with(b"\r") || AS_GIT && line.contains(&0);
         let is_more = |line: &[u8]| line.starts_with(b"#") || is_ended(line);
         if bytes.starts_with(b"\xef\xbb\xbf") || lines_of(bytes).any(is_more) {
             return None;
         }
-        let mut list = List::from_bytes(bytes, "file".into(), None, lines.clone());
+        let mut list = List::from_bytes(bytes, "file".into(), None, Lines);
         list.base = file[0].as_deref().map(Into::into);
         Some(list)
     };
@@ -259,13 +254,13 @@ fn lists_of(files: &[Field], lines: &Lines) -> Option<Vec<List<Lines>>> {
 }
 
 /// Which line of which list it is, both from 1.
-fn numbered(lists: &[List<Lines>], list: &List<Lines>, mapping: &Mapping<()>) -> String {
+fn numbered<T: search::Pattern>(lists: &[List<T>], list: &List<T>, mapping: &Mapping<T::Value>) -> String {
     let at = lists.iter().position(|it| std::ptr::eq(it, list)).map_or(0, |at| at + 1);
     format!("{at}:{}", mapping.sequence_number)
 }
 
 fn decided(fields: &[Field]) -> Option<String> {
-    let (case, lists) = (case_of(fields.first()?), lists_of(fields.get(2..)?, &LINES)?);
+    let (case, lists) = (case_of(fields.first()?), lists_of::<false>(fields.get(2..)?)?);
     let indices: Vec<_> = lists.iter().map(Index::new).collect::<Option<_>>()?;
     let mut text = String::new();
     for line in lines_of(fields.get(1)?.as_deref()?) {
@@ -283,22 +278,22 @@ fn decided(fields: &[Field]) -> Option<String> {
 }
 
 /// Which line decides about a path in a work tree, of the files in the fields from `first` on.
-fn decided_in_tree(fields: &[Field], first: usize, lines: &Lines) -> Option<String> {
-    let lists = lists_of(fields.get(first..)?, lines)?;
+fn decided_in_tree<const AS_GIT: bool>(fields: &[Field], first: usize) -> Option<String> {
+    let lists = lists_of::<AS_GIT>(fields.get(first..)?)?;
     let (path, is_dir) = below_top(fields.get(first - 1)?.as_deref()?)?;
-    let laid_out = if lines.as_git { Lists::as_git(&lists) } else { Lists::new(&lists) };
-    let found = laid_out.decide_in_tree(path.into(), is_dir, case_of(&fields[0]));
+    let found = Lists::new(&lists).decide_in_tree(path.into(), is_dir, case_of(&fields[0]));
     Some(found.map_or("\\N".to_string(), |(list, mapping)| numbered(&lists, list, mapping)))
 }
 
 // ---- questions
 
 /// The answer to a question; `None` where the crate has no such call. Files that are read as Git does are those of work trees.
-fn answer(subject: &[u8], fields: &[Field], lines: &Lines) -> Option<String> {
+fn answer(subject: &[u8], fields: &[Field], is_as_git: bool) -> Option<String> {
     let bytes = |at: usize| fields.get(at)?.as_deref();
     match subject {
-        b"trees" => decided_in_tree(fields, 2, lines),
-        _ if lines.as_git => None,
+        b"trees" if is_as_git => decided_in_tree::<true>(fields, 2),
+        _ if is_as_git => None,
+        b"trees" => decided_in_tree::<false>(fields, 2),
         b"matching" => Some(text_matched(bytes(1)?, bytes(2)?, mode_of(&fields[0])?)),
         b"values" => line_matched(bytes(1)?, bytes(2)?, mode_of(&fields[0])?),
         b"reading" => Some(pattern_read(&fields[0], bytes(1)?)),
@@ -315,7 +310,7 @@ fn answer(subject: &[u8], fields: &[Field], lines: &Lines) -> Option<String> {
         b"stripping" => stripped(fields),
         b"listed" => listed(fields),
         b"decided" => decided(fields),
-        b"trees_told" => decided_in_tree(fields, 3, lines),
+        b"trees_told" => decided_in_tree::<false>(fields, 3),
         _ => None,
     }
 }
@@ -326,7 +321,7 @@ const MOST_SIGNS: usize = 1 << 18;
 fn main() -> io::Result<()> {
     // (one call is meant to panic)
     panic::set_hook(Box::new(|_| ()));
-    let lines = Lines { as_git: env::args().nth(1).as_deref() == Some("as-git") };
+    let is_as_git = env::args().nth(1).as_deref() == Some("as-git");
     let mut output = io::stdout().lock();
     for line in io::stdin().lock().split(b'\n') {
         let line = line?;
@@ -337,7 +332,7 @@ fn main() -> io::Result<()> {
         let mut parts = line.split(|byte| *byte == b'\t');
         let subject = parts.next().unwrap_or_default();
         let fields: Vec<Field> = parts.map(read).collect();
-        writeln!(output, "{}", answer(subject, &fields, &lines).unwrap_or("?".to_string()))?;
+        writeln!(output, "{}", answer(subject, &fields, is_as_git).unwrap_or("?".to_string()))?;
     }
     Ok(())
 }

@@ -1,30 +1,16 @@
-//! Which pattern decides about a path: in a work tree, over the lists of several files, or of one list with an index. The other
-//! crate has no such calls.
+//! Which pattern decides about a path: in a work tree, over the lists of several files ([`Lists`]), or of one list with an index
+//! ([`Index`]). The other crate has no such calls.
 //!
 //! ```
-//! use gix_glob::decide::{Index, Lists};
+//! use gix_glob::decide::{IgnoreLines, Index, Lists};
 //! use gix_glob::pattern::Case;
-//! use gix_glob::search::{self, pattern::{List, Mapping}};
+//! use gix_glob::search::pattern::List;
 //! use std::path::Path;
-//! # #[derive(Clone, PartialEq, Eq, Debug, Hash, PartialOrd, Ord, Default)]
-//! # struct Lines;
-//! # impl search::Pattern for Lines {
-//! #     type Value = ();
-//! #     fn bytes_to_patterns(&self, bytes: &[u8], _source: &Path) -> Vec<Mapping<()>> {
-//! #         let lines = bytes.split(|&byte| byte == b'\n').zip(1..);
-//! #         lines
-//! #             .filter_map(|(line, sequence_number)| {
-//! #                 let pattern = gix_glob::Pattern::from_bytes(line)?;
-//! #                 Some(Mapping { pattern, value: (), sequence_number })
-//! #             })
-//! #             .collect()
-//! #     }
-//! # }
 //!
 //! let root = Some(Path::new("/repo"));
 //! let lists = [
-//!     List::from_bytes(b"build/\n*.log", "/repo/.gitignore".into(), root, Lines),
-//!     List::from_bytes(b"!keep.log", "/repo/src/.gitignore".into(), root, Lines),
+//!     List::from_bytes(b"build/\n*.log", "/repo/.gitignore".into(), root, IgnoreLines),
+//!     List::from_bytes(b"!keep.log", "/repo/src/.gitignore".into(), root, IgnoreLines),
 //! ];
 //! let index = Index::new(&lists[0]).unwrap();
 //! let last = index.last_match("deep/debug.log".into(), false, Case::Sensitive);
@@ -49,14 +35,25 @@ use crate::pattern::Case;
 use crate::search::Pattern;
 use crate::search::pattern::{List, Mapping};
 
-/// The lines of an ignore file, as Git reads them: a parser for [`List`]s, which [`Lists::as_git`] decides by.
+/// Whose reading of a line counts, and of what its pattern matches. A parser tells it of its patterns ([`Pattern::READING`]), so
+/// [`Lists`] and an [`Index`] can't take patterns of one for those of the other.
+#[derive(Clone, Copy, PartialEq, Eq, Debug, Hash, PartialOrd, Ord, Default)]
+pub enum Reading {
+    /// That of the other crate: [`crate::Pattern::from_bytes`], and [`crate::Pattern::matches_repo_relative_path`].
+    #[default]
+    Crate,
+    /// Git's own: [`crate::Pattern::from_git_line`], and [`crate::Pattern::matches_path_as_git`].
+    Git,
+}
+
+/// The lines of an ignore file, as Git reads them: a parser for [`List`]s, whose patterns match as Git has it, too.
 ///
 /// ```
 /// use gix_glob::decide::{IgnoreLines, Lists};
 /// use gix_glob::{pattern::Case, search::pattern::List};
 ///
 /// let list = [List::from_bytes(b"# objects\n*.o\n!keep.o \n", ".gitignore".into(), None, IgnoreLines)];
-/// let lists = Lists::as_git(&list);
+/// let lists = Lists::new(&list);
 /// let decided = lists.decide_in_tree("src/keep.o".into(), false, Case::Sensitive).unwrap().1;
 /// assert_eq!((decided.sequence_number, decided.pattern.is_negative()), (3, true));
 /// ```
@@ -65,6 +62,8 @@ pub struct IgnoreLines;
 
 impl Pattern for IgnoreLines {
     type Value = ();
+
+    const READING: Reading = Reading::Git;
 
     fn bytes_to_patterns(&self, bytes: &[u8], _source: &Path) -> Vec<Mapping<()>> {
         let lines = library::ignore_lines(bytes);
@@ -75,25 +74,18 @@ impl Pattern for IgnoreLines {
 }
 
 /// Lists of patterns, laid out once for many questions. A later list comes after an earlier one.
+///
+/// Those of 24 patterns or more are prepared, as an [`Index`] is, so that a question costs little also among thousands of them.
 pub struct Lists<'a, T: Pattern> {
     lists: &'a [List<T>],
     laid_out: library::Lists<'a>,
 }
 
 impl<'a, T: Pattern> Lists<'a, T> {
-    /// Lays lists out: files of excludes first, then that of the top, then those of the folders on the way down.
+    /// Lays lists out: files of excludes first, then that of the top, then those of the folders on the way down. Their patterns match
+    /// as their parser reads ([`Pattern::READING`]).
     pub fn new(lists: &'a [List<T>]) -> Self {
-        Lists::by(lists, library::AS_CRATE)
-    }
-
-    /// The same, where patterns match as Git has it ([`crate::Pattern::matches_path_as_git`]). Read them by
-    /// [`crate::Pattern::from_git_line`].
-    pub fn as_git(lists: &'a [List<T>]) -> Self {
-        Lists::by(lists, library::AS_GIT)
-    }
-
-    fn by(lists: &'a [List<T>], reading: u32) -> Self {
-        let texts = lists.iter().map(|list| (base_of(list), parts_of(list, reading)));
+        let texts = lists.iter().map(|list| (base_of(list), parts_of(list)));
         Lists { lists, laid_out: library::Lists::new(texts) }
     }
 
@@ -101,10 +93,11 @@ impl<'a, T: Pattern> Lists<'a, T> {
     ///
     /// The topmost folder above the path that is ignored decides about the path, by the pattern that ignores the folder. Where no
     /// folder above it is ignored, the last pattern that matches the path decides. The path is ignored unless that pattern is
-    /// negative.
+    /// [negative](crate::Pattern::is_negative).
     ///
     /// The path is told from the top on, with single slashes between its parts; about one that is empty, or has a slash at its
-    /// front or end, or two in a row, nothing decides. A list whose base is neither empty nor ends in a slash says nothing.
+    /// front or end, or two in a row, nothing decides. A list whose [`base`](List::base) is neither empty nor ends in a slash says
+    /// nothing.
     pub fn decide_in_tree(
         &self,
         path: &BStr,
@@ -130,19 +123,10 @@ pub struct Index<'a, T: Pattern> {
 }
 
 impl<'a, T: Pattern> Index<'a, T> {
-    /// The index of a list; `None` where it has 2^32 patterns or more.
+    /// The index of a list, whose patterns match as its parser reads; `None` where it has 2^32 patterns or more.
     pub fn new(list: &'a List<T>) -> Option<Self> {
-        Index::by(list, library::AS_CRATE)
-    }
-
-    /// The same, where patterns match as Git has it, as for [`Lists::as_git`].
-    pub fn as_git(list: &'a List<T>) -> Option<Self> {
-        Index::by(list, library::AS_GIT)
-    }
-
-    fn by(list: &'a List<T>, reading: u32) -> Option<Self> {
         // what says nothing has no patterns
-        let patterns = if is_folder(base_of(list)) { parts_of(list, reading) } else { Box::default() };
+        let patterns = if is_folder(base_of(list)) { parts_of(list) } else { Box::default() };
         Some(Index { list, prepared: library::Index::new(patterns)? })
     }
 
@@ -175,8 +159,8 @@ fn is_folder(base: &[u8]) -> bool {
     base.is_empty() || base.strip_suffix(b"/").is_some_and(is_path)
 }
 
-/// The patterns of a list, of a reading, as the library takes them.
-fn parts_of<T: Pattern>(list: &List<T>, reading: u32) -> Box<[library::Parts<'_>]> {
+/// The patterns of a list as the library takes them.
+fn parts_of<T: Pattern>(list: &List<T>) -> Box<[library::Parts<'_>]> {
     let patterns = list.patterns.iter().map(|mapping| &mapping.pattern);
-    patterns.map(|it| library::Parts::new(&it.text, it.mode.bits(), it.first_wildcard_pos, reading)).collect()
+    patterns.map(|it| library::Parts::new(&it.text, it.mode.bits(), it.first_wildcard_pos, T::READING)).collect()
 }

@@ -2,7 +2,7 @@
 //!
 //! This crate has the name and the calls of `gix-glob` 0.28.0, so that a program takes it by one line of its `Cargo.toml`. Its
 //! answers come from a library that is proved: no pattern makes it crash or recurse, and a match takes work within the product
-//! of both lengths. Where it answers otherwise than that crate is in `docs/DIFFERENCES.md` of the library.
+//! of both lengths. [`decide`] is its own: which pattern of several files decides about a path.
 //!
 //! A path is decided by the patterns of a file:
 //!
@@ -29,6 +29,29 @@
 //! assert!(gix_glob::wildmatch("[a-c]*".into(), "b/x".into(), Mode::empty()));
 //! assert!(!gix_glob::wildmatch("[a-c]*".into(), "b/x".into(), wildmatch::Mode::NO_MATCH_SLASH_LITERAL));
 //! ```
+//!
+//! # What differs from the other crate
+//!
+//! The answers differ in four points:
+//!
+//! ```
+//! use gix_glob::wildmatch::Mode;
+//! use gix_glob::{decide::IgnoreLines, search::pattern::List};
+//!
+//! let matches = |pattern: &str, value: &str| gix_glob::wildmatch(pattern.into(), value.into(), Mode::empty());
+//!
+//! // the other crate gives up at a depth of 64 stars
+//! assert!(matches(&"*a".repeat(100), &"a".repeat(1000)));
+//! // behind a `[:` without `:]` it reads on at a wrong place
+//! assert!(matches("[[[:]", ":"));
+//! // an escaped member that equals the value's byte begins no range there
+//! assert!(matches(r"[\a-[:]", "a"));
+//! // the base of a list goes by the parts of its path: there each slash is kept, so this one is `a//b/`
+//! let list = List::from_bytes(b"", "/repo/a//b/.gitignore".into(), Some("/repo".as_ref()), IgnoreLines);
+//! assert_eq!(list.base, Some("a/b/".into()));
+//! ```
+//!
+//! Besides, fields of a [`Pattern`] that don't belong together can panic with debug assertions alone.
 //!
 //! # Features
 //!
@@ -58,7 +81,7 @@ pub struct Pattern {
     pub text: BString,
     /// What else was read of the line.
     pub mode: pattern::Mode,
-    /// The place of the first `*`, `?`, `[` or `\` in the text, escaped or not.
+    /// The place of the first `*`, `?`, `[` or `\` in the [`text`](Pattern::text), escaped or not.
     pub first_wildcard_pos: Option<usize>,
 }
 

@@ -9,6 +9,8 @@
 use std::marker::PhantomData;
 use std::ops::Range;
 
+use crate::decide::Reading;
+
 /// `GIX_GLOB_NONE`: no place.
 const NONE: usize = usize::MAX;
 
@@ -24,14 +26,15 @@ pub(crate) struct Parts<'a> {
     borrows: PhantomData<&'a [u8]>,
 }
 
-/// `GIX_GLOB_AS_CRATE` and `GIX_GLOB_AS_GIT`: whose reading a pattern is.
-pub(crate) const AS_CRATE: u32 = 0;
-pub(crate) const AS_GIT: u32 = 1;
-
 impl<'a> Parts<'a> {
     /// The parts of a pattern; any may stand together.
-    pub(crate) fn new(text: &'a [u8], mode: u32, place: Option<usize>, reading: u32) -> Self {
+    pub(crate) fn new(text: &'a [u8], mode: u32, place: Option<usize>, reading: Reading) -> Self {
         let first_wildcard_pos = place.unwrap_or(NONE);
+        // (`GIX_GLOB_AS_CRATE` and `GIX_GLOB_AS_GIT`)
+        let reading = match reading {
+            Reading::Crate => 0,
+            Reading::Git => 1,
+        };
         Parts { text: text.as_ptr(), text_len: text.len(), first_wildcard_pos, mode, reading, borrows: PhantomData }
     }
 }
@@ -163,7 +166,7 @@ struct LineParts {
 }
 
 /// What was read of a line.
-pub(crate) struct Reading {
+pub(crate) struct Line {
     /// Where the text lies in the line, or in the file of the line.
     pub(crate) text: Range<usize>,
     /// The bits of a pattern's mode.
@@ -173,32 +176,32 @@ pub(crate) struct Reading {
 }
 
 /// Reads a pattern line; `None` where it is blank.
-pub(crate) fn parse(line: &[u8]) -> Option<Reading> {
-    let mut parts = Parts::new(b"", 0, None, AS_CRATE);
+pub(crate) fn parse(line: &[u8]) -> Option<Line> {
+    let mut parts = Parts::new(b"", 0, None, Reading::Crate);
     // SAFETY: `line` is a slice, and `parts` is initialised, apart from it, and laid out as in the header.
     let has_pattern = unsafe { gix_glob_parse(line.as_ptr(), line.len(), &mut parts) };
-    has_pattern.then(|| reading_of(line, &parts))
+    has_pattern.then(|| line_of(line, &parts))
 }
 
 /// Reads a pattern line as Git does.
-pub(crate) fn parse_as_git(line: &[u8]) -> Reading {
-    let mut parts = Parts::new(b"", 0, None, AS_CRATE);
+pub(crate) fn parse_as_git(line: &[u8]) -> Line {
+    let mut parts = Parts::new(b"", 0, None, Reading::Crate);
     // SAFETY: as in `parse`.
     unsafe { gix_glob_parse_as_git(line.as_ptr(), line.len(), &mut parts) };
-    reading_of(line, &parts)
+    line_of(line, &parts)
 }
 
 /// The lines of an ignore file that have a pattern, as Git reads them, each with its number.
-pub(crate) fn ignore_lines(file: &[u8]) -> impl Iterator<Item = (usize, Reading)> {
+pub(crate) fn ignore_lines(file: &[u8]) -> impl Iterator<Item = (usize, Line)> {
     let mut lines = LineParts { rest: file.as_ptr(), rest_len: file.len(), number: 0 };
     std::iter::from_fn(move || {
-        let mut parts = Parts::new(b"", 0, None, AS_CRATE);
+        let mut parts = Parts::new(b"", 0, None, Reading::Crate);
         loop {
             // SAFETY: `lines` stays within the file, which is borrowed; it and `parts` are initialised, apart from each other, and
             // laid out as in the header.
             match unsafe { gix_glob_parse_ignore_line_as_git(&mut lines, &mut parts) } {
                 END => return None,
-                PATTERN => return Some((lines.number, reading_of(file, &parts))),
+                PATTERN => return Some((lines.number, line_of(file, &parts))),
                 _ => {}
             }
         }
@@ -206,10 +209,10 @@ pub(crate) fn ignore_lines(file: &[u8]) -> impl Iterator<Item = (usize, Reading)
 }
 
 /// The parts that were read of a line.
-fn reading_of(line: &[u8], parts: &Parts<'_>) -> Reading {
+fn line_of(line: &[u8], parts: &Parts<'_>) -> Line {
     // The pointer isn't read through: who slices the line by the range has it checked.
     let start = parts.text.addr().wrapping_sub(line.as_ptr().addr());
-    Reading {
+    Line {
         text: start..start.wrapping_add(parts.text_len),
         mode: parts.mode,
         first_wildcard_pos: (parts.first_wildcard_pos != NONE).then_some(parts.first_wildcard_pos),
@@ -232,17 +235,21 @@ pub(crate) fn wildmatch(pattern: &[u8], value: &[u8], mode: u8) -> bool {
 /// Whether the text of a pattern that was read matches the whole of a value.
 #[inline]
 pub(crate) fn matches(text: &[u8], pattern_mode: u32, place: Option<usize>, value: &[u8], mode: u8) -> bool {
-    let pattern = Parts::new(text, pattern_mode, place, AS_CRATE);
+    let pattern = Parts::new(text, pattern_mode, place, Reading::Crate);
     // SAFETY: `pattern` is laid out as in the header, and its text is borrowed; `value` is a slice; any modes and any place are allowed,
     // also such as don't belong to the text.
     unsafe { gix_glob_matches(&pattern, value.as_ptr(), value.len(), mode) }
 }
+
+/// From how many patterns on a list is prepared: of realistic ones the first question then saves what that costs.
+const PREPARED_FROM: usize = 24;
 
 /// Lists as the library takes them. Their texts are borrowed.
 pub(crate) struct Lists<'a> {
     lists: Vec<ListParts<'a>>,
     /// What `lists` points to: nothing of it is changed or moved any more.
     _patterns: Vec<Box<[Parts<'a>]>>,
+    _blocks: Vec<Box<[u64]>>,
 }
 
 // SAFETY: what the pointers lead to is borrowed or owned for reading alone, so any thread may read it.
@@ -251,11 +258,14 @@ unsafe impl Send for Lists<'_> {}
 unsafe impl Sync for Lists<'_> {}
 
 impl<'a> Lists<'a> {
-    /// The lists of bases and patterns.
+    /// The lists of bases and patterns. Long ones are prepared.
     pub(crate) fn new(lists: impl Iterator<Item = (&'a [u8], Box<[Parts<'a>]>)>) -> Self {
         let (bases, patterns): (Vec<&[u8]>, Vec<_>) = lists.unzip();
-        let lists = bases.iter().zip(&patterns).map(|(base, patterns)| ListParts::new(patterns, base));
-        Lists { lists: lists.collect(), _patterns: patterns }
+        let mut lists: Vec<_> =
+            bases.iter().zip(&patterns).map(|(base, patterns)| ListParts::new(patterns, base)).collect();
+        let long = lists.iter_mut().filter(|list| list.count >= PREPARED_FROM);
+        let blocks = long.filter_map(ListParts::prepare).collect();
+        Lists { lists, _patterns: patterns, _blocks: blocks }
     }
 
     /// The places of the list and of the pattern that decide about a path in a work tree.

@@ -18,13 +18,13 @@ impl Pattern {
     /// assert_eq!(pattern.first_wildcard_pos, None);
     /// ```
     pub fn from_bytes(text: &[u8]) -> Option<Self> {
-        let reading = library::parse(text)?;
-        Some(reading.pattern_of(text))
+        let line = library::parse(text)?;
+        Some(line.pattern_of(text))
     }
 
     /// Reads a pattern line as Git does. Each line has a pattern, which may be empty; `\!` and `\#` at the front keep their backslash.
-    /// [`Pattern::matches_path_as_git`] and [`decide::Lists::as_git`](crate::decide::Lists::as_git) match it so. The other crate has
-    /// no such call.
+    /// [`Pattern::matches_path_as_git`] matches it so, and so do [`Lists`](crate::decide::Lists) of a parser whose
+    /// [`READING`](crate::search::Pattern::READING) is Git's. The other crate has no such call.
     ///
     /// ```
     /// let pattern = gix_glob::Pattern::from_git_line(b"\\!foo");
@@ -48,18 +48,18 @@ impl Pattern {
         let mut line = Vec::with_capacity(text.len() + 1);
         line.push(b'!');
         line.extend_from_slice(text);
-        let reading = library::parse(&line)?;
-        line.truncate(reading.text.end);
-        line.drain(..reading.text.start);
+        let read = library::parse(&line)?;
+        line.truncate(read.text.end);
+        line.drain(..read.text.start);
         Some(Pattern {
             text: line.into(),
-            mode: Mode::from_bits_retain(reading.mode & !Mode::NEGATIVE.bits()),
-            first_wildcard_pos: reading.first_wildcard_pos,
+            mode: Mode::from_bits_retain(read.mode & !Mode::NEGATIVE.bits()),
+            first_wildcard_pos: read.first_wildcard_pos,
         })
     }
 }
 
-impl library::Reading {
+impl library::Line {
     /// The pattern that was read of these bytes.
     pub(crate) fn pattern_of(self, bytes: &[u8]) -> Pattern {
         Pattern {

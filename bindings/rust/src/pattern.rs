@@ -4,6 +4,7 @@ use std::fmt;
 use bitflags::bitflags;
 use bstr::BStr;
 
+use crate::decide::Reading;
 use crate::{Pattern, library, wildmatch};
 
 bitflags! {
@@ -52,8 +53,8 @@ impl Pattern {
     ///
     /// - `basename_start_pos` is the place after the path's last slash, or `None` where the path has no slash. A pattern that has
     ///   no slash, in front neither, is matched against what begins there.
-    /// - A pattern for directories only matches nothing unless `is_dir` is `Some(true)`.
-    /// - `Case::Fold` adds [`IGNORE_CASE`](wildmatch::Mode::IGNORE_CASE) to the mode.
+    /// - A pattern [for directories only](Mode::MUST_BE_DIR) matches nothing unless `is_dir` is `Some(true)`.
+    /// - [`Case::Fold`] adds [`IGNORE_CASE`](wildmatch::Mode::IGNORE_CASE) to the mode.
     ///
     /// ```
     /// use gix_glob::{pattern::Case, wildmatch::Mode};
@@ -114,12 +115,12 @@ impl Pattern {
     /// assert!(!Pattern::from_git_line(b"[A]").matches_path_as_git("a".into(), false, Case::Fold));
     /// ```
     pub fn matches_path_as_git(&self, path: &BStr, is_dir: bool, case: Case) -> bool {
-        let parts = library::Parts::new(&self.text, self.mode.bits(), self.first_wildcard_pos, library::AS_GIT);
+        let parts = library::Parts::new(&self.text, self.mode.bits(), self.first_wildcard_pos, Reading::Git);
         library::matches_path(&parts, path, is_dir, case == Case::Fold)
     }
 
     /// Whether the text matches the whole of a value, as [`wildmatch()`](crate::wildmatch()) answers, by a comparison where one
-    /// is enough. Of the pattern's mode `ENDS_WITH` alone counts.
+    /// is enough. Of the pattern's mode [`ENDS_WITH`](Mode::ENDS_WITH) alone counts.
     ///
     /// ```
     /// use gix_glob::wildmatch::Mode;
@@ -131,8 +132,8 @@ impl Pattern {
     ///
     /// # Panics
     ///
-    /// With debug assertions, where `first_wildcard_pos` is another place than the first `*`, `?`, `[` or `\`, or `ENDS_WITH`
-    /// stands with another text than a `*` and a literal. Without them the answer may then be wrong. No place at all is allowed
+    /// With debug assertions, where [`first_wildcard_pos`](Pattern::first_wildcard_pos) is another place than the first `*`, `?`, `[`
+    /// or `\`, or [`ENDS_WITH`](Mode::ENDS_WITH) stands with another text than a `*` and a literal. Without them the answer may then be wrong. No place at all is allowed
     /// with any text, which is then compared.
     #[inline]
     pub fn matches(&self, value: &BStr, mode: wildmatch::Mode) -> bool {

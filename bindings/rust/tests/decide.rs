@@ -4,14 +4,18 @@ mod lines;
 use std::path::Path;
 use std::thread;
 
-use gix_glob::decide::{Index, Lists};
+use gix_glob::decide::{IgnoreLines, Index, Lists};
 use gix_glob::pattern::Case;
-use gix_glob::search::pattern::List;
+use gix_glob::search::{Pattern, pattern::List};
 use lines::Lines;
 
 /// A file of a folder, which is told with a slash at its end.
+fn list_by<T: Pattern>(parser: T, folder: &str, lines: &str) -> List<T> {
+    List::from_bytes(lines.as_bytes(), format!("{folder}.gitignore").into(), Some(Path::new("")), parser)
+}
+
 fn list(folder: &str, lines: &str) -> List<Lines> {
-    List::from_bytes(lines.as_bytes(), format!("{folder}.gitignore").into(), Some(Path::new("")), Lines)
+    list_by(Lines, folder, lines)
 }
 
 fn is_decided(lists: &[List<Lines>], path: &str, is_dir: bool) -> bool {
@@ -54,28 +58,48 @@ fn texts(bytes: &str, most: usize) -> Vec<String> {
 }
 
 /// Under negative lines no folder is ignored, so in a tree, too, the last line that matches the path decides.
-#[test]
-fn an_index_says_of_each_base_what_lists_say() {
-    let mut list = list("", "!s\n!/a\n!a/s/\n!S*");
+fn an_index_says_what_lists_say<T: Pattern>(mut list: List<T>) {
     for base in texts("sA/", 4) {
         list.base = Some(base.as_str().into());
-        let lists = std::slice::from_ref(&list);
-        let pairs =
-            [(Index::new(&list).unwrap(), Lists::new(lists)), (Index::as_git(&list).unwrap(), Lists::as_git(lists))];
+        let (index, lists) = (Index::new(&list).unwrap(), Lists::new(std::slice::from_ref(&list)));
         let mut has_answer = false;
         for path in texts("Sa/", 5) {
             let path = path.as_bytes().into();
             for (is_dir, case) in [(false, Case::Fold), (true, Case::Fold), (true, Case::Sensitive)] {
-                for (index, lists) in &pairs {
-                    let last = index.last_match(path, is_dir, case);
-                    let decides = lists.decide_in_tree(path, is_dir, case).map(|(_, mapping)| mapping);
-                    assert_eq!(last, decides, "{base:?} {path:?} {is_dir} {case:?}");
-                    has_answer |= last.is_some();
-                }
+                let last = index.last_match(path, is_dir, case);
+                let decides = lists.decide_in_tree(path, is_dir, case).map(|(_, mapping)| mapping);
+                assert_eq!(last, decides, "{base:?} {path:?} {is_dir} {case:?}");
+                has_answer |= last.is_some();
             }
         }
         let is_folder = base.is_empty() || base.ends_with('/') && !base.starts_with('/') && !base.contains("//");
         assert_eq!(has_answer, is_folder, "{base:?}");
+    }
+}
+
+#[test]
+fn an_index_says_of_each_base_what_lists_say() {
+    let lines = "!s\n!/a\n!a/s/\n!S*\n";
+    an_index_says_what_lists_say(list("", lines));
+    an_index_says_what_lists_say(list_by(IgnoreLines, "", lines));
+    // (so many that lists prepare them)
+    an_index_says_what_lists_say(list("", &lines.repeat(10)));
+}
+
+/// The stars behind a literal front begin a pattern by Git's reading alone.
+#[test]
+fn patterns_match_as_their_parser_reads() {
+    fn decides<T: Pattern>(lists: &[List<T>], path: &str) -> bool {
+        let (path, case) = (path.as_bytes().into(), Case::Sensitive);
+        let last = Index::new(&lists[0]).unwrap().last_match(path, false, case).is_some();
+        assert_eq!(last, Lists::new(lists).decide_in_tree(path, false, case).is_some());
+        last
+    }
+    for others in [0, 100] {
+        let lines = "a**/b\n".to_string() + &"other\n".repeat(others);
+        let (by_crate, by_git) = ([list("", &lines)], [list_by(IgnoreLines, "", &lines)]);
+        assert!(decides(&by_git, "ax/y/b") && !decides(&by_crate, "ax/y/b"));
+        assert!(decides(&by_git, "ax/b") && decides(&by_crate, "ax/b"));
     }
 }
 

@@ -33,12 +33,19 @@ use std::hash::Hash;
 use std::io;
 use std::path::{Path, PathBuf};
 
+use crate::decide::Reading;
+
 pub mod pattern;
 
 /// A parser of files: it turns bytes into patterns, each with a value, such as the attributes that a line gives.
+/// [`IgnoreLines`](crate::decide::IgnoreLines) is one.
 pub trait Pattern: Clone + PartialEq + Eq + Debug + Hash + Ord + PartialOrd + Default {
     /// What belongs to a pattern.
     type Value: PartialEq + Eq + Debug + Hash + Ord + PartialOrd + Clone;
+
+    /// Whose reading the patterns are, by which [`decide`](crate::decide) matches them: the crate's, unless the parser tells another
+    /// one. The other crate has no such constant.
+    const READING: Reading = Reading::Crate;
 
     /// The patterns of a file, in the order of its lines. Lines that can't be read are left out. `source` names the file.
     fn bytes_to_patterns(&self, bytes: &[u8], source: &Path) -> Vec<pattern::Mapping<Self::Value>>;

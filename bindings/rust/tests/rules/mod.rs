@@ -1,4 +1,4 @@
-//! The rules of docs/MATCHING.md and of "Reading a pattern" in docs/PATTERNS.md, written down as plainly as they can be: a
+//! The rules of the module `wildmatch` and of `Pattern::from_bytes`, written down as plainly as they can be: a
 //! pattern is read into tokens, and every way to cut the value is tried.
 
 pub const PATH: u8 = 1;
