@@ -38,6 +38,7 @@ NO_OBJECT = re.compile(rb"fatal: (bad object HEAD|unable to read [0-9a-f]+|'git 
 UNREAD = {
     "relative files of the environment": b"is a relative path of a file of configuration",
     "a relative GIT_COMMON_DIR": b"GIT_COMMON_DIR is a relative path",
+    "a GIT_CONFIG_SYSTEM over which Git writes": b"a path that leads above its front",
     "a reference that may lead on": b"no condition 'onbranch' can be answered",
 }
 UNKNOWN_FOLDER = re.compile(rb"fatal: failed to expand user dir in: '%\(prefix\)/[^\n]*\n")
