@@ -26,6 +26,7 @@ static const struct row {
 
 /* What names nothing below a root. */
 static const struct row none[] = {
+    { "", "/", "/x" },
     { "", "/abs/src", "/abs/x" },
     { "", "src//sub", "src//x" },
     { "", "a/../b", "a/../x" },
