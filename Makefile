@@ -73,11 +73,12 @@ install-programs: checked all
 	@$(call programs,put)
 	@$(INSTALL) -m 644 -t "$(DESTDIR)$(docdir)" $(notes:%=$(tree)/%)
 
-# (where the header and the library lie is told in two files; what lies at PREFIX as in the archive may be moved with it)
+# (pkg-config gives the static library, also by the file of release 0.2.0; where the header and the library lie is told in two files; what lies at PREFIX as in the archive may be moved with it)
 install-library: checked all
 	@$(call library,put)
 	@cd "$(DESTDIR)$(libdir)" && for file in libgix_glob_c.so.*; do ln -sf "$$file" libgix_glob_c.so; done
 	@sed -i -e 's|^prefix=.*|prefix=$(prefix)|' -e 's|^includedir=.*|includedir=$(includedir)|' -e 's|^libdir=.*|libdir=$(libdir)|' \
+	    -e 's|-lgix_glob_c$$|-l:libgix_glob_c.a|' \
 	    "$(DESTDIR)$(libdir)/pkgconfig/gix_glob.pc"
 	@[ "$(libdir) $(includedir)" = "$(prefix)/lib $(prefix)/include" ] || \
 	    sed -i 's|^get_filename_component(_gix_glob_includedir .*|set(_gix_glob_includedir "$(includedir)")|' \
