@@ -106,9 +106,11 @@ impl<'a> PathMatcher<'a> {
         if !self.verbose {
             return Ok(());
         }
-        if let Some(place) = self.list.which(path) {
-            text.extend_from_slice(word_at(self.words, place))?;
-        }
+        // (some element meets what is matched)
+        let Some(place) = self.list.which(path) else {
+            return Ok(());
+        };
+        text.extend_from_slice(word_at(self.words, place))?;
         text.push(self.behind_word())?;
         Ok(())
     }
