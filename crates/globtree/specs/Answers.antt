@@ -11,7 +11,10 @@ use Rattle.byte_streams.specs.Records.{AnswersAll}
 use Rattle.glob_lists.specs.Rules.{by_git}
 use Rattle.glob_trees.specs.Ways.{Folder}
 use Rattle.pathspecs.specs.Leading.{word_front, word_leads}
+use Rattle.pathspecs.specs.declared.settings.Settings.{Settings}
+use Rattle.pathspecs.specs.Reading.{AreRead}
 use Rattle.git_paths.specs.declared.quoting.Quoting.{Quoting}
+use Rattle.git_paths.specs.declared.quoting.Quoting.TheVariants.{Full}
 use Rattle.git_paths.specs.declared.standpoint.Standpoint.{Standpoint}
 use Rattle.tree_answers.specs.Lines.{behind}
 use Rattle.tree_commands.specs.Answering.{TextOfNamed, TextOfPaths, Writes}
@@ -22,7 +25,10 @@ use Rattle.globtree.specs.declared.words.Command.{Command}
 use Rattle.globtree.specs.declared.words.Command.TheVariants as command
 use Rattle.globtree.specs.declared.words.check_attr.CheckAttr.{CheckAttr}
 use Rattle.globtree.specs.declared.words.check_ignore.CheckIgnore.{CheckIgnore}
+use Rattle.globtree.specs.declared.matching.PathMatcher.{PathMatcher}
+use Rattle.globtree.specs.declared.words.match_pathspec.MatchPathspec.{MatchPathspec}
 use Rattle.globtree.specs.declared.words.options.Options.{Options}
+use Rattle.globtree.specs.Matching.{IsWholeText}
 use Rattle.globtree.specs.Running.{flags_of, form_by}
 use Rattle.globtree.specs.Tracked.{IsOfIndex}
 
@@ -97,6 +103,19 @@ pub record AnswersAttr (options : Options) (asked : CheckAttr) (left rest old ne
   pub read : asked.stdin ≡ true → ReadsStates query left rest old new
   pub told : asked.stdin ≡ false → TellsStates query (bytes_of asked.paths.items) old new
 
+-- What `match-pathspec` is asked was answered, by the list that its words are, whatever the settings say. Paths are told from the top, and none
+-- of them from the root. The status says whether one is matched.
+pub record AnswersMatch (asked : MatchPathspec) (status : ℕ) (left rest old new : Option (List ℕ)) : Type 0 where
+  pub matcher : PathMatcher
+  pub settings : Settings
+  pub from : (matcher.standpoint.now.is_inside ≡ true) × (matcher.standpoint.now.here.items ≡ []) × (matcher.standpoint.now.top.items ≡ 0 ∷ [])
+  pub list : AreRead matcher.standpoint.now settings (bytes_of asked.pathspecs.items) matcher.list
+  pub words : bytes_of matcher.words.now ≡ bytes_of asked.pathspecs.items
+  pub asks : (matcher.verbose ≡ asked.verbose) × (matcher.form ≡ form_by asked.nul Full)
+  pub is_any : Bool
+  pub ends : status ≡ (if is_any then 0 else 1)
+  pub read : Run (ReadsWhole left rest) (AnswersAll (IsWholeText matcher is_any) (behind matcher.form 10)) (Appends old new)
+
 -- A command was answered. What the others write is told by no definition.
 abbrev pub AnswersCommand : Options → Command → ℕ → Option (List ℕ) → Option (List ℕ) → Option (List ℕ) → Option (List ℕ) → Type 0
 AnswersCommand options (command.CheckIgnore asked) status left rest old new = AnswersIgnore options asked status left rest old new
@@ -104,4 +123,5 @@ AnswersCommand options (command.CheckAttr asked) status left rest old new = Answ
 AnswersCommand options (command.Write text) status left rest old new = Appends old new text.now
 AnswersCommand options (command.Config asked) status left rest old new = Unit {0}
 AnswersCommand options (command.Files asked) status left rest old new = Unit {0}
+AnswersCommand options (command.MatchPathspec asked) status left rest old new = AnswersMatch asked status left rest old new
 AnswersCommand options (command.Status asked) status left rest old new = Unit {0}

@@ -1,3 +1,4 @@
 pub mod Answers
+pub mod Matching
 pub mod Running
 pub mod Tracked

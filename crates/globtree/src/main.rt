@@ -1,5 +1,5 @@
 //! Says of the paths of a work tree what Git says: which line of which file ignores them, which files aren't ignored, and which
-//! states attributes have for paths; which files aren't tracked; and what the configuration says.
+//! states attributes have for paths; which files aren't tracked; what the configuration says; and which paths pathspecs match.
 #![tactic(auto)]
 
 mod check_attr;
@@ -11,6 +11,8 @@ mod index_use;
 mod list_files;
 mod list_tracked;
 mod listing;
+mod match_pathspec;
+mod matching;
 mod moving;
 mod opening;
 mod outcomes;

@@ -1,27 +1,38 @@
-//! The variables of the environment by which Git reads pathspecs otherwise: none that is true is taken.
+//! The variables of the environment by which Git reads pathspecs otherwise.
 ghost use Rattle.std.specs.Prelude.{◌≡◌, [], IfOk, IsTrue, OnOk, false};
 ghost use Rattle.std.specs.Io.KnownBytes.{Consumes};
 ghost use Rattle.byte_streams.specs.Watched.{has_failed, inner};
 
 use crate::fault::{Fault, Result};
 use byte_streams::Watched;
+use pathspecs::Settings;
 use std::alloc::Global;
 use std::io;
 use std::io::Read;
 use std::rt::Env;
 use system_files::is_true;
 
-/// The variables.
-const NAMES: [&str; 4] = [
-    "GIT_LITERAL_PATHSPECS",
-    "GIT_GLOB_PATHSPECS",
-    "GIT_NOGLOB_PATHSPECS",
-    "GIT_ICASE_PATHSPECS",
-];
+const LITERAL: &str = "GIT_LITERAL_PATHSPECS";
+
+const GLOB: &str = "GIT_GLOB_PATHSPECS";
+
+const NOGLOB: &str = "GIT_NOGLOB_PATHSPECS";
+
+const ICASE: &str = "GIT_ICASE_PATHSPECS";
+
+/// What the variables say.
+pub(crate) fn settings_of<R: Env>(rt: &R, alloc: Global) -> Result<Settings> {
+    Ok(Settings {
+        literal: is_true(rt, alloc, LITERAL)?,
+        glob: is_true(rt, alloc, GLOB)?,
+        noglob: is_true(rt, alloc, NOGLOB)?,
+        icase: is_true(rt, alloc, ICASE)?,
+    })
+}
 
 /// Refuses a variable that is true, and one that is no boolean, as Git does where a path is told. The command is named.
 pub(crate) fn refuse_settings<R: Env>(rt: &R, alloc: Global, command: &str) -> Result<()> {
-    'names: for name in NAMES {
+    'names: for name in [LITERAL, GLOB, NOGLOB, ICASE] {
         if is_true(rt, alloc, name)? {
             return Err(Fault::told(format!(in alloc;
                 "{name} is true: {command} takes no such setting"

@@ -9,6 +9,7 @@ use crate::check_attr::check_attr;
 use crate::check_ignore::check_ignore;
 use crate::fault::{Fault, Result};
 use crate::list_files::list_files;
+use crate::match_pathspec::match_pathspec;
 use crate::outcomes::ANSWERED;
 use crate::show_config::show_config;
 use crate::show_status::show_status;
@@ -75,6 +76,7 @@ fn answer_command<R: Files + Env + Clock + Eprint + AllocGlobal + Clone + Drop, 
         Command::CheckAttr(asked) => check_attr(rt, alloc, options, asked, input, output),
         Command::Config(asked) => show_config(rt, alloc, options, asked, output),
         Command::Files(asked) => list_files(rt, alloc, options, asked, shows_progress, output),
+        Command::MatchPathspec(asked) => match_pathspec(rt, alloc, asked, input, output),
         Command::Status(asked) => show_status(rt, alloc, options, asked, shows_progress, output),
     }
 }

@@ -7,6 +7,7 @@ mod command_words;
 pub(crate) mod config;
 pub(crate) mod fault;
 pub(crate) mod files;
+pub(crate) mod match_pathspec;
 mod meant;
 mod option_words;
 mod options;
@@ -21,6 +22,7 @@ use crate::words::command_name::CommandName;
 use crate::words::config::ShowConfig;
 use crate::words::fault::WordFault;
 use crate::words::files::ListFiles;
+use crate::words::match_pathspec::MatchPathspec;
 pub(crate) use crate::words::options::Options;
 use crate::words::options::{Asked, Front, front_of};
 use crate::words::status::ShowStatus;
@@ -40,6 +42,8 @@ pub(crate) enum Command<'a> {
     Config(ShowConfig<'a>),
     /// List files.
     Files(ListFiles<'a>),
+    /// Tell which paths pathspecs match.
+    MatchPathspec(MatchPathspec<'a>),
     /// Tell which files aren't tracked, and which are ignored.
     Status(ShowStatus),
 }
@@ -84,6 +88,7 @@ fn command_of(alloc: Global, words: &[String]) -> Result<Command<'_>, WordFault<
         CommandName::CheckAttr => Ok(Command::CheckAttr(CheckAttr::read(alloc, rest)?)),
         CommandName::Config => Ok(Command::Config(ShowConfig::read(alloc, rest)?)),
         CommandName::Files => Ok(Command::Files(ListFiles::read(alloc, rest)?)),
+        CommandName::MatchPathspec => Ok(Command::MatchPathspec(MatchPathspec::read(alloc, rest)?)),
         CommandName::Status => Ok(Command::Status(ShowStatus::read(alloc, rest)?)),
     }
 }

@@ -3,7 +3,14 @@
 use crate::words::texts;
 
 /// The names of the commands.
-pub(crate) const COMMANDS: [&str; 5] = ["check-ignore", "check-attr", "config", "files", "status"];
+pub(crate) const COMMANDS: [&str; 6] = [
+    "check-ignore",
+    "check-attr",
+    "config",
+    "files",
+    "match-pathspec",
+    "status",
+];
 
 /// A command, by its name.
 #[derive(Clone, Copy, Debug)]
@@ -16,6 +23,8 @@ pub(crate) enum CommandName {
     Config,
     /// `files`
     Files,
+    /// `match-pathspec`
+    MatchPathspec,
     /// `status`
     Status,
 }
@@ -28,6 +37,7 @@ impl CommandName {
             "check-attr" => Some(CommandName::CheckAttr),
             "config" => Some(CommandName::Config),
             "files" => Some(CommandName::Files),
+            "match-pathspec" => Some(CommandName::MatchPathspec),
             "status" => Some(CommandName::Status),
             _ => None,
         }
@@ -40,6 +50,7 @@ impl CommandName {
             CommandName::CheckAttr => "check-attr",
             CommandName::Config => "config",
             CommandName::Files => "files",
+            CommandName::MatchPathspec => "match-pathspec",
             CommandName::Status => "status",
         }
     }
@@ -56,6 +67,7 @@ impl CommandName {
             CommandName::CheckAttr => texts::check_attr::HELP,
             CommandName::Config => texts::config::HELP,
             CommandName::Files => texts::files::HELP,
+            CommandName::MatchPathspec => texts::match_pathspec::HELP,
             CommandName::Status => texts::status::HELP,
         }
     }

@@ -11,6 +11,7 @@ commands:
   check-attr         which states attributes have for paths
   files              the files that aren't ignored, or are tracked
   status             which files aren't tracked, and which are ignored
+  match-pathspec     which of the paths that are read pathspecs match
   config             what was read of Git's configuration, and from where
 
 options, before the command:
