@@ -1,5 +1,5 @@
 -- The folder above is asked for first, then the path by itself.
-use Rattle.std.proofs.Common.{sym, ◌∙◌}
+use Rattle.std.proofs.Common.{sym, ◌∙◌, rules}
 use Rattle.glob_explain.specs.Causes.{seen}
 use Rattle.glob_explain.proofs.lemmas.Signs.{negative_here, positive_here}
 use Rattle.glob_explain.proofs.cause.cause_of.Goals as goal
@@ -14,7 +14,8 @@ pub returns-then-is_negative : goal.returns-then-is_negative
 returns-then-is_negative c =
     let there = c.in-Some-decide.ensures.inside in
     let sign = sym (c.is_negative.ensures there.0 there.1) ∙ c.if-is_negative.true in
-    (rw c.in_default.is at (c.ignored_folder_by.ensures.exact tt), c.in-Some-decide.ensures.exact tt, negative_here (seen c.args.lists.now) c.in-Some-decide.pair there sign)
+    let negative = negative_here (seen c.args.lists.now) c.in-Some-decide.pair there sign in
+    (rw c.in_default.is at (c.ignored_folder_by.ensures.exact tt), c.in-Some-decide.ensures.exact tt, search rules)
 
 pub returns : goal.returns
 returns c =

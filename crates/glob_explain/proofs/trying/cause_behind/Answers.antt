@@ -38,7 +38,7 @@ returns-clause-same c =
     let held = c.index-lists-at.result in
     let old = (get_or c.args.lists.now c.args.at held).patterns in
     let within : c.args.at < length c.args.lists.now = omega arith in
-    let count : c.len-count.result ≡ length old.items = c.len-count.ensures ∙ old.ok.0 in
+    let count : c.len-count.result ≡ length old.items = grind (arith, old.ok.0) in
     let cut : c.truncate.new.self.items ≡ old.items = c.truncate.ensures.items
     ∙ (ap (λ list. take c.len-count.result list.patterns.items) (held_changed c.args.lists.now c.args.at held c.index-lists-at.is within c.append.new.self _ (entries_with at) c.index-lists-at-2.result)
     ∙ (ap (take c.len-count.result) c.in_ok-append.ensures.items
