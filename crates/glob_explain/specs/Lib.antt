@@ -1,0 +1,3 @@
+pub mod Causes
+pub mod Trying
+pub mod Private
