@@ -1,3 +1,4 @@
 pub mod FrontLemmas
 pub mod IndexLemmas
 pub mod InputLemmas
+pub mod WayLemmas

@@ -3,7 +3,14 @@
 use crate::words::texts;
 
 /// The names of the commands.
-pub(crate) const COMMANDS: [&str; 5] = ["check-ignore", "check-attr", "config", "files", "status"];
+pub(crate) const COMMANDS: [&str; 6] = [
+    "check-ignore",
+    "check-attr",
+    "config",
+    "explain",
+    "files",
+    "status",
+];
 
 /// A command, by its name.
 #[derive(Clone, Copy, Debug)]
@@ -14,6 +21,8 @@ pub(crate) enum CommandName {
     CheckAttr,
     /// `config`
     Config,
+    /// `explain`
+    Explain,
     /// `files`
     Files,
     /// `status`
@@ -27,6 +36,7 @@ impl CommandName {
             "check-ignore" => Some(CommandName::CheckIgnore),
             "check-attr" => Some(CommandName::CheckAttr),
             "config" => Some(CommandName::Config),
+            "explain" => Some(CommandName::Explain),
             "files" => Some(CommandName::Files),
             "status" => Some(CommandName::Status),
             _ => None,
@@ -39,6 +49,7 @@ impl CommandName {
             CommandName::CheckIgnore => "check-ignore",
             CommandName::CheckAttr => "check-attr",
             CommandName::Config => "config",
+            CommandName::Explain => "explain",
             CommandName::Files => "files",
             CommandName::Status => "status",
         }
@@ -55,6 +66,7 @@ impl CommandName {
             CommandName::CheckIgnore => texts::check_ignore::HELP,
             CommandName::CheckAttr => texts::check_attr::HELP,
             CommandName::Config => texts::config::HELP,
+            CommandName::Explain => texts::explain::HELP,
             CommandName::Files => texts::files::HELP,
             CommandName::Status => texts::status::HELP,
         }
