@@ -7,15 +7,22 @@ use Rattle.glob_matcher.specs.Bytes.{EndsInSlash, NoSlash, fold, is_path, slash}
 use Rattle.glob_matcher.specs.Sets.{set_holds}
 use Rattle.glob_matcher.specs.Tokens.{Token, Byte, Any, OneOf, Free, Local, Dirs, Nothing, From}
 
+-- a token of one byte takes this byte
+abbrev pub Fits : Way → Token → ℕ → Type 0
+Fits way (Byte b) c = fold way c ≡ fold way b
+Fits way Any c = IsTrue (is_path way) → c ≢ slash
+Fits way (OneOf set) c = IsTrue (set_holds way set c)
+Fits way _ c = ⊥
+
 -- one byte, of which P holds
 abbrev pub OneByte : (ℕ → Type 0) → List ℕ → Type 0
 OneByte P bytes = (b : ℕ) × (bytes ≡ b ∷ []) × P b
 
 -- The written language of a token: the texts that it can stand for.
 abbrev pub Lang : Way → Token → List ℕ → Type 0
-Lang way (Byte b) bytes = OneByte (λ c. fold way c ≡ fold way b) bytes
-Lang way Any bytes = OneByte (λ c. IsTrue (is_path way) → c ≢ slash) bytes
-Lang way (OneOf set) bytes = OneByte (λ c. IsTrue (set_holds way set c)) bytes
+Lang way (Byte b) bytes = OneByte (Fits way (Byte b)) bytes
+Lang way Any bytes = OneByte (Fits way Any) bytes
+Lang way (OneOf set) bytes = OneByte (Fits way (OneOf set)) bytes
 Lang way Free bytes = ⊤
 Lang way Local bytes = NoSlash bytes 0 (length bytes)
 Lang way Dirs bytes = (bytes ≡ []) ⊎ EndsInSlash bytes

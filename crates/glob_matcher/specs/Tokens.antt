@@ -1,6 +1,8 @@
 -- The tokens of a pattern, by the places where they are spelled.
 use Rattle.std.specs.Prelude.{not, ◌≡◌, ◌⊎◌, ℕ, ◌+◌, ◌-◌, ◌<◌, ◌≤◌, IsTrue, List, [], ◌∷◌, length}
 use Rattle.glob_matcher.specs.declared.wildmatch.way.Way.{Way}
+use Rattle.glob_matcher.specs.declared.wildmatch.tokens.TokenKind.{TokenKind}
+use Rattle.glob_matcher.specs.declared.wildmatch.tokens.TokenKind.TheVariants as kind
 use Rattle.glob_matcher.specs.Bytes.{HasByte, IsEscaped, StandsForItself, is_path, star, open_bracket, backslash, slash}
 use Rattle.glob_matcher.specs.ExactFolding.{is_dead}
 use Rattle.glob_matcher.specs.Sets.{Set, SetAt}
@@ -77,3 +79,21 @@ From way pattern i ts = Spells way pattern i ts (length pattern)
 -- the tokens whose spellings, joined, are the pattern
 abbrev pub Tokens : Way → List ℕ → List Token → Type 0
 Tokens way pattern ts = From way pattern 0 ts
+
+-- what the code keeps of a token: of a set its place alone
+abbrev pub kind_of : Token → TokenKind
+kind_of (Byte b) = kind.Byte b
+kind_of Any = kind.Any
+kind_of (OneOf set) = kind.Set
+kind_of Free = kind.Free
+kind_of Local = kind.Local
+kind_of Dirs = kind.Dirs
+kind_of Nothing = kind.Nothing
+
+-- A token of this kind is spelled from place i up to place j, past i and inside the pattern.
+pub record IsToken (way : Way) (pattern : List ℕ) (i : ℕ) (kind : TokenKind) (j : ℕ) : Type 0 where
+  pub token : Token
+  pub here : TokenAt way pattern i token j
+  pub same_kind : kind ≡ kind_of token
+  pub past : i < j
+  pub inside : j ≤ length pattern

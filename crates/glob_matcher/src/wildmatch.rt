@@ -39,10 +39,12 @@ mod way;
 pub use counted_texts::CountedTexts;
 pub use mode::Mode;
 pub use pruned::{Answer, attempt, is_start, recursive};
+pub use slices::token_at;
 use std::marker::Brand;
 use std::sync::ledger::{Blank, Ledger};
 pub use steps::Steps;
 pub use texts::{Texts, text_is_short};
+pub use tokens::{TokenKind, TokenRead};
 pub use two_marks::{marked, marked_by};
 pub use way::{Folding, Way};
 

@@ -3,8 +3,8 @@
 use Rattle.std.specs.Prelude.{ℕ, ◌+◌, ◌-◌, ◌*◌, Bool, List, [], ◌∷◌, length, if◌then◌else◌}
 use Rattle.glob_matcher.specs.declared.wildmatch.way.Way.{Way}
 use Rattle.glob_matcher.specs.Steps.{Counts}
-use Rattle.glob_matcher.specs.Tokens.{Token}
-use Rattle.glob_matcher.specs.Private.Reader.{kind_of, is_star}
+use Rattle.glob_matcher.specs.Tokens.{Token, kind_of}
+use Rattle.glob_matcher.specs.Private.Reader.{is_star}
 use Rattle.glob_matcher.specs.Private.Components.{separates, next_component}
 use Rattle.glob_matcher.specs.Private.SizedTokens.{SizedToken}
 

@@ -16,7 +16,6 @@ use Rattle.glob_matcher.specs.Private.Spelling.{close_bracket, IsSign}
 use Rattle.glob_matcher.specs.Sets.{ItemsAt, Set, SetAt, item_holds, member_of, set_holds}
 use Rattle.glob_matcher.specs.Steps.{Counts}
 use Rattle.glob_matcher.specs.Private.Looks.{IsKnown, IsSpelled}
-use Rattle.glob_matcher.specs.Tokens.{Token, Byte, Any, OneOf, Free, Local, Dirs, Nothing, TokenAt}
 
 -- what stands at place i, after the member `low` or none
 abbrev pub IsNextItem : List ℕ → Bool → Option ℕ → ℕ → NextItem → Type 0
@@ -85,30 +84,12 @@ pub record IsPartRead (way : Way) (text : List ℕ) (b : ℕ) (part : SetPart) :
   pub inside : part.cursor.place ≤ length text
   pub known : IsKnown text part.cursor.place part.cursor.close
 
--- what the code keeps of a token: of a set its place alone
-abbrev pub kind_of : Token → TokenKind
-kind_of (Byte b) = kind.Byte b
-kind_of Any = kind.Any
-kind_of (OneOf set) = kind.Set
-kind_of Free = kind.Free
-kind_of Local = kind.Local
-kind_of Dirs = kind.Dirs
-kind_of Nothing = kind.Nothing
-
 -- whether a kind is that of a star token
 abbrev pub is_star : TokenKind → Bool
 is_star kind.Free = true
 is_star kind.Local = true
 is_star kind.Dirs = true
 is_star _ = false
-
--- A token of this kind is spelled from place i up to place j, past i and inside the pattern.
-pub record IsToken (way : Way) (pattern : List ℕ) (i : ℕ) (kind : TokenKind) (j : ℕ) : Type 0 where
-  pub token : Token
-  pub here : TokenAt way pattern i token j
-  pub same_kind : kind ≡ kind_of token
-  pub past : i < j
-  pub inside : j ≤ length pattern
 
 -- Reading a run of stars from place i up to place j takes at most five looks a byte, less four.
 pub record IsRunRead (before after : Counts) (i : ℕ) (kind : TokenKind) (j : ℕ) : Type 0 where

@@ -7,8 +7,7 @@ use Rattle.glob_matcher.specs.declared.wildmatch.tokens.TokenKind.{TokenKind}
 use Rattle.glob_matcher.specs.declared.wildmatch.tokens.TokenKind.TheVariants as kind
 use Rattle.glob_matcher.specs.Bytes.{NoSlash, fold, slash}
 use Rattle.glob_matcher.specs.Matching.{SplitsFrom}
-use Rattle.glob_matcher.specs.Private.Reader.{IsToken}
-use Rattle.glob_matcher.specs.Tokens.{Token, From}
+use Rattle.glob_matcher.specs.Tokens.{IsToken, Token, From}
 use Rattle.glob_matcher.specs.Pruning.{star_count}
 
 -- the byte that a token of this kind asks for, where it asks for one

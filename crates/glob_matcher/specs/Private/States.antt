@@ -13,8 +13,8 @@ use Rattle.glob_matcher.specs.declared.wildmatch.scan.Scan.{Scan}
 use Rattle.glob_matcher.specs.declared.wildmatch.scan.Scan.TheVariants as scan
 use Rattle.glob_matcher.specs.Tokens.{Token, Byte, TokenAt}
 use Rattle.glob_matcher.specs.Private.Spelling.{IsAfterSlash}
-use Rattle.glob_matcher.specs.Matching.{SplitsBy, SplitsFrom}
-use Rattle.glob_matcher.specs.Private.Fitting.{Fits, AfterSlash}
+use Rattle.glob_matcher.specs.Matching.{SplitsBy, SplitsFrom, Fits}
+use Rattle.glob_matcher.specs.Private.Fitting.{AfterSlash}
 use Rattle.glob_matcher.specs.Private.Scans.{reached_by, scan_steps}
 use Rattle.glob_matcher.specs.Private.Components.{separates, next_component}
 use Rattle.glob_matcher.specs.Private.Takes.{Takes}

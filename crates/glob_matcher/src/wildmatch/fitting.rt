@@ -2,9 +2,8 @@
 //! token matches nothing.
 ghost use Rattle.std.specs.Prelude.{◌≡◌, ◌≢◌, ◌↔◌, ℕ, ◌+◌, ◌-◌, ◌<◌, ◌≤◌, IsTrue, MatchOption, length, slice_index};
 ghost use Rattle.glob_matcher.specs.Bytes.{HasByte};
-ghost use Rattle.glob_matcher.specs.Tokens.{Token, Byte};
-ghost use Rattle.glob_matcher.specs.Private.Reader.{kind_of};
-ghost use Rattle.glob_matcher.specs.Private.Fitting.{Fits};
+ghost use Rattle.glob_matcher.specs.Tokens.{Token, Byte, kind_of};
+ghost use Rattle.glob_matcher.specs.Matching.{Fits};
 ghost use Rattle.glob_matcher.specs.Private.Takes.{TakesExactly};
 
 use super::engine::Engine;

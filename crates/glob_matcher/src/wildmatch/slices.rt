@@ -1,9 +1,9 @@
 //! The readers of tokens over slices, for what counts nothing: each asks an engine with new counts that no one looks at.
 ghost use Rattle.std.specs.Prelude.{◌≡◌, ◌≢◌, ◌↔◌, ℕ, ◌<◌, IsTrue, [], length, slice_index};
 ghost use Rattle.glob_matcher.specs.Bytes.{HasByte, open_bracket};
-ghost use Rattle.glob_matcher.specs.Tokens.{Token, TokenAt};
-ghost use Rattle.glob_matcher.specs.Private.Reader.{IsSetRead, IsToken, kind_of};
-ghost use Rattle.glob_matcher.specs.Private.Fitting.{Fits};
+ghost use Rattle.glob_matcher.specs.Tokens.{Token, TokenAt, IsToken, kind_of};
+ghost use Rattle.glob_matcher.specs.Private.Reader.{IsSetRead};
+ghost use Rattle.glob_matcher.specs.Matching.{Fits};
 ghost use Rattle.glob_matcher.specs.Steps.{IsBlankOf};
 
 use super::counted_texts::CountedTexts;
@@ -16,7 +16,8 @@ use super::way::Way;
 use std::marker::Brand;
 use std::sync::ledger::{Blank, Ledger};
 
-/// The token at this place, and the place after it.
+/// The token that begins at this place of the pattern, counted in bytes from 0, and the place after it, as this way to match reads it.
+/// It takes no memory.
 pub fn token_at(pattern: &[u8], place: usize, way: Way) -> TokenRead
     requires { place < length pattern.now }
     ensures { IsToken way pattern.now place result.kind result.end }

@@ -1,13 +1,13 @@
 //! The reader of tokens: what stands at a place of the pattern, and the place after it.
 ghost use Rattle.std.specs.Prelude.{◌≡◌, ◌≢◌, ◌↔◌, ◌+◌, ◌<◌, ◌≤◌, IsTrue, length, slice_index};
 ghost use Rattle.glob_matcher.specs.declared.wildmatch.tokens.TokenKind.TheVariants as kind;
-ghost use Rattle.glob_matcher.specs.Tokens.{Token, IsRun, IsBounded};
+ghost use Rattle.glob_matcher.specs.Tokens.{Token, IsRun, IsBounded, IsToken, kind_of};
 ghost use Rattle.glob_matcher.specs.Private.Spelling.{IsAfterSlash, IsBeforeSlash};
 ghost use Rattle.glob_matcher.specs.Bytes.{HasByte, open_bracket, slash, star};
 ghost use Rattle.glob_matcher.specs.Private.Takes.{Takes};
 ghost use Rattle.glob_matcher.specs.Private.Looks.{LookedOver};
-ghost use Rattle.glob_matcher.specs.Private.Reader.{IsToken, IsTokenRead, IsRunRead, is_star, kind_of};
-ghost use Rattle.glob_matcher.specs.Private.Fitting.{Fits};
+ghost use Rattle.glob_matcher.specs.Private.Reader.{IsTokenRead, IsRunRead, is_star};
+ghost use Rattle.glob_matcher.specs.Matching.{Fits};
 
 use super::engine::Engine;
 use super::texts::Texts;
@@ -44,14 +44,14 @@ pub struct TokenRead {
 
 impl TokenKind {
     /// Whether the token is a star token.
-    pub fn is_star(self) -> bool
+    pub(crate) fn is_star(self) -> bool
         ensures { result ≡ is_star self }
     {
         matches!(self, TokenKind::Free | TokenKind::Local | TokenKind::Dirs)
     }
 
     /// Whether the token is a slash, bare or escaped.
-    pub fn is_slash(self) -> bool
+    pub(crate) fn is_slash(self) -> bool
         ensures { IsTrue result ↔ (self ≡ TokenKind.Byte slash) }
     {
         matches!(self, TokenKind::Byte(b'/'))
@@ -59,7 +59,7 @@ impl TokenKind {
 
     /// Whether a token of this kind, which is no set, is one of a single byte and fits that byte.
     #[inline(always)]
-    pub fn fits(self, byte: u8, way: Way) -> bool
+    pub(crate) fn fits(self, byte: u8, way: Way) -> bool
         requires { self ≢ kind.Set }
         ensures { (token : Token) → self ≡ kind_of token → IsTrue result ↔ Fits way token byte }
     {

@@ -2,8 +2,8 @@
 //! literal byte the ones that follow it, up to a slash at which a mark would be forgotten.
 ghost use Rattle.std.specs.Prelude.{◌≡◌, ◌≢◌, ◌-◌, ◌*◌, ◌<◌, ◌≤◌, IsTrue, None, false, length, slice_index};
 ghost use Rattle.glob_matcher.specs.Bytes.{HasByte, StandsForItself, open_bracket, slash};
-ghost use Rattle.glob_matcher.specs.Tokens.{DirsAt, Free, Local, TokenAt};
-ghost use Rattle.glob_matcher.specs.Private.Reader.{IsToken, is_star};
+ghost use Rattle.glob_matcher.specs.Tokens.{DirsAt, Free, Local, TokenAt, IsToken};
+ghost use Rattle.glob_matcher.specs.Private.Reader.{is_star};
 ghost use Rattle.glob_matcher.specs.Private.States.{StandsAt};
 ghost use Rattle.glob_matcher.specs.Private.Turns.{IsTurn};
 

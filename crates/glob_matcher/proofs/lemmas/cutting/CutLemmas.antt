@@ -6,8 +6,8 @@ use Rattle.std.proofs.lemmas.List.{take-append-drop, drop-drop, get_or-drop, len
 use Rattle.glob_matcher.specs.declared.wildmatch.way.Way.{Way}
 use Rattle.glob_matcher.specs.Bytes.{EndsInSlash, NoSlash, slash}
 use Rattle.glob_matcher.specs.Tokens.{Token, Byte, Any, OneOf, Free, Local, Dirs, Nothing, TokenAt, From}
-use Rattle.glob_matcher.specs.Matching.{OneByte, Lang, IsCut, SplitsFrom}
-use Rattle.glob_matcher.specs.Private.Fitting.{Fits, AfterSlash}
+use Rattle.glob_matcher.specs.Matching.{OneByte, Lang, IsCut, SplitsFrom, Fits}
+use Rattle.glob_matcher.specs.Private.Fitting.{AfterSlash}
 use Rattle.glob_matcher.proofs.lemmas.reading.TokenLemmas.{TokenAt-unique, TokenAt-inside}
 
 module _ (v : List ℕ) where

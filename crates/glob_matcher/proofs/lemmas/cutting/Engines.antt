@@ -2,10 +2,10 @@
 use Rattle.std.proofs.Common.{◌≡◌, ◌⊎◌, inl, inr, ℕ, ◌+◌, ◌<◌, ◌≤◌, true, false, List, length, get_or, sym, subst, arith}
 use Rattle.glob_matcher.specs.declared.wildmatch.way.Way.{Way}
 use Rattle.glob_matcher.specs.declared.wildmatch.tokens.TokenKind.{TokenKind}
-use Rattle.glob_matcher.specs.Tokens.{Token, Byte, Any, OneOf, Free, Local, Dirs, Nothing, TokenAt}
-use Rattle.glob_matcher.specs.Matching.{SplitsFrom}
-use Rattle.glob_matcher.specs.Private.Reader.{IsToken, is_star, kind_of}
-use Rattle.glob_matcher.specs.Private.Fitting.{Fits, Spans, AfterSlash}
+use Rattle.glob_matcher.specs.Tokens.{Token, Byte, Any, OneOf, Free, Local, Dirs, Nothing, TokenAt, IsToken, kind_of}
+use Rattle.glob_matcher.specs.Matching.{SplitsFrom, Fits}
+use Rattle.glob_matcher.specs.Private.Reader.{is_star}
+use Rattle.glob_matcher.specs.Private.Fitting.{Spans, AfterSlash}
 use Rattle.glob_matcher.proofs.lemmas.cutting.CutLemmas.{one_in, one_out, free_in, free_out, local_in, local_out, dirs_in_empty, dirs_in, dirs_out, nothing_out}
 
 -- a star token that takes this stretch, and then a cutting of the rest

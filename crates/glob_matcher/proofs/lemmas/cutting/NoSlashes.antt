@@ -13,8 +13,7 @@ use Rattle.glob_matcher.specs.Bytes.{HasByte, IsEscaped, NoSlash, backslash, fol
 use Rattle.glob_matcher.specs.ExactFolding.{is_exact_one}
 use Rattle.glob_matcher.specs.Sets.{Set, class_holds, item_holds, set_holds}
 use Rattle.glob_matcher.specs.Tokens.{Token, Byte, Any, OneOf, Free, Local, Dirs, Nothing, TokenAt, DirsAt, IsRun, IsBounded, From}
-use Rattle.glob_matcher.specs.Matching.{SplitsBy, SplitsFrom}
-use Rattle.glob_matcher.specs.Private.Fitting.{Fits}
+use Rattle.glob_matcher.specs.Matching.{SplitsBy, SplitsFrom, Fits}
 use Rattle.glob_matcher.proofs.lemmas.reading.TokenLemmas.{byte_in_both, run_lead}
 use Rattle.glob_matcher.proofs.lemmas.reading.Existence.{From-short, TokenAt-past}
 use Rattle.glob_matcher.proofs.lemmas.cutting.CutLemmas.{IsOne, end_in, end_out, one_in, one_out, free_in, free_out, local_in, local_out, nothing_out}

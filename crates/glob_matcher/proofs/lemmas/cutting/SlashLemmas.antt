@@ -6,7 +6,7 @@ use Rattle.glob_matcher.specs.Bytes.{HasByte, fold, folds, is_path, slash}
 use Rattle.glob_matcher.specs.Private.Spelling.{question_mark, close_bracket}
 use Rattle.glob_matcher.specs.Sets.{Set, set_holds}
 use Rattle.glob_matcher.specs.Tokens.{Token, Byte, Any, OneOf, Free, Local, Dirs, Nothing, TokenAt}
-use Rattle.glob_matcher.specs.Private.Fitting.{Fits}
+use Rattle.glob_matcher.specs.Matching.{Fits}
 use Rattle.glob_matcher.proofs.lemmas.reading.SetLemmas.{HasByte-unique, two_bytes}
 use Rattle.glob_matcher.proofs.lemmas.cutting.CutLemmas.{IsOne}
 use Rattle.glob_matcher.proofs.lemmas.reading.Existence.{items_close}

@@ -10,8 +10,7 @@ use Rattle.glob_matcher.specs.declared.wildmatch.pruned.Answer.TheVariants.{Matc
 use Rattle.glob_matcher.specs.Bytes.{HasByte, star}
 use Rattle.glob_matcher.specs.ExactFolding.{is_exact}
 use Rattle.glob_matcher.specs.Tokens.{Token, Free, Dirs, Nothing, TokenAt, From}
-use Rattle.glob_matcher.specs.Matching.{SplitsBy, SplitsFrom}
-use Rattle.glob_matcher.specs.Private.Fitting.{Fits}
+use Rattle.glob_matcher.specs.Matching.{SplitsBy, SplitsFrom, Fits}
 use Rattle.glob_matcher.specs.Pruning.{Holds, Excludes, TakeOneByte, EndsShort, BeginsCrossing, Aborts, IsAttempt, star_count}
 use Rattle.glob_matcher.specs.Private.StarSearch.{HasRoom}
 use Rattle.glob_matcher.proofs.lemmas.reading.WayLemmas.{modes_are_inexact}

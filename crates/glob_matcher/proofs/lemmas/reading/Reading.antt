@@ -6,8 +6,7 @@ use Rattle.glob_matcher.specs.Bytes.{HasByte, IsEscaped, StandsForItself, is_pat
 use Rattle.glob_matcher.specs.ExactFolding.{is_dead}
 use Rattle.glob_matcher.specs.Private.Spelling.{question_mark}
 use Rattle.glob_matcher.specs.Sets.{Set, SetAt}
-use Rattle.glob_matcher.specs.Tokens.{Byte, Any, OneOf, Free, Local, Dirs, Nothing, TokenAt, IsRun, IsBounded, IsBroken}
-use Rattle.glob_matcher.specs.Private.Reader.{IsToken}
+use Rattle.glob_matcher.specs.Tokens.{Byte, Any, OneOf, Free, Local, Dirs, Nothing, TokenAt, IsRun, IsBounded, IsBroken, IsToken}
 
 pub escaped_token : (way : Way) (p : List ℕ) (i b : ℕ) → IsEscaped p i b → is_dead way b ≡ false → IsToken way p i (kind.Byte b) (i + 2)
 escaped_token way p i b e live =

@@ -5,9 +5,8 @@ use Rattle.glob_matcher.specs.declared.wildmatch.tokens.TokenKind.{TokenKind}
 use Rattle.glob_matcher.specs.declared.wildmatch.tokens.TokenKind.TheVariants as kind
 use Rattle.glob_matcher.specs.Bytes.{open_bracket, star, slash}
 use Rattle.glob_matcher.specs.Sets.{Set, SetAt, set_holds}
-use Rattle.glob_matcher.specs.Tokens.{Token, Byte, Any, OneOf, Free, Local, Dirs, Nothing, TokenAt, DirsAt}
-use Rattle.glob_matcher.specs.Private.Reader.{IsToken, kind_of}
-use Rattle.glob_matcher.specs.Private.Fitting.{Fits}
+use Rattle.glob_matcher.specs.Tokens.{Token, Byte, Any, OneOf, Free, Local, Dirs, Nothing, TokenAt, DirsAt, IsToken, kind_of}
+use Rattle.glob_matcher.specs.Matching.{Fits}
 use Rattle.glob_matcher.specs.Pruning.{IsStart, IsBoundary}
 use Rattle.glob_matcher.proofs.lemmas.reading.SetLemmas.{SetAt-unique, two_bytes}
 use Rattle.glob_matcher.proofs.lemmas.reading.TokenLemmas.{run_lead}

@@ -8,7 +8,8 @@ use Rattle.glob_matcher.specs.declared.wildmatch.state.Crossing.{Crossing}
 use Rattle.glob_matcher.specs.declared.wildmatch.state.Crossing.TheVariants as crossing
 use Rattle.glob_matcher.specs.declared.wildmatch.state.State.{State}
 use Rattle.glob_matcher.specs.declared.wildmatch.tokens.TokenKind.{TokenKind}
-use Rattle.glob_matcher.specs.Private.Reader.{IsToken, is_star}
+use Rattle.glob_matcher.specs.Private.Reader.{is_star}
+use Rattle.glob_matcher.specs.Tokens.{IsToken}
 use Rattle.glob_matcher.specs.Steps.{Counts, step_limit, look_limit}
 use Rattle.glob_matcher.specs.Private.Components.{next_component}
 use Rattle.glob_matcher.specs.Private.SizedTokens.{SizedToken, sized}

@@ -8,7 +8,7 @@ use Rattle.glob_matcher.specs.declared.wildmatch.marks.Mark.{Mark}
 use Rattle.glob_matcher.specs.Bytes.{fold, is_path, slash}
 use Rattle.glob_matcher.specs.Sets.{set_holds}
 use Rattle.glob_matcher.specs.Tokens.{Token, Byte, Any, OneOf, Free, Local, Dirs, Nothing}
-use Rattle.glob_matcher.specs.Private.Fitting.{Fits}
+use Rattle.glob_matcher.specs.Matching.{Fits}
 use Rattle.glob_matcher.proofs.lemmas.cutting.SlashLemmas.{fold_slash, no_slash_in_set}
 use Rattle.glob_matcher.specs.Private.Components.{ends_by, ends, separates_by, separates, reach, next_component}
 

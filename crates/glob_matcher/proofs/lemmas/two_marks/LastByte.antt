@@ -6,8 +6,7 @@ use Rattle.glob_matcher.specs.declared.wildmatch.way.Way.{Way}
 use Rattle.glob_matcher.specs.Bytes.{HasByte, is_path, slash, star}
 use Rattle.glob_matcher.specs.Private.Spelling.{close_bracket, question_mark}
 use Rattle.glob_matcher.specs.Tokens.{Token, Byte, Any, OneOf, Free, Local, Dirs, Nothing, TokenAt, From, IsRun}
-use Rattle.glob_matcher.specs.Matching.{SplitsBy, SplitsFrom}
-use Rattle.glob_matcher.specs.Private.Fitting.{Fits}
+use Rattle.glob_matcher.specs.Matching.{SplitsBy, SplitsFrom, Fits}
 use Rattle.glob_matcher.proofs.lemmas.cutting.CutLemmas.{token_out, one_out, end_in, end_out, free_in, nothing_out}
 use Rattle.glob_matcher.proofs.lemmas.reading.Existence.{items_close, From-short, TokenAt-past}
 

@@ -4,8 +4,8 @@ use Rattle.glob_matcher.specs.declared.wildmatch.way.Way.{Way}
 use Rattle.glob_matcher.specs.declared.wildmatch.marks.Mark.{Mark}
 use Rattle.glob_matcher.specs.declared.wildmatch.state.Crossing.TheVariants as crossing
 use Rattle.glob_matcher.specs.declared.wildmatch.state.State.{State}
-use Rattle.glob_matcher.specs.Tokens.{Token, Free, Local, Dirs, TokenAt}
-use Rattle.glob_matcher.specs.Private.Reader.{kind_of, is_star}
+use Rattle.glob_matcher.specs.Tokens.{Token, Free, Local, Dirs, TokenAt, kind_of}
+use Rattle.glob_matcher.specs.Private.Reader.{is_star}
 use Rattle.glob_matcher.specs.Private.Components.{separates, next_component}
 use Rattle.glob_matcher.specs.Private.States.{FreeKnown}
 use Rattle.glob_matcher.specs.Private.SizedTokens.{SizedToken, sized, SizedTokensFrom}

@@ -5,9 +5,9 @@ use Rattle.std.proofs.Math.Nat.{mul-le-mul_left, mul-le-mul}
 use Rattle.glob_matcher.specs.declared.wildmatch.way.Way.{Way}
 use Rattle.glob_matcher.specs.declared.wildmatch.tokens.TokenKind.{TokenKind}
 use Rattle.glob_matcher.specs.Steps.{Counts, NeverFall, step_limit, look_limit}
-use Rattle.glob_matcher.specs.Tokens.{Token, TokenAt, From}
+use Rattle.glob_matcher.specs.Tokens.{Token, TokenAt, From, IsToken, kind_of}
 use Rattle.glob_matcher.specs.Private.Takes.{Takes, TakesExactly}
-use Rattle.glob_matcher.specs.Private.Reader.{IsToken, kind_of, is_star}
+use Rattle.glob_matcher.specs.Private.Reader.{is_star}
 use Rattle.glob_matcher.specs.Private.Components.{ends, separates, next_component}
 use Rattle.glob_matcher.specs.Private.SizedTokens.{SizedToken, sized, SizedTokensFrom}
 use Rattle.glob_matcher.specs.Private.Prices.{Measure, Steps, Looks, amount, amount_of, for_star, move, test, token_cost, first_test, tests_after, places_left, cost, next_tests_at, component_cost}

@@ -14,8 +14,7 @@ use Rattle.glob_matcher.specs.declared.wildmatch.state.Crossing.{Crossing}
 use Rattle.glob_matcher.specs.declared.wildmatch.state.Crossing.TheVariants as crossing
 use Rattle.glob_matcher.specs.Bytes.{NoSlash, StandsForItself, fold, folds, is_path, is_special, slash}
 use Rattle.glob_matcher.specs.Tokens.{Byte}
-use Rattle.glob_matcher.specs.Matching.{SplitsFrom}
-use Rattle.glob_matcher.specs.Private.Fitting.{Fits}
+use Rattle.glob_matcher.specs.Matching.{SplitsFrom, Fits}
 use Rattle.glob_matcher.specs.Private.Scans.{Follows, IsScan, HasPassed, reached_by}
 use Rattle.glob_matcher.specs.Private.States.{IsLiteralMet, IsMiss, IsScanFor, StandsAt}
 use Rattle.glob_matcher.specs.Steps.{Counts}

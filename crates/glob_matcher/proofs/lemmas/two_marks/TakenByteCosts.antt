@@ -4,9 +4,9 @@ use Rattle.glob_matcher.specs.declared.wildmatch.way.Way.{Way}
 use Rattle.glob_matcher.specs.declared.wildmatch.marks.Mark.{Mark}
 use Rattle.glob_matcher.specs.declared.wildmatch.state.State.{State}
 use Rattle.glob_matcher.specs.declared.wildmatch.tokens.TokenKind.{TokenKind}
-use Rattle.glob_matcher.specs.Tokens.{Token, TokenAt}
-use Rattle.glob_matcher.specs.Private.Reader.{IsToken, is_star}
-use Rattle.glob_matcher.specs.Private.Fitting.{Fits}
+use Rattle.glob_matcher.specs.Tokens.{Token, TokenAt, IsToken}
+use Rattle.glob_matcher.specs.Private.Reader.{is_star}
+use Rattle.glob_matcher.specs.Matching.{Fits}
 use Rattle.glob_matcher.specs.Private.Components.{ends, separates, next_component}
 use Rattle.glob_matcher.specs.Private.SizedTokens.{SizedToken, sized}
 use Rattle.glob_matcher.specs.Private.Prices.{Measure, amount, test, token_cost, cost, next_tests_at}

@@ -7,11 +7,10 @@ use Rattle.glob_matcher.specs.declared.wildmatch.marks.Mark.{Mark}
 use Rattle.glob_matcher.specs.declared.wildmatch.state.Crossing.{Crossing}
 use Rattle.glob_matcher.specs.declared.wildmatch.state.State.{State}
 use Rattle.glob_matcher.specs.Bytes.{HasByte, NoSlash, is_path, open_bracket, slash, star}
-use Rattle.glob_matcher.specs.Tokens.{Token, Byte, Free, Local, Dirs, From}
+use Rattle.glob_matcher.specs.Tokens.{Token, Byte, Free, Local, Dirs, From, IsToken}
 use Rattle.glob_matcher.specs.Private.Spelling.{IsAfterSlash}
-use Rattle.glob_matcher.specs.Matching.{SplitsFrom}
-use Rattle.glob_matcher.specs.Private.Reader.{IsToken, is_star}
-use Rattle.glob_matcher.specs.Private.Fitting.{Fits}
+use Rattle.glob_matcher.specs.Matching.{SplitsFrom, Fits}
+use Rattle.glob_matcher.specs.Private.Reader.{is_star}
 use Rattle.glob_matcher.specs.Private.Components.{ends, separates, next_component}
 use Rattle.glob_matcher.specs.Private.States.{SuccessAhead, SuccessNear, LocalKnownIfSet, StandsAt}
 use Rattle.glob_matcher.proofs.lemmas.cutting.CutLemmas.{fits_one}

@@ -1,5 +1,5 @@
 use Rattle.std.proofs.Common.{◌≡◌, ℕ, ◌<◌, ◌≤◌, inl, length, ◌∙◌, ap, subst, arith, eq-eqb, eqb-true}
-use Rattle.glob_matcher.specs.Private.Reader.{kind_of}
+use Rattle.glob_matcher.specs.Tokens.{kind_of}
 use Rattle.glob_matcher.proofs.lemmas.reading.Starts.{scan_next, scan_end}
 use Rattle.glob_matcher.specs.Pruning.{IsBoundary}
 use Rattle.glob_matcher.proofs.wildmatch.pruned.is_start_by.Goals as goal

@@ -1,6 +1,6 @@
 use Rattle.std.proofs.Common.{◌≡◌, ◌∙◌, ◌-◌, ℕ, true, false, length, get_or, ap, sym, subst, arith, refl}
 use Rattle.glob_matcher.specs.Tokens.{Byte}
-use Rattle.glob_matcher.specs.Private.Fitting.{Fits}
+use Rattle.glob_matcher.specs.Matching.{Fits}
 use Rattle.glob_matcher.proofs.lemmas.two_marks.LastByte.{IsAlone, EndsInLast, last, ends_in_last}
 use Rattle.glob_matcher.proofs.wildmatch.engine.Engine.ends_tell.Goals as goal
 

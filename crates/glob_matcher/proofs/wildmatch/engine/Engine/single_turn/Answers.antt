@@ -1,5 +1,5 @@
 use Rattle.std.proofs.Common.{◌≡◌, ◌∙◌, false, true, ap, refl, sym, arith}
-use Rattle.glob_matcher.specs.Private.Reader.{kind_of}
+use Rattle.glob_matcher.specs.Tokens.{kind_of}
 use Rattle.glob_matcher.proofs.lemmas.reading.TokenKinds.{token_is}
 use Rattle.glob_matcher.proofs.lemmas.two_marks.TakenBytes.{stands_on, stands_past_slash, misses_byte, inner_of}
 use Rattle.glob_matcher.proofs.lemmas.two_marks.Prices.{Takes-grows, Takes-within, TakesExactly-at_most}

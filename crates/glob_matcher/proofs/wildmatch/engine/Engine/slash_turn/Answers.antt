@@ -1,6 +1,6 @@
 use Rattle.std.proofs.Common.{◌≡◌, ◌<◌, ℕ, length, get_or, false, true, ap, refl, sym, subst, arith}
 use Rattle.glob_matcher.specs.Tokens.{Byte}
-use Rattle.glob_matcher.specs.Private.Fitting.{Fits}
+use Rattle.glob_matcher.specs.Matching.{Fits}
 use Rattle.glob_matcher.proofs.lemmas.reading.Reading.{literal_token}
 use Rattle.glob_matcher.proofs.lemmas.two_marks.TakenBytes.{misses_byte, stands_past_slash}
 use Rattle.glob_matcher.proofs.lemmas.two_marks.Prices.{Takes-grows, Takes-within, TakesExactly-at_most}

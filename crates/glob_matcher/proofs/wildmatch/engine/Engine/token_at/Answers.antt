@@ -2,7 +2,7 @@ use Rattle.std.proofs.Common.{◌≡◌, ℕ, true, false, sym, ap, ◌∙◌, s
 use Rattle.glob_matcher.specs.declared.wildmatch.way.Way.{Way}
 use Rattle.glob_matcher.specs.ExactFolding.{is_dead}
 use Rattle.glob_matcher.specs.declared.wildmatch.tokens.TokenKind.TheVariants as kind
-use Rattle.glob_matcher.specs.Private.Reader.{IsToken}
+use Rattle.glob_matcher.specs.Tokens.{IsToken}
 use Rattle.glob_matcher.proofs.lemmas.reading.TokenLemmas.{stands_for_itself}
 use Rattle.glob_matcher.proofs.lemmas.reading.Reading.{escaped_token, bare_token, any_token, broken_token, dead_backslash, lone_backslash}
 use Rattle.glob_matcher.proofs.wildmatch.engine.Engine.token_at.Goals as goal
