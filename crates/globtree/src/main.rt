@@ -5,6 +5,7 @@
 mod check_attr;
 mod check_ignore;
 mod excludes;
+mod explain;
 mod fault;
 mod fronts;
 mod index_use;
