@@ -148,15 +148,15 @@ class Comparison:
             by_git = self.answers[path] if self.is_ignored(path, self.answers) else None
             return self.git(["--literal-pathspecs", "ls-files", "--", path]) != b"" and (place_of(tracked) if tracked["file"] else None) == by_git
         if ignored:
-            return self.is_ignored(path, self.answers) and place_of(ignored) == self.answers[path] and ignored["folder"] == self.ignored_folder(path)
+            return self.is_ignored(path, self.answers) and place_of(ignored) == self.answers[path] and self.is_topmost(path, ignored["folder"])
         if back:
             return place_of(back) == self.answers[path] and not self.is_ignored(path, self.answers)
         return self.answers[path][0] == b"" and (told in SILENT or NEARLY.fullmatch(told) is not None) and self.is_silent(path, told)
 
-    def ignored_folder(self, path):
-        """The topmost folder above the path that Git ignores; None where there is none."""
-        answers = self.asked_of_git([folder + b"/" for folder in above(path)]) if above(path) else {}
-        return next((folder for folder in above(path) if self.is_ignored(folder + b"/", answers)), None)
+    def is_topmost(self, path, folder):
+        """Whether Git ignores this folder above the path, and none above it; None stands for none. One that isn't there can't be asked."""
+        ignored = [it for it in above(path) if self.is_ignored(it, self.answers) and it in self.tree_of_seed.folders]
+        return folder == (ignored or [None])[0] or not ignored and folder in above(path) and folder not in self.tree_of_seed.folders
 
     def is_silent(self, path, told):
         """Whether a folder has files that aren't ignored, or none, or ignored ones alone, as told."""
