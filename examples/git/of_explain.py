@@ -29,7 +29,8 @@ class NearTree:
     def __init__(self, seed):
         self.random = random.Random(seed)
         self.is_folding = self.random.random() < 0.3
-        self.names = self.random.sample(NAMES, 3)
+        # (where case is folded, no two names may be one)
+        self.names = self.random.sample([name for name in NAMES if not (self.is_folding and name == b"A")], 3)
         self.paths = [b""]
         levels = [b""]
         for _ in range(3):
@@ -146,7 +147,8 @@ class Comparison:
         tracked, ignored, back = TRACKED.fullmatch(told), IGNORED.fullmatch(told), TAKEN_BACK.fullmatch(told)
         if tracked:
             by_git = self.answers[path] if self.is_ignored(path, self.answers) else None
-            return self.git(["--literal-pathspecs", "ls-files", "--", path]) != b"" and (place_of(tracked) if tracked["file"] else None) == by_git
+            # (which entries a path names is for Git's pathspecs to say, as check-ignore asks them)
+            return self.git(["ls-files", "--", path]) != b"" and (place_of(tracked) if tracked["file"] else None) == by_git
         if ignored:
             return self.is_ignored(path, self.answers) and place_of(ignored) == self.answers[path] and self.is_topmost(path, ignored["folder"])
         if back:
