@@ -64,10 +64,7 @@ impl<'a, R: Files + Env + Clock + Eprint + AllocGlobal + Clone + Drop> Explainer
     pub(crate) fn answer(&mut self, text: &mut Vec<u8>, told: &[u8]) -> Result<()> {
         let led = lead(self.alloc, &self.fronts.standpoint, &mut self.kinds, told)?;
         self.on_way.read(&mut self.kinds, &led.path)?;
-        let path = match RepositoryPath::new(&led.path, led.is_folder) {
-            Some(path) => path,
-            None => RepositoryPath::top(),
-        };
+        let path = RepositoryPath::new(&led.path, led.is_folder).unwrap_or(RepositoryPath::top());
         let repository = self.other_repository(&led)?;
         let is_tracked = self.is_tracked(&led)?;
         let mut findings = self.findings(&path, repository, is_tracked)?;
@@ -75,14 +72,15 @@ impl<'a, R: Files + Env + Clock + Eprint + AllocGlobal + Clone + Drop> Explainer
         if is_silent && led.is_folder && matches!(findings.standing, Standing::Usual) {
             findings.standing = self.standing_of_files(&led.path)?;
         }
+        let on_way = &self.on_way;
         let mut teller = Teller {
             alloc: self.alloc,
             text,
             form: self.form,
-            lists: &self.on_way.lists,
+            lists: &on_way.lists,
         };
         teller.tell(told, &path, &findings)?;
-        teller.tell_unread(&self.on_way.unread)?;
+        teller.tell_unread(&on_way.unread)?;
         Ok(())
     }
 
@@ -93,16 +91,17 @@ impl<'a, R: Files + Env + Clock + Eprint + AllocGlobal + Clone + Drop> Explainer
         repository: Option<usize>,
         is_tracked: bool,
     ) -> Result<Findings> {
+        let (alloc, fronts) = (self.alloc, self.on_way.fronts);
+        let rules = Rules::by_git(self.case);
         let lists = self.on_way.lists.as_mut_slice();
         if !bases_are_folders(lists) {
             return Err(CheckFault::Base.into());
         }
-        let rules = Rules::by_git(self.case);
         let mut findings = Findings {
             standing: Standing::Usual,
             cause: cause_of(lists, path, rules),
-            matches: Vec::new(self.alloc),
-            near: Vec::new(self.alloc),
+            matches: Vec::new(alloc),
+            near: Vec::new(alloc),
             keeping: None,
         };
         match repository {
@@ -118,9 +117,9 @@ impl<'a, R: Files + Env + Clock + Eprint + AllocGlobal + Clone + Drop> Explainer
         }
         matches_into(lists, path, rules, &mut findings.matches)?;
         if !matches!(findings.cause, Cause::TakenBack(_)) {
-            findings.near = near_lines(self.alloc, lists, path, rules)?;
+            findings.near = near_lines(alloc, lists, path, rules)?;
         }
-        findings.keeping = keeping_lines(self.alloc, lists, self.on_way.fronts, path, rules)?;
+        findings.keeping = keeping_lines(alloc, lists, fronts, path, rules)?;
         Ok(findings)
     }
 

@@ -111,16 +111,14 @@ impl<'t> Teller<'t> {
         cause: Cause,
     ) -> Result<(), AllocError> {
         self.add(&[Text("not ignored, since it is tracked")])?;
-        let (true, Some(pair)) = (cause.ignores(), pair_of(cause)) else {
-            return self.end(&[]);
-        };
-        self.end(&[Text("; else by "), Line(pair)])?;
+        match pair_of(cause) {
+            Some(pair) if cause.ignores() => self.end(&[Text("; else by "), Line(pair)])?,
+            _ => return self.end(&[]),
+        }
         let all = if path.is_dir() { "-r " } else { "" };
         let word = format!(in self.alloc; "{all}{}", ShellWord(told))?;
-        self.end(&[
-            Text("  to ignore it: git rm --cached "),
-            Text(word.as_str()),
-        ])
+        self.add(&[Text("  to ignore it: git rm --cached ")])?;
+        self.end(&[Text(word.as_str())])
     }
 
     /// Tells why a path is ignored, or not.
@@ -212,7 +210,8 @@ impl<'t> Teller<'t> {
     ) -> Result<(), AllocError> {
         'files: for (file, what) in unread {
             self.add(&[Text("  "), Name(file.as_bytes())])?;
-            self.end(&[Text(": not read, since it is "), Text(what)])?;
+            self.add(&[Text(": not read, since it is ")])?;
+            self.end(&[Text(what)])?;
         }
         Ok(())
     }

@@ -1,5 +1,5 @@
 -- Each record goes on what was read and written before it.
-use Rattle.std.proofs.Common.{◌≡◌, ◌++◌, List, ℕ, [], Option, drop, length, sym, subst, rules}
+use Rattle.std.proofs.Common.{◌≡◌, ◌++◌, ◌∷◌, List, ℕ, [], Option, drop, length, sym, subst, rules}
 use Rattle.std.proofs.lemmas.List.{take-append-drop}
 use Rattle.byte_streams.specs.Progress.{IsUnderWay}
 use Rattle.byte_streams.specs.Watched.{inner}
@@ -27,8 +27,11 @@ records-preserved g c =
     let grown : text ++ drop (length text) new ≡ new =
     subst (λ t. t ++ drop (length text) new ≡ new) c.answer_record.ensures (take-append-drop (length text) new) in
     let more = way_grows _ _ text (drop (length text) new) _ _ _ _ _ _ next in
+    let given = way.3 ++ c.next.new.bytes.items ∷ [] in
+    let all = way.4 ++ drop (length text) new in
+    let way_of : List ℕ → Type 0 = λ t. IsUnderWay way.0 c.next.new.self t way.1 (g.I.Read.remaining (inner c.next.new.reader)) way.2 (g.O.Write.contents (inner c.next.new.writer)) given all in
     record {
       readable = search rules;
       writable = search rules;
-      way = (_, _, _, _, _, subst (λ t. IsUnderWay way.0 c.next.new.self t way.1 (g.I.Read.remaining (inner c.next.new.reader)) way.2 (g.O.Write.contents (inner c.next.new.writer)) _ _) grown more);
+      way = (way.0, way.1, way.2, given, all, subst way_of grown more);
     }
