@@ -4,6 +4,7 @@
 
 mod check_attr;
 mod check_ignore;
+mod common_front;
 mod excludes;
 mod fault;
 mod fronts;
@@ -13,7 +14,9 @@ mod list_tracked;
 mod listing;
 mod match_pathspec;
 mod matching;
+mod met_elements;
 mod moving;
+mod narrowed_listing;
 mod opening;
 mod outcomes;
 mod outer_attributes;
@@ -23,6 +26,7 @@ mod running;
 mod show_config;
 mod show_status;
 mod told_name;
+mod told_pathspecs;
 mod tracked;
 mod words;
 mod work_tree;

@@ -62,7 +62,7 @@ fn top_alone(alloc: Global) -> Result<Standpoint, AllocError>
 }
 
 /// What is told where words are no pathspecs.
-fn fault_of(alloc: Global, words: &[&str], fault: ReadFault) -> Fault {
+pub(crate) fn fault_of(alloc: Global, words: &[&str], fault: ReadFault) -> Fault {
     match fault {
         ReadFault::Memory => Fault::Memory(AllocError),
         ReadFault::Word { place, fault } => {

@@ -30,6 +30,14 @@ pub(crate) fn settings_of<R: Env>(rt: &R, alloc: Global) -> Result<Settings> {
     })
 }
 
+/// The same for these words: without one no variable counts.
+pub(crate) fn settings_for<R: Env>(rt: &R, alloc: Global, words: &[&str]) -> Result<Settings> {
+    if words.is_empty() {
+        return Ok(Settings::default());
+    }
+    settings_of(rt, alloc)
+}
+
 /// Refuses a variable that is true, and one that is no boolean, as Git does where a path is told. The command is named.
 pub(crate) fn refuse_settings<R: Env>(rt: &R, alloc: Global, command: &str) -> Result<()> {
     'names: for name in [LITERAL, GLOB, NOGLOB, ICASE] {
