@@ -52,9 +52,10 @@ pub(crate) fn list_files<R: Files + Env + Clock + Eprint + AllocGlobal + Clone +
     }
     let fronts = listing_fronts(rt, alloc, options, &asked)?;
     if asked.directory {
-        refuse_pattern(rt, alloc, &fronts.standpoint, told_folder(&asked))?;
+        let folder = told_folder(&asked);
+        refuse_pattern(rt, alloc, options.pathspecs, &fronts.standpoint, folder)?;
     }
-    let settings = settings_for(rt, alloc, &asked.pathspecs)?;
+    let settings = settings_for(rt, alloc, options.pathspecs, &asked.pathspecs)?;
     let told = ToldPathspecs::read(alloc, &fronts.standpoint, settings, &asked.pathspecs)?;
     let mut met = MetElements::none(alloc, &told.list, asked.error_unmatch)?;
     let status = list_found(
@@ -225,7 +226,8 @@ fn list_asked<R: Files + Env + Clock + Eprint + AllocGlobal + Clone + Drop, O: W
 ) -> Result<u8>
     ensures status { IfOk result IsAnswered }
 {
-    if !asked.directory && !asked.pathspecs.is_empty() {
+    let is_narrow = !asked.pathspecs.is_empty() || asked.error_unmatch;
+    if is_narrow && !asked.directory {
         return run_narrowed(rt, alloc, listing, told, fronts, shows_progress, output);
     }
     let folder = told_folder(asked);

@@ -56,7 +56,7 @@ pub(crate) fn list_index<R: Files + Env + Eprint + AllocGlobal, O: Write>(
     }
     go_to_folders(rt, alloc, options)?;
     let place = index_place(rt, alloc, options)?;
-    let settings = settings_for(rt, alloc, &asked.pathspecs)?;
+    let settings = settings_for(rt, alloc, options.pathspecs, &asked.pathspecs)?;
     let told = ToldPathspecs::read(alloc, &place.standpoint, settings, &asked.pathspecs)?;
     let tracked = place.index.read(rt, alloc)?;
     let form = Form::ended_by(asked.nul, place.quoting);

@@ -8,11 +8,11 @@ use Rattle.tree_files.proofs.narrowed.is_met_itself.Goals as goal
 
 pub returns-then-meets_itself : goal.returns-then-meets_itself
 returns-then-meets_itself c =
-    let is : slice_index_or c.args.elements.now c.loop-element.element-index c.element-item.result ≡ c.element-item.result = sym c.element-item.is in
+    let is : slice_index_or c.args.elements.now c.elements.element-index c.element-item.result ≡ c.element-item.result = sym c.element-item.is in
     let met = c.meets_itself.ensures.0 c.if-meets_itself.true in
-    (λ _. (c.loop-element.element-index, c.element-item.result, c.loop-element-test.true, is, met), λ _. refl)
+    (λ _. (c.elements.element-index, c.element-item.result, c.elements-test.true, is, met), λ _. refl)
 
-pub loop-element-preserved : goal.loop-element-preserved
-loop-element-preserved c =
-    pass_over (λ (item : PathspecItem). (item.magic.exclude ≡ false) × ((way : Manner) × (way ≢ Below) × MeetsBy way item c.args.folder.now)) c.args.elements.now c.loop-element.element-index c.element-item.result
-    c.loop-element-test.true c.element-item.is (λ met. false≢true (sym c.if-meets_itself.false ∙ c.meets_itself.ensures.1 met)) c.loop-element.invariant
+pub elements-preserved : goal.elements-preserved
+elements-preserved c =
+    pass_over (λ (item : PathspecItem). (item.magic.exclude ≡ false) × ((way : Manner) × (way ≢ Below) × MeetsBy way item c.args.folder.now)) c.args.elements.now c.elements.element-index c.element-item.result
+    c.elements-test.true c.element-item.is (λ met. false≢true (sym c.if-meets_itself.false ∙ c.meets_itself.ensures.1 met)) c.elements.invariant

@@ -7,11 +7,11 @@ use Rattle.tree_files.proofs.narrowed.lead_further.Goals as goal
 
 pub returns-then-leads_further : goal.returns-then-leads_further
 returns-then-leads_further c =
-    let is : slice_index_or c.args.alone.now c.loop-list.list-index c.list-item.result ≡ c.list-item.result = sym c.list-item.is in
+    let is : slice_index_or c.args.alone.now c.lists.list-index c.list-item.result ≡ c.list-item.result = sym c.list-item.is in
     let leads = c.leads_further.ensures.0 c.if-leads_further.true in
-    (λ _. (c.loop-list.list-index, c.list-item.result, c.loop-list-test.true, is, leads), λ _. refl)
+    (λ _. (c.lists.list-index, c.list-item.result, c.lists-test.true, is, leads), λ _. refl)
 
-pub loop-list-preserved : goal.loop-list-preserved
-loop-list-preserved c =
-    pass_over (λ (items : List PathspecItem). MayMatchIn items c.args.folder.now × ¬ Matches items c.args.folder.now) c.args.alone.now c.loop-list.list-index c.list-item.result
-    c.loop-list-test.true c.list-item.is (λ leads. false≢true (sym c.if-leads_further.false ∙ c.leads_further.ensures.1 leads)) c.loop-list.invariant
+pub lists-preserved : goal.lists-preserved
+lists-preserved c =
+    pass_over (λ (items : List PathspecItem). MayMatchIn items c.args.folder.now × ¬ Matches items c.args.folder.now) c.args.alone.now c.lists.list-index c.list-item.result
+    c.lists-test.true c.list-item.is (λ leads. false≢true (sym c.if-leads_further.false ∙ c.leads_further.ensures.1 leads)) c.lists.invariant
