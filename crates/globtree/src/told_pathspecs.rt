@@ -14,7 +14,7 @@ pub(crate) struct ToldPathspecs<'a> {
     pub(crate) words: &'a [&'a str],
     /// The elements that they are.
     pub(crate) list: PathspecList,
-    /// Those of each word that is no exclude, by itself.
+    /// Those of each word that is no exclude, by itself; that of the current folder where each is one.
     pub(crate) alone: Vec<PathspecList>,
 }
 
@@ -32,6 +32,9 @@ impl<'a> ToldPathspecs<'a> {
             if is_positive(&list, place) {
                 alone.push(list_of(alloc, standpoint, settings, &[*word])?)?;
             }
+        }
+        if alone.is_empty() {
+            alone.push(list_of(alloc, standpoint, settings, &["."])?)?;
         }
         Ok(ToldPathspecs { words, list, alone })
     }

@@ -14,7 +14,8 @@ use Rattle.tree_commands.specs.Lookups.{HasEntryBelow, LookedUp}
 use Rattle.tree_commands.specs.Private.FoldedPaths.{case_by}
 use Rattle.tree_files.specs.declared.narrowed.AskedPaths.{AskedPaths}
 
--- what is asked for: the elements of all words; those of each word that is no exclude, by itself; and what the index tracks
+-- what is asked for: the elements of all words; those of each word that is no exclude, by itself, with that of the current folder where it is
+-- added; and what the index tracks
 pub record Asked : Type 0 where
   pub items : List PathspecItem
   pub alone : List (List PathspecItem)
@@ -30,6 +31,10 @@ as_folder path = path ++ slash ∷ []
 abbrev pub IsMetItself : List PathspecItem → List ℕ → Type 0
 IsMetItself items folder = Any (λ item. (item.magic.exclude ≡ false) × ((way : Manner) × (way ≢ Below) × MeetsBy way item folder)) items
 
+-- a word by itself may match in the folder, or its case isn't counted, so that its front doesn't tell
+abbrev pub IsOpen : List (List PathspecItem) → List ℕ → Type 0
+IsOpen alone folder = Any (λ items. MayMatchIn items folder ⊎ Any (λ item. item.magic.icase ≡ true) items) alone
+
 -- a word that doesn't match the folder may match in it
 abbrev pub LeadsFurther : List (List PathspecItem) → List ℕ → Type 0
 LeadsFurther alone folder = Any (λ items. MayMatchIn items folder × ¬ Matches items folder) alone
@@ -39,11 +44,11 @@ abbrev pub AsksRepository : Asked → List ℕ → Type 0
 AsksRepository asked folder = IsMetItself asked.items folder ⊎ (Matches asked.items folder × ¬ LeadsFurther asked.alone folder)
 
 -- What stands at a path is asked for: a file that the list matches; a folder in which it may match something, but a repository's only if it is
--- asked for itself, or something tracked lies in it.
+-- asked for itself; and one in which something tracked lies, whatever excludes say, and where a word may match in it.
 abbrev pub AsksFor : Asked → FileTree → List ℕ → EntryKind → Type 0
 AsksFor asked whole path File = Matches asked.items path
-AsksFor asked whole path OfFolder = MayMatchIn asked.items (as_folder path)
-    × (whole.has_git path ≡ true → HasEntryBelow asked.tracked path ⊎ AsksRepository asked (as_folder path))
+AsksFor asked whole path OfFolder = (HasEntryBelow asked.tracked path × IsOpen asked.alone (as_folder path))
+    ⊎ (MayMatchIn asked.items (as_folder path) × (whole.has_git path ≡ true → AsksRepository asked (as_folder path)))
 
 -- a tree in which only what is asked for stands; all else is as in the whole one
 pub record IsNarrowed (asked : Asked) (whole tree : FileTree) : Type 0 where

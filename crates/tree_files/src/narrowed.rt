@@ -1,12 +1,13 @@
 //! A work tree in which only what pathspecs ask for stands.
-ghost use Rattle.std.specs.Prelude.{◌≡◌, ◌≢◌, ◌↔◌, ◌⊎◌, IfOk, IsTrue, if◌then◌else◌, None, Some, false};
+ghost use Rattle.std.specs.Prelude.{◌≡◌, ◌≢◌, ◌↔◌, ◌⊎◌, IfOk, IsTrue, if◌then◌else◌, None, Some, false, true};
+ghost use Rattle.std.specs.List.{Any};
 ghost use Rattle.glob_trees.specs.Ways.{GivesOnly};
 ghost use Rattle.pathspecs.specs.declared.manner.Manner.TheVariants.{Below};
 ghost use Rattle.pathspecs.specs.Elements.{MeetsBy};
 ghost use Rattle.pathspecs.specs.Lists.{Matches, MayMatchIn};
 ghost use Rattle.tree_commands.specs.FileTrees.{FileTree, StaysKnown};
 ghost use Rattle.tree_commands.specs.Lookups.{HasEntryBelow};
-ghost use Rattle.tree_files.specs.Narrowing.{AsksFor, AsksRepository, IsMetItself, LeadsFurther, as_folder, asked_of};
+ghost use Rattle.tree_files.specs.Narrowing.{AsksFor, AsksRepository, IsMetItself, IsOpen, LeadsFurther, as_folder, asked_of};
 
 use crate::fault::CheckFault;
 use crate::tracked_folders::TrackedFolders;
@@ -21,25 +22,25 @@ use tree_commands::files::source::{EntryKind, FileSource, FolderNames};
 pub struct AskedPaths<'a> {
     /// The elements of all words.
     pub list: &'a PathspecList,
-    /// Those of each word that is no exclude, by itself.
+    /// Those of each word that is no exclude, by itself; and that of the current folder, where it is added to excludes.
     pub alone: &'a [PathspecList],
-    /// In which folders tracked paths lie: a repository's folder is gone into there.
+    /// In which folders tracked paths lie: these are gone into whatever excludes say.
     pub tracked: TrackedFolders<'a>,
 }
 
 impl<'a> AskedPaths<'a> {
-    /// Whether a file at a path is asked for, or a folder that isn't a repository.
+    /// Whether a file at a path is asked for, or a folder that is no repository, or in which something tracked lies.
     fn have(&self, path: &[u8], folder: &[u8]) -> bool
-        ensures { IsTrue result ↔ (Matches self.now.list.now path.now ⊎ MayMatchIn self.now.list.now folder.now) }
+        ensures { IsTrue result ↔ (Matches self.now.list.now path.now ⊎ (MayMatchIn self.now.list.now folder.now ⊎ (HasEntryBelow (asked_of self.now).tracked path.now × IsOpen self.now.alone.now folder.now))) }
     {
-        self.list.matches(path) || self.list.may_match_in(folder)
+        self.list.matches(path) || self.list.may_match_in(folder) || self.open_tracked(path, folder)
     }
 
-    /// Whether a folder may be gone into or listed although it is a repository: a tracked path lies in it, or it is asked for itself.
-    fn lets_repository(&self, path: &[u8], folder: &[u8]) -> bool
-        ensures { IsTrue result ↔ (HasEntryBelow (asked_of self.now).tracked path.now ⊎ AsksRepository (asked_of self.now) folder.now) }
+    /// Whether something tracked lies in a folder, and a word may match in it.
+    fn open_tracked(&self, path: &[u8], folder: &[u8]) -> bool
+        ensures { IsTrue result ↔ (HasEntryBelow (asked_of self.now).tracked path.now × IsOpen self.now.alone.now folder.now) }
     {
-        self.tracked.have(path) || self.asks_repository(folder)
+        self.tracked.have(path) && are_open(self.alone, folder)
     }
 
     /// Whether the folder of a repository is asked for itself, and not only for what lies in it.
@@ -74,6 +75,37 @@ fn meets_itself(element: &Element, folder: &[u8]) -> bool
         Some(Manner::Exact | Manner::Wild) => true,
         Some(Manner::Below) | None => false,
     }
+}
+
+/// Whether a word by itself may match in a folder, or its case isn't counted.
+fn are_open(alone: &[PathspecList], folder: &[u8]) -> bool
+    ensures { IsTrue result ↔ IsOpen alone.now folder.now }
+{
+    'lists: for list in alone {
+        if is_open(list, folder) {
+            return true;
+        }
+    }
+    false
+}
+
+/// Whether a list may match in a folder, or case isn't counted in it.
+fn is_open(list: &PathspecList, folder: &[u8]) -> bool
+    ensures { IsTrue result ↔ (MayMatchIn list.now folder.now ⊎ Any (λ item. item.magic.icase ≡ true) list.now) }
+{
+    list.may_match_in(folder) || folds_case(list.elements())
+}
+
+/// Whether case isn't counted by some element.
+fn folds_case(elements: &[Element]) -> bool
+    ensures { IsTrue result ↔ Any (λ item. item.magic.icase ≡ true) elements.now }
+{
+    'elements: for element in elements {
+        if element.magic().icase {
+            return true;
+        }
+    }
+    false
 }
 
 /// Whether a word that doesn't match a folder may match in it.
@@ -146,10 +178,13 @@ impl<'a, S: FileSource<Fault = CheckFault>> Narrowed<'a, S> {
         ensures stays { StaysKnown S.shows self.old.source self.new.source }
         ensures asks { GivesOnly (λ _. ⊥) (S.asked self.old.source) (S.asked self.new.source) }
     {
+        if self.asked.open_tracked(path, folder) {
+            return Ok(true);
+        }
         if !self.asked.list.may_match_in(folder) {
             return Ok(false);
         }
-        if self.asked.lets_repository(path, folder) {
+        if self.asked.asks_repository(folder) {
             return Ok(true);
         }
         let has_git = self.source.has_git(path)?;

@@ -7,7 +7,8 @@ use Rattle.pathspecs.specs.Lists.{Matches, MayMatchIn}
 use Rattle.tree_commands.specs.declared.files.source.EntryKind.{EntryKind}
 use Rattle.tree_commands.specs.declared.files.source.EntryKind.TheVariants.{File, Folder as OfFolder}
 use Rattle.tree_commands.specs.FileTrees.{FileTree}
-use Rattle.tree_files.specs.Narrowing.{Asked, AsksFor, IsNarrowed, as_folder}
+use Rattle.tree_commands.specs.Lookups.{HasEntryBelow}
+use Rattle.tree_files.specs.Narrowing.{Asked, AsksFor, IsNarrowed, IsOpen, as_folder}
 
 -- what was passed over stays so with one more
 pub pass_over : {X : Type 0} (P : X → Type 0) (xs : List X) (i : ℕ) (x : X) → i < length xs → x ≡ slice_index_or xs i x → (P x → ⊥)
@@ -29,13 +30,13 @@ second_unless First Second Not true none second is = (λ never. absurd (false≢
 second_unless First Second Not false none second is = (λ _. inr (second, λ has. false≢true (is.1 has)), λ _. refl)
 
 -- nothing may match in the folder
-pub none_may : (May Lets : Type 0) → ¬ May → IsTrue false ↔ (May × Lets)
-none_may May Lets none = (λ never. absurd (false≢true never), λ both. absurd (none both.0))
+pub none_may : (First May Lets : Type 0) → ¬ First → ¬ May → IsTrue false ↔ (First ⊎ (May × Lets))
+none_may First May Lets other none = (λ never. absurd (false≢true never), ⊎_elim (λ first. absurd (other first)) (λ both. absurd (none both.0)))
 
 -- it isn't let in, so that it must be no repository
-pub no_repository : (May Lets : Type 0) (has_git there : Bool) → has_git ≡ there → May → ¬ Lets → IsTrue (not has_git) ↔ (May × (there ≡ true → Lets))
-no_repository May Lets true there same may none = (λ never. absurd (false≢true never), λ both. absurd (none (both.1 (sym same))))
-no_repository May Lets false there same may none = (λ _. (may, λ is. absurd (false≢true (same ∙ is))), λ _. refl)
+pub no_repository : (First May Lets : Type 0) (has_git there : Bool) → has_git ≡ there → ¬ First → May → ¬ Lets → IsTrue (not has_git) ↔ (First ⊎ (May × (there ≡ true → Lets)))
+no_repository First May Lets true there same other may none = (λ never. absurd (false≢true never), ⊎_elim (λ first. absurd (other first)) (λ both. absurd (none (both.1 (sym same)))))
+no_repository First May Lets false there same other may none = (λ _. inr (may, λ is. absurd (false≢true (same ∙ is))), λ _. refl)
 
 -- ---- what stands at a path
 
@@ -44,11 +45,14 @@ none_by None never = refl
 none_by (Some x) never = absurd (never x refl)
 
 -- nothing is asked for there
-pub no_kind : (asked : Asked) (whole : FileTree) (path : List ℕ) → ¬ (Matches asked.items path ⊎ MayMatchIn asked.items (as_folder path)) → (kind : EntryKind) → AsksFor asked whole path kind → ⊥
-no_kind asked whole path none File asks = none (inl asks)
-no_kind asked whole path none OfFolder asks = none (inr asks.0)
+abbrev pub AsksAny : Asked → List ℕ → Type 0
+AsksAny asked path = Matches asked.items path ⊎ (MayMatchIn asked.items (as_folder path) ⊎ (HasEntryBelow asked.tracked path × IsOpen asked.alone (as_folder path)))
 
-pub unasked : (asked : Asked) (whole tree : FileTree) (path : List ℕ) → IsNarrowed asked whole tree → ¬ (Matches asked.items path ⊎ MayMatchIn asked.items (as_folder path)) → None ≡ tree.kind path
+pub no_kind : (asked : Asked) (whole : FileTree) (path : List ℕ) → ¬ AsksAny asked path → (kind : EntryKind) → AsksFor asked whole path kind → ⊥
+no_kind asked whole path none File asks = none (inl asks)
+no_kind asked whole path none OfFolder asks = ⊎_elim (λ tracked. none (inr (inr tracked))) (λ may. none (inr (inl may.0))) asks
+
+pub unasked : (asked : Asked) (whole tree : FileTree) (path : List ℕ) → IsNarrowed asked whole tree → ¬ AsksAny asked path → None ≡ tree.kind path
 unasked asked whole tree path narrowed none = none_by (tree.kind path) (λ kind is. no_kind asked whole path none kind ((narrowed.kind path kind).0 is).1)
 
 -- nothing stands there
