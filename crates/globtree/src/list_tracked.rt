@@ -138,7 +138,7 @@ fn note_tracked(
     'paths: for path in paths {
         let listed = ListedPath {
             path,
-            is_folder: tracked.is_submodule(path),
+            is_submodule: tracked.is_submodule(path),
         };
         met.note(alloc, list, listed)?;
     }

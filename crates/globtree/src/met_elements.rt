@@ -11,10 +11,10 @@ use tree_files::tell_line;
 /// A path that is listed, as pathspecs are held against it.
 #[derive(Clone, Copy, Debug)]
 pub(crate) struct ListedPath<'a> {
-    /// From the top, without a slash at its end.
+    /// From the top. That of a folder that is found has a slash at its end, and that of a submodule none.
     pub(crate) path: &'a [u8],
-    /// Whether it is the folder of a repository or a submodule.
-    pub(crate) is_folder: bool,
+    /// Whether it is the folder of a submodule.
+    pub(crate) is_submodule: bool,
 }
 
 impl<'a> ListedPath<'a> {
@@ -22,30 +22,24 @@ impl<'a> ListedPath<'a> {
     pub(crate) fn of_entry(entry: &'a Entry) -> ListedPath<'a> {
         ListedPath {
             path: &entry.path,
-            is_folder: matches!(entry.kind, Kind::Submodule),
+            is_submodule: matches!(entry.kind, Kind::Submodule),
         }
     }
 
-    /// That of what is found: a slash ends the path of a folder.
+    /// That of what is found.
     pub(crate) fn found(path: &'a [u8]) -> ListedPath<'a> {
-        match path.strip_suffix(b"/") {
-            Some(path) => ListedPath {
-                path,
-                is_folder: true,
-            },
-            None => ListedPath {
-                path,
-                is_folder: false,
-            },
+        ListedPath {
+            path,
+            is_submodule: false,
         }
     }
 
-    /// Whether an element meets it. A folder's path is met, too, by a text that is the path and a slash.
+    /// Whether an element meets it. A submodule's path is met, too, by a text that is the path and a slash.
     pub(crate) fn is_met(&self, alloc: Global, element: &Element) -> Result<bool, AllocError> {
         if element.meets(self.path) {
             return Ok(true);
         }
-        if !self.is_folder {
+        if !self.is_submodule {
             return Ok(false);
         }
         let mut folder = Vec::with_capacity(alloc, self.path.len() + 1)?;
@@ -60,7 +54,7 @@ impl<'a> ListedPath<'a> {
         alloc: Global,
         list: &PathspecList,
     ) -> Result<bool, AllocError> {
-        if !self.is_folder {
+        if !self.is_submodule {
             return Ok(list.matches(self.path));
         }
         Ok(self.is_met_by(alloc, list, false)? && !self.is_met_by(alloc, list, true)?)
