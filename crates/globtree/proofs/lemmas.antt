@@ -3,3 +3,4 @@ pub mod FrontLemmas
 pub mod IndexLemmas
 pub mod InputLemmas
 pub mod MatchLemmas
+pub mod ListedLemmas

@@ -6,8 +6,9 @@ use crate::fault::{Fault, Result};
 use crate::fronts::{Fronts, case_of, fronts_on, ground_of, tree_behind};
 use crate::index_use::IndexUse;
 use crate::list_tracked::{list_index, list_tracked, list_tracked_ignored, records_of};
+use crate::listed_path::ListedPath;
 use crate::listing::{NOT_ALL_LISTED, copies_of, run_listing};
-use crate::met_elements::{ListedPath, MetElements};
+use crate::met_elements::MetElements;
 use crate::narrowed_listing::run_narrowed;
 use crate::outcomes::{ANSWERED, answer_of};
 use crate::pathspec_settings::settings_for;
@@ -172,7 +173,7 @@ fn list_found<R: Files + Env + Clock + Eprint + AllocGlobal + Clone + Drop, O: W
     let text = text.into_inner();
     let paths = records_of(alloc, &text)?;
     'paths: for path in &paths {
-        met.note(alloc, &told.list, ListedPath::found(path))?;
+        met.note(&told.list, &ListedPath::found(path));
     }
     write_found(alloc, &standpoint, form, &paths, output)?;
     Ok(status)

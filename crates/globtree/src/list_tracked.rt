@@ -1,9 +1,13 @@
 //! Tracked paths, as `files -c` lists them.
-ghost use Rattle.std.specs.Prelude.{◌≡◌, false};
+ghost use Rattle.std.specs.Prelude.{◌≡◌, ℕ, List, false, IfOk, OnOk, map};
+ghost use Rattle.std.specs.Borrow.{Bor};
 ghost use Rattle.byte_streams.specs.Watched.{has_failed};
+ghost use Rattle.git_index.specs.Entries.{tracked};
+ghost use Rattle.globtree.specs.Listed.{AddsMatched, AreMatched};
 
 use crate::fault::{Fault, Result};
-use crate::met_elements::{ListedPath, MetElements};
+use crate::listed_path::ListedPath;
+use crate::met_elements::MetElements;
 use crate::moving::go_to_folders;
 use crate::outcomes::answer_of;
 use crate::pathspec_settings::settings_for;
@@ -38,7 +42,7 @@ pub(crate) fn list_tracked<O: Write>(
     requires { has_failed output.old ≡ false }
 {
     let paths = matched_paths(alloc, list, tracked.entries())?;
-    note_tracked(alloc, list, tracked, &paths, met)?;
+    note_tracked(alloc, list, tracked.entries(), &paths, met)?;
     let told = write_paths(alloc, standpoint, form, &paths, output);
     answer_of(told, |fault| CheckFault::of_ignore(alloc, fault))
 }
@@ -107,7 +111,7 @@ pub(crate) fn list_tracked_ignored<R: Files + Eprint, O: Write>(
     answer_of(told, |fault| CheckFault::of_ignore(alloc, fault))?;
     let text = text.into_inner();
     let ignored = records_of(alloc, &text)?;
-    note_tracked(alloc, list, tracked, &ignored, met)?;
+    note_tracked(alloc, list, tracked.entries(), &ignored, met)?;
     let told = write_paths(alloc, standpoint, form, &ignored, output);
     answer_of(told, |fault| CheckFault::of_ignore(alloc, fault))
 }
@@ -117,30 +121,52 @@ fn matched_paths<'a>(
     alloc: Global,
     list: &PathspecList,
     entries: &'a [Entry],
-) -> Result<Vec<&'a [u8]>, AllocError> {
+) -> Result<Vec<&'a [u8]>, AllocError>
+    ensures { IfOk result (λ paths. AreMatched list.now (map tracked entries.now) (map (λ (path : Bor (List ℕ)). path.now) paths.items)) }
+{
     let mut paths = Vec::new(alloc);
     'entries: for entry in entries {
-        if ListedPath::of_entry(entry).is_matched(alloc, list)? {
-            paths.push(entry.path.as_slice())?;
-        }
+        push_matched(alloc, &mut paths, list, entry)?;
     }
     Ok(paths)
 }
 
-/// Notes tracked paths that are listed.
+/// Pushes the path of an entry, where a list matches it.
+fn push_matched<'a>(
+    alloc: Global,
+    paths: &mut Vec<&'a [u8]>,
+    list: &PathspecList,
+    entry: &'a Entry,
+) -> Result<(), AllocError>
+    ensures { OnOk result (AddsMatched list.now (tracked entry.now) (map (λ (path : Bor (List ℕ)). path.now) paths.old.items) (map (λ (path : Bor (List ℕ)). path.now) paths.new.items)) }
+{
+    let listed = ListedPath::of_entry(alloc, entry)?;
+    if listed.is_matched(list) {
+        paths.push(entry.path.as_slice())?;
+    }
+    Ok(())
+}
+
+/// Notes entries of the index that have one of these paths, and are listed.
 fn note_tracked(
     alloc: Global,
     list: &PathspecList,
-    tracked: &Index,
+    entries: &[Entry],
     paths: &[&[u8]],
     met: &mut MetElements,
 ) -> Result<(), AllocError> {
-    'paths: for path in paths {
-        let listed = ListedPath {
-            path,
-            is_submodule: tracked.is_submodule(path),
-        };
-        met.note(alloc, list, listed)?;
+    if !met.is_asked {
+        return Ok(());
+    }
+    let mut left = paths;
+    'entries: for entry in entries {
+        // (the paths are some of those of the entries, in the same order)
+        if let Some((path, rest)) = left.split_first() {
+            if *path == entry.path.as_slice() {
+                met.note(list, &ListedPath::of_entry(alloc, entry)?);
+                left = rest;
+            }
+        }
     }
     Ok(())
 }

@@ -11,6 +11,7 @@ mod fronts;
 mod index_use;
 mod list_files;
 mod list_tracked;
+mod listed_path;
 mod listing;
 mod match_pathspec;
 mod matching;

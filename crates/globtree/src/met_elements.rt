@@ -1,80 +1,11 @@
-//! Which pathspecs meet a path that is listed, and which of them met none.
-ghost use Rattle.std.specs.Prelude.{IfOk};
+//! Which pathspecs met a path that is listed: those that met none are told.
 
 use crate::fault::Result;
+use crate::listed_path::ListedPath;
 use crate::told_pathspecs::ToldPathspecs;
-use git_index::{Entry, Kind};
-use pathspecs::{Element, Manner, PathspecList};
+use pathspecs::{Element, PathspecList};
 use std::alloc::{AllocError, Global};
 use tree_files::tell_line;
-
-/// A path that is listed, as pathspecs are held against it.
-#[derive(Clone, Copy, Debug)]
-pub(crate) struct ListedPath<'a> {
-    /// From the top. That of a folder that is found has a slash at its end, and that of a submodule none.
-    pub(crate) path: &'a [u8],
-    /// Whether it is the folder of a submodule.
-    pub(crate) is_submodule: bool,
-}
-
-impl<'a> ListedPath<'a> {
-    /// That of an entry of the index.
-    pub(crate) fn of_entry(entry: &'a Entry) -> ListedPath<'a> {
-        ListedPath {
-            path: &entry.path,
-            is_submodule: matches!(entry.kind, Kind::Submodule),
-        }
-    }
-
-    /// That of what is found.
-    pub(crate) fn found(path: &'a [u8]) -> ListedPath<'a> {
-        ListedPath {
-            path,
-            is_submodule: false,
-        }
-    }
-
-    /// Whether an element meets it. A submodule's path is met, too, by a text that is the path and a slash.
-    pub(crate) fn is_met(&self, alloc: Global, element: &Element) -> Result<bool, AllocError> {
-        if element.meets(self.path) {
-            return Ok(true);
-        }
-        if !self.is_submodule {
-            return Ok(false);
-        }
-        let mut folder = Vec::with_capacity(alloc, self.path.len() + 1)?;
-        folder.extend_from_slice(self.path)?;
-        folder.push(b'/')?;
-        Ok(element.manner(&folder) == Some(Manner::Exact))
-    }
-
-    /// Whether a list matches it.
-    pub(crate) fn is_matched(
-        &self,
-        alloc: Global,
-        list: &PathspecList,
-    ) -> Result<bool, AllocError> {
-        if !self.is_submodule {
-            return Ok(list.matches(self.path));
-        }
-        Ok(self.is_met_by(alloc, list, false)? && !self.is_met_by(alloc, list, true)?)
-    }
-
-    /// Whether some exclude, or some positive element, meets it.
-    fn is_met_by(
-        &self,
-        alloc: Global,
-        list: &PathspecList,
-        exclude: bool,
-    ) -> Result<bool, AllocError> {
-        'elements: for element in list.elements() {
-            if element.magic().exclude == exclude && self.is_met(alloc, element)? {
-                return Ok(true);
-            }
-        }
-        Ok(false)
-    }
-}
 
 /// Which elements of a list met a path that is listed, where that is asked for.
 #[derive(Drop)]
@@ -102,20 +33,11 @@ impl MetElements {
     }
 
     /// Notes a path that is listed.
-    pub(crate) fn note(
-        &mut self,
-        alloc: Global,
-        list: &PathspecList,
-        listed: ListedPath<'_>,
-    ) -> Result<(), AllocError> {
-        if !self.is_asked {
-            return Ok(());
-        }
+    pub(crate) fn note(&mut self, list: &PathspecList, listed: &ListedPath<'_>) {
         self.is_any = true;
         'elements: for (met, element) in self.met.iter_mut().zip(list.elements().iter()) {
-            *met = *met || listed.is_met(alloc, element)?;
+            *met = *met || listed.is_met(element);
         }
-        Ok(())
     }
 
     /// Whether the element at a place met something, or is an exclude and anything is listed.
