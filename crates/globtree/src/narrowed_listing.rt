@@ -22,12 +22,16 @@ use tree_files::{AskedPaths, FileKinds, Narrowed, TrackedFolders};
 
 /// Lists the files that pathspecs ask for, and answers what the command ends with. It begins at the folder in which all of them lie; where no
 /// such folder is there, nothing is listed.
-pub(crate) fn run_narrowed<R: Files + Env + Clock + Eprint + AllocGlobal + Clone + Drop, O: Write>(
+pub(crate) fn run_narrowed<
+    'a,
+    R: Files + Env + Clock + Eprint + AllocGlobal + Clone + Drop,
+    O: Write,
+>(
     rt: &R,
     alloc: Global,
     listing: Listing,
-    told: &ToldPathspecs<'_>,
-    fronts: &Fronts,
+    told: &'a ToldPathspecs<'_>,
+    fronts: &'a Fronts,
     shows_progress: bool,
     output: &mut Watched<O>,
 ) -> Result<u8>
