@@ -1,4 +1,5 @@
 pub mod Answers
+pub mod Listed
 pub mod Matching
 pub mod Running
 pub mod Tracked

@@ -64,12 +64,12 @@ pub(crate) fn check_ignore<R: Files + Env + Eprint + AllocGlobal, I: Read, O: Wr
     };
     let flags = flags_of(&asked, quoting);
     if asked.stdin {
-        refuse_settings_for(rt, alloc, NAME, input)?;
+        refuse_settings_for(rt, alloc, options.pathspecs, NAME, input)?;
         let (_sources, told) = run_check_ignore(alloc, &standpoint, flags, sources, input, output);
         let is_any = answer_of(told, |fault| CheckFault::of_ignore(alloc, fault))?;
         return Ok(status_by(is_any));
     }
-    refuse_settings(rt, alloc, NAME)?;
+    refuse_settings(rt, alloc, options.pathspecs, NAME)?;
     let paths = bytes_of(alloc, &asked.paths)?;
     let (_sources, told) = check_ignore_paths(alloc, &standpoint, flags, sources, &paths, output);
     let is_any = answer_of(told, |fault| CheckFault::of_ignore(alloc, fault))?;

@@ -1,59 +1,80 @@
 //! Tracked paths, as `files -c` lists them.
-ghost use Rattle.std.specs.Prelude.{◌≡◌, false};
+ghost use Rattle.std.specs.Prelude.{◌≡◌, ℕ, List, false, IfOk, OnOk, map};
+ghost use Rattle.std.specs.Borrow.{Bor};
 ghost use Rattle.byte_streams.specs.Watched.{has_failed};
+ghost use Rattle.git_index.specs.Entries.{tracked};
+ghost use Rattle.globtree.specs.Listed.{AddsMatched, AreMatched};
 
 use crate::fault::{Fault, Result};
+use crate::listed_path::ListedPath;
+use crate::met_elements::MetElements;
 use crate::moving::go_to_folders;
 use crate::outcomes::answer_of;
-use crate::told_name::refuse_pattern;
+use crate::pathspec_settings::settings_for;
+use crate::places::at_top;
+use crate::told_pathspecs::ToldPathspecs;
 use crate::words::Options;
+use crate::words::files::ListFiles;
 use crate::work_tree::index_place;
 use byte_streams::Watched;
-use git_index::Index;
+use git_index::{Entry, Index};
 use git_paths::Standpoint;
 use glob_lines::GitIgnoreLines;
 use glob_trees::Tree;
-use std::alloc::Global;
+use pathspecs::PathspecList;
+use std::alloc::{AllocError, Global};
 use std::io::Write;
 use std::rt::{Env, Files};
 use tree_answers::Form;
-use tree_commands::tracked_files::{tracked_at, write_ignored, write_paths};
+use tree_commands::tracked_files::{write_ignored, write_paths};
 use tree_files::{CheckFault, FileKinds, FolderFiles};
 
-/// Lists the tracked paths at or below a folder.
+/// Lists the tracked paths that pathspecs match, and notes which of these met one.
 pub(crate) fn list_tracked<O: Write>(
     alloc: Global,
     standpoint: &Standpoint,
     form: Form,
     tracked: &Index,
-    folder: &str,
+    list: &PathspecList,
+    met: &mut MetElements,
     output: &mut Watched<O>,
 ) -> Result<()>
     requires { has_failed output.old ≡ false }
 {
-    let paths = asked_paths(alloc, standpoint, tracked, folder)?;
+    let paths = matched_paths(alloc, list, tracked.entries())?;
+    note_tracked(alloc, list, tracked.entries(), &paths, met)?;
     let told = write_paths(alloc, standpoint, form, &paths, output);
     answer_of(told, |fault| CheckFault::of_ignore(alloc, fault))
 }
 
-/// Lists the tracked paths at or below a folder, where the repository may have no work tree. No file of patterns is read.
-pub(crate) fn list_index<R: Files + Env + AllocGlobal, O: Write>(
+/// Lists the tracked paths that pathspecs match, where the repository may have no work tree. No file of patterns is read.
+pub(crate) fn list_index<R: Files + Env + Eprint + AllocGlobal, O: Write>(
     rt: &R,
     alloc: Global,
     options: &Options<'_>,
-    nul: bool,
-    folder: &str,
+    asked: &ListFiles<'_>,
     output: &mut Watched<O>,
-) -> Result<()> {
+) -> Result<bool> {
     if output.failed() {
         return Err(Fault::Unwritten);
     }
     go_to_folders(rt, alloc, options)?;
     let place = index_place(rt, alloc, options)?;
-    refuse_pattern(rt, alloc, &place.standpoint, folder)?;
+    let settings = settings_for(rt, alloc, options.pathspecs, &asked.pathspecs)?;
+    let told = ToldPathspecs::read(alloc, &place.standpoint, settings, &asked.pathspecs)?;
     let tracked = place.index.read(rt, alloc)?;
-    let form = Form::ended_by(nul, place.quoting);
-    list_tracked(alloc, &place.standpoint, form, &tracked, folder, output)
+    let form = Form::ended_by(asked.nul, place.quoting);
+    let mut met = MetElements::none(alloc, &told.list, asked.error_unmatch)?;
+    list_tracked(
+        alloc,
+        &place.standpoint,
+        form,
+        &tracked,
+        &told.list,
+        &mut met,
+        output,
+    )?;
+    met.tell_unmet(rt, alloc, &told)
 }
 
 /// Lists those of them that are ignored, by the patterns of a tree.
@@ -64,27 +85,99 @@ pub(crate) fn list_tracked_ignored<R: Files + Eprint, O: Write>(
     form: Form,
     tracked: &Index,
     tree: Tree<GitIgnoreLines, FolderFiles<'_, R>>,
-    folder: &str,
+    list: &PathspecList,
+    met: &mut MetElements,
     output: &mut Watched<O>,
 ) -> Result<()>
     requires working { has_failed output.old ≡ false }
 {
-    let paths = asked_paths(alloc, standpoint, tracked, folder)?;
+    let paths = matched_paths(alloc, list, tracked.entries())?;
     let kinds = FileKinds::of_tracked(rt, alloc);
-    let (_sources, told) = write_ignored(alloc, standpoint, form, tree, kinds, &paths, output);
+    if !met.is_asked {
+        let (_sources, told) = write_ignored(alloc, standpoint, form, tree, kinds, &paths, output);
+        return answer_of(told, |fault| CheckFault::of_ignore(alloc, fault));
+    }
+    let mut text = Watched::new(Vec::new(alloc));
+    let top = at_top(standpoint)?;
+    let (_sources, told) = write_ignored(
+        alloc,
+        &top,
+        Form::Records,
+        tree,
+        kinds,
+        &paths,
+        &mut text,
+    );
+    answer_of(told, |fault| CheckFault::of_ignore(alloc, fault))?;
+    let text = text.into_inner();
+    let ignored = records_of(alloc, &text)?;
+    note_tracked(alloc, list, tracked.entries(), &ignored, met)?;
+    let told = write_paths(alloc, standpoint, form, &ignored, output);
     answer_of(told, |fault| CheckFault::of_ignore(alloc, fault))
 }
 
-/// The tracked paths at or below a folder.
-fn asked_paths<'a>(
+/// The paths of the entries that a list matches, in the order of the index, each as often as it has stages.
+fn matched_paths<'a>(
     alloc: Global,
-    standpoint: &Standpoint,
-    tracked: &'a Index,
-    folder: &str,
-) -> Result<Vec<&'a [u8]>> {
-    let told = folder.as_bytes();
-    match tracked_at(alloc, standpoint, tracked.entries(), told) {
-        Ok(paths) => Ok(paths),
-        Err(fault) => Err(CheckFault::of_lead(alloc, told, fault).into()),
+    list: &PathspecList,
+    entries: &'a [Entry],
+) -> Result<Vec<&'a [u8]>, AllocError>
+    ensures { IfOk result (λ paths. AreMatched list.now (map tracked entries.now) (map (λ (path : Bor (List ℕ)). path.now) paths.items)) }
+{
+    let mut paths = Vec::new(alloc);
+    'entries: for entry in entries {
+        push_matched(alloc, &mut paths, list, entry)?;
     }
+    Ok(paths)
+}
+
+/// Pushes the path of an entry, where a list matches it.
+fn push_matched<'a>(
+    alloc: Global,
+    paths: &mut Vec<&'a [u8]>,
+    list: &PathspecList,
+    entry: &'a Entry,
+) -> Result<(), AllocError>
+    ensures { OnOk result (AddsMatched list.now (tracked entry.now) (map (λ (path : Bor (List ℕ)). path.now) paths.old.items) (map (λ (path : Bor (List ℕ)). path.now) paths.new.items)) }
+{
+    let listed = ListedPath::of_entry(alloc, entry)?;
+    if listed.is_matched(list) {
+        paths.push(entry.path.as_slice())?;
+    }
+    Ok(())
+}
+
+/// Notes entries of the index that have one of these paths, and are listed.
+fn note_tracked(
+    alloc: Global,
+    list: &PathspecList,
+    entries: &[Entry],
+    paths: &[&[u8]],
+    met: &mut MetElements,
+) -> Result<(), AllocError> {
+    if !met.is_asked {
+        return Ok(());
+    }
+    let mut left = paths;
+    'entries: for entry in entries {
+        // (the paths are some of those of the entries, in the same order)
+        if let Some((path, rest)) = left.split_first() {
+            if *path == entry.path.as_slice() {
+                met.note(list, &ListedPath::of_entry(alloc, entry)?);
+                left = rest;
+            }
+        }
+    }
+    Ok(())
+}
+
+/// The records of a text, each of which a byte 0 ends.
+pub(crate) fn records_of(alloc: Global, text: &[u8]) -> Result<Vec<&[u8]>, AllocError> {
+    let mut records = Vec::new(alloc);
+    'records: for record in text.split(|byte| *byte == 0) {
+        if !record.is_empty() {
+            records.push(record)?;
+        }
+    }
+    Ok(records)
 }

@@ -34,10 +34,34 @@ pub(crate) fn run_listing<R: Files + Env + Clock + Eprint + AllocGlobal + Clone 
 ) -> Result<u8>
     ensures status { IfOk result IsAnswered }
 {
+    let mut source = source_of(rt, alloc, fronts, shows_progress)?;
+    let outcome = run_files(alloc, listing, &fronts.tracked, &mut source, told, output);
+    ended(alloc, told, outcome, source.end())
+}
+
+/// The files that are listed.
+pub(crate) fn source_of<'a, R: Files + Env + Clock + Eprint>(
+    rt: &'a R,
+    alloc: Global,
+    fronts: &'a Fronts,
+    shows_progress: bool,
+) -> Result<TreeFiles<'a, R>> {
     let nested = nested_repositories(rt, alloc, fronts)?;
-    let mut source = TreeFiles::new(rt, alloc, &fronts.indexed, nested, shows_progress)?;
-    match run_files(alloc, listing, &fronts.tracked, &mut source, told, output) {
-        Ok(()) if source.end() => Ok(NOT_ALL_LISTED),
+    let source = TreeFiles::new(rt, alloc, &fronts.indexed, nested, shows_progress)?;
+    Ok(source)
+}
+
+/// What a command ends with after a listing from the path that is told, where something couldn't be read or all could.
+pub(crate) fn ended(
+    alloc: Global,
+    told: &[u8],
+    outcome: Result<(), FilesFault<CheckFault>>,
+    is_short: bool,
+) -> Result<u8>
+    ensures status { IfOk result IsAnswered }
+{
+    match outcome {
+        Ok(()) if is_short => Ok(NOT_ALL_LISTED),
         Ok(()) => Ok(ANSWERED),
         Err(FilesFault::Write(error)) => Err(Fault::Write(error)),
         Err(FilesFault::Endless) => Err(Fault::EndlessTree),

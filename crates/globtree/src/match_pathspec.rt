@@ -8,11 +8,11 @@ use crate::check_ignore::bytes_of;
 use crate::fault::{Fault, Result};
 use crate::matching::PathMatcher;
 use crate::outcomes::{answer_of, status_by};
-use crate::pathspec_settings::settings_of;
+use crate::pathspec_settings::settings_by;
 use crate::words::match_pathspec::MatchPathspec;
 use byte_streams::Watched;
 use git_paths::{Quoting, Standpoint};
-use pathspecs::{PathspecList, ReadFault};
+use pathspecs::{PathspecList, ReadFault, Settings};
 use std::alloc::{AllocError, Global};
 use std::io::{Read, Write};
 use std::rt::Env;
@@ -31,7 +31,7 @@ pub(crate) fn match_pathspec<R: Env, I: Read, O: Write>(
     ensures status { IfOk result IsAnswered }
     ensures answered { IfOk result (λ status. AnswersMatch asked.entry status (I.remaining (inner input.old)) (I.remaining (inner input.new)) (O.contents (inner output.old)) (O.contents (inner output.new))) }
 {
-    let settings = settings_of(rt, alloc)?;
+    let settings = settings_by(rt, alloc, Settings::default())?;
     let standpoint = top_alone(alloc)?;
     let words = bytes_of(alloc, &asked.pathspecs)?;
     let list = match PathspecList::read(alloc, &standpoint, settings, &words) {
@@ -62,7 +62,7 @@ fn top_alone(alloc: Global) -> Result<Standpoint, AllocError>
 }
 
 /// What is told where words are no pathspecs.
-fn fault_of(alloc: Global, words: &[&str], fault: ReadFault) -> Fault {
+pub(crate) fn fault_of(alloc: Global, words: &[&str], fault: ReadFault) -> Fault {
     match fault {
         ReadFault::Memory => Fault::Memory(AllocError),
         ReadFault::Word { place, fault } => {

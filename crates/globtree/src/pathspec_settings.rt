@@ -1,4 +1,4 @@
-//! The variables of the environment by which Git reads pathspecs otherwise.
+//! The variables of the environment, and the options, by which pathspecs are read otherwise.
 ghost use Rattle.std.specs.Prelude.{◌≡◌, [], IfOk, IsTrue, OnOk, false};
 ghost use Rattle.std.specs.Io.KnownBytes.{Consumes};
 ghost use Rattle.byte_streams.specs.Watched.{has_failed, inner};
@@ -20,18 +20,39 @@ const NOGLOB: &str = "GIT_NOGLOB_PATHSPECS";
 
 const ICASE: &str = "GIT_ICASE_PATHSPECS";
 
-/// What the variables say.
-pub(crate) fn settings_of<R: Env>(rt: &R, alloc: Global) -> Result<Settings> {
+/// What counts for pathspecs: an option, or else its variable.
+pub(crate) fn settings_by<R: Env>(rt: &R, alloc: Global, options: Settings) -> Result<Settings> {
     Ok(Settings {
-        literal: is_true(rt, alloc, LITERAL)?,
-        glob: is_true(rt, alloc, GLOB)?,
-        noglob: is_true(rt, alloc, NOGLOB)?,
-        icase: is_true(rt, alloc, ICASE)?,
+        literal: options.literal || is_true(rt, alloc, LITERAL)?,
+        glob: options.glob || is_true(rt, alloc, GLOB)?,
+        noglob: options.noglob || is_true(rt, alloc, NOGLOB)?,
+        icase: options.icase || is_true(rt, alloc, ICASE)?,
     })
 }
 
-/// Refuses a variable that is true, and one that is no boolean, as Git does where a path is told. The command is named.
-pub(crate) fn refuse_settings<R: Env>(rt: &R, alloc: Global, command: &str) -> Result<()> {
+/// The same for these words: without one no variable is read.
+pub(crate) fn settings_for<R: Env>(
+    rt: &R,
+    alloc: Global,
+    options: Settings,
+    words: &[&str],
+) -> Result<Settings> {
+    if words.is_empty() {
+        return Ok(options);
+    }
+    settings_by(rt, alloc, options)
+}
+
+/// Refuses an option, a variable that is true, and one that is no boolean, as Git does where a path is told. The command is named.
+pub(crate) fn refuse_settings<R: Env>(
+    rt: &R,
+    alloc: Global,
+    options: Settings,
+    command: &str,
+) -> Result<()> {
+    if options != Settings::default() {
+        return Err(Fault::told(format!(in alloc; "{command} takes no setting for pathspecs")));
+    }
     'names: for name in [LITERAL, GLOB, NOGLOB, ICASE] {
         if is_true(rt, alloc, name)? {
             return Err(Fault::told(format!(in alloc;
@@ -46,6 +67,7 @@ pub(crate) fn refuse_settings<R: Env>(rt: &R, alloc: Global, command: &str) -> R
 pub(crate) fn refuse_settings_for<R: Env, I: Read>(
     rt: &R,
     alloc: Global,
+    options: Settings,
     command: &str,
     input: &mut Watched<I>,
 ) -> Result<()>
@@ -53,7 +75,7 @@ pub(crate) fn refuse_settings_for<R: Env, I: Read>(
     ensures working { OnOk result (has_failed input.new ≡ false) }
     ensures kept { OnOk result (Consumes (I.remaining (inner input.old)) (I.remaining (inner input.new)) []) }
 {
-    let Err(refusal) = refuse_settings(rt, alloc, command) else {
+    let Err(refusal) = refuse_settings(rt, alloc, options, command) else {
         return Ok(());
     };
     if is_at_end(input).map_err(Fault::Read)? {

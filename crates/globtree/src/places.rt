@@ -54,3 +54,11 @@ pub(crate) fn copy_of(standpoint: &Standpoint) -> Result<Standpoint, AllocError>
         is_inside: standpoint.is_inside,
     })
 }
+
+/// From the top of the same work tree.
+pub(crate) fn at_top(standpoint: &Standpoint) -> Result<Standpoint, AllocError> {
+    let mut top = copy_of(standpoint)?;
+    top.here.clear();
+    top.is_inside = true;
+    Ok(top)
+}

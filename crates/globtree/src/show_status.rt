@@ -7,7 +7,7 @@ use crate::fronts::{Fronts, case_of, fronts_on, ground_of};
 use crate::index_use::{IndexUse, take_from_index};
 use crate::listing::{copies_of, run_listing};
 use crate::outcomes::ANSWERED;
-use crate::places::copy_of;
+use crate::places::{at_top, copy_of};
 use crate::words::Options;
 use crate::words::status::{IgnoredFiles, ShowStatus};
 use byte_streams::Watched;
@@ -83,11 +83,11 @@ impl StatusLines {
         mark: Mark,
         folders: Folders,
     ) -> Result<Listing, AllocError> {
-        let mut standpoint = copy_of(&fronts.standpoint)?;
-        if !self.is_relative {
-            standpoint.here.clear();
-            standpoint.is_inside = true;
-        }
+        let standpoint = if self.is_relative {
+            copy_of(&fronts.standpoint)?
+        } else {
+            at_top(&fronts.standpoint)?
+        };
         let chosen = match mark {
             Mark::Ignored => Chosen::Ignored,
             Mark::Bare | Mark::Untracked => Chosen::Unignored,

@@ -1,4 +1,4 @@
-//! The path that `files` is told: a name here, and a pattern of paths to Git. One that Git reads as more than a name is refused.
+//! The path that `files --directory` is told: a name here, and a pattern of paths to Git. One that Git reads as more than a name is refused.
 ghost use Rattle.std.specs.Prelude.{◌≡◌};
 ghost use Rattle.std.specs.List.{list_any};
 ghost use Rattle.glob_matcher.specs.Bytes.{is_special};
@@ -6,6 +6,7 @@ ghost use Rattle.glob_matcher.specs.Bytes.{is_special};
 use crate::fault::{Fault, Result};
 use crate::pathspec_settings::refuse_settings;
 use git_paths::Standpoint;
+use pathspecs::Settings;
 use std::alloc::Global;
 use std::rt::{Env, Files};
 use tree_commands::check_ignore::PathKinds;
@@ -18,23 +19,24 @@ const HERE: &str = ".";
 pub(crate) fn refuse_pattern<R: Env>(
     rt: &R,
     alloc: Global,
+    options: Settings,
     standpoint: &Standpoint,
     told: &str,
 ) -> Result<()> {
     if told == HERE {
         return Ok(());
     }
-    refuse_settings(rt, alloc, "files")?;
+    refuse_settings(rt, alloc, options, "files --directory")?;
     if told.as_bytes().starts_with(b":") {
         return Err(Fault::told(format!(in alloc;
-            "'{told}' has a colon in front, which isn't of a path to Git: files takes a name"
+            "'{told}' has a colon in front, which isn't of a path to Git: --directory takes a name"
         )));
     }
     let path = led_path(alloc, standpoint, told)?;
     if has_special(&path) {
         let path = path_text(alloc, &path)?;
         return Err(Fault::told(format!(in alloc;
-            "'{path}' may be a pattern of paths to Git: files takes a name"
+            "'{path}' may be a pattern of paths to Git: --directory takes a name"
         )));
     }
     Ok(())

@@ -2,3 +2,4 @@ pub mod KeyLemmas
 pub mod ClosedLemmas
 pub mod FileLemmas
 pub mod ShownLemmas
+pub mod NarrowedLemmas

@@ -1,4 +1,5 @@
 pub mod Closed
 pub mod FileLists
 pub mod Indexed
+pub mod Narrowing
 pub mod Telling

@@ -5,11 +5,8 @@ use crate::words::command_words::CommandWords;
 use crate::words::fault::WordFault;
 use std::alloc::Global;
 
-/// What stands where no folder is told.
-const HERE: &str = ".";
-
 /// What the words behind `files` ask for.
-#[derive(Clone, Copy, Debug)]
+#[derive(Drop)]
 pub(crate) struct ListFiles<'a> {
     /// `-c`: the paths are listed that are tracked.
     pub(crate) cached: bool,
@@ -25,8 +22,10 @@ pub(crate) struct ListFiles<'a> {
     pub(crate) exclude_standard: bool,
     /// `-z`: a NUL ends each name, and none is quoted.
     pub(crate) nul: bool,
-    /// The folder below which files are listed, or a file.
-    pub(crate) folder: &'a str,
+    /// `--error-unmatch`: a pathspec that meets nothing that is listed is told, and the status is 1.
+    pub(crate) error_unmatch: bool,
+    /// The pathspecs: which paths are listed. Without one, those below the current folder are.
+    pub(crate) pathspecs: Vec<&'a str>,
 }
 
 impl<'a> ListFiles<'a> {
@@ -41,7 +40,8 @@ impl<'a> ListFiles<'a> {
             no_empty_directory: false,
             exclude_standard: false,
             nul: false,
-            folder: HERE,
+            error_unmatch: false,
+            pathspecs: Vec::new(alloc),
         };
         'options: for option in &told.options {
             match option.name {
@@ -51,42 +51,44 @@ impl<'a> ListFiles<'a> {
                 "--directory" => asked.directory = true,
                 "--no-empty-directory" => asked.no_empty_directory = true,
                 "--exclude-standard" => asked.exclude_standard = true,
+                "--error-unmatch" => asked.error_unmatch = true,
                 _ => asked.nul = true,
             }
         }
-        match told.all_operands()?.as_slice() {
-            [] => Ok(asked),
-            [folder] => Ok(ListFiles { folder, ..asked }),
-            [_folder, word, ..] => Err(WordFault::Surplus {
-                command: CommandName::Files,
-                word,
-            }),
-        }
+        asked.pathspecs = told.all_operands()?;
+        Ok(asked)
     }
 
     /// Why these don't go together; `None` where they do.
-    pub(crate) fn disagreement(self) -> Option<&'static str> {
+    pub(crate) fn disagreement(&self) -> Option<&'static str> {
         if self.ignored && !self.others && !self.cached {
             return Some("ls-files -i must be used with either -o or -c");
         }
         if self.ignored && !self.exclude_standard {
             return Some("ls-files --ignored needs some exclude pattern");
         }
+        if self.directory && self.pathspecs.len() > 1 {
+            return Some("--directory takes one path");
+        }
+        if self.directory && self.error_unmatch {
+            return Some("--directory and --error-unmatch don't go together");
+        }
         None
     }
 
     /// Whether there is none of them but `-z`: files are listed then that aren't ignored, whether they are tracked or not.
-    pub(crate) fn are_usual(self) -> bool {
+    pub(crate) fn are_usual(&self) -> bool {
         !(self.cached
             || self.others
             || self.ignored
             || self.directory
             || self.no_empty_directory
-            || self.exclude_standard)
+            || self.exclude_standard
+            || self.error_unmatch)
     }
 
     /// Whether paths are listed that are tracked: by `-c`, and where there are options and none of them is `-o`.
-    pub(crate) fn lists_tracked(self) -> bool {
+    pub(crate) fn lists_tracked(&self) -> bool {
         self.cached || (!self.others && !self.are_usual())
     }
 }

@@ -3,6 +3,7 @@
 use crate::words::fault::WordFault;
 use crate::words::option_words::{NoOption, OptionWord, add_options, is_option};
 use crate::words::texts;
+use pathspecs::Settings;
 use std::alloc::{AllocError, Global};
 
 /// What is asked for before the command. Where an option stands there twice, the last one counts.
@@ -26,6 +27,8 @@ pub(crate) struct Options<'a> {
     pub(crate) system: Option<&'a str>,
     /// `--attributes FILE`: the user's attribute file.
     pub(crate) attributes: Option<&'a str>,
+    /// `--literal-pathspecs` and so on: what counts for all pathspecs.
+    pub(crate) pathspecs: Settings,
 }
 
 /// What stands before the command.
@@ -97,6 +100,7 @@ impl<'a> Options<'a> {
             ignore_case: false,
             system: None,
             attributes: None,
+            pathspecs: Settings::default(),
         }
     }
 
@@ -113,6 +117,10 @@ impl<'a> Options<'a> {
                 ("--system", value) => self.system = value,
                 ("--attributes", value) => self.attributes = value,
                 ("--ignore-case", _) => self.ignore_case = true,
+                ("--literal-pathspecs", _) => self.pathspecs.literal = true,
+                ("--glob-pathspecs", _) => self.pathspecs.glob = true,
+                ("--noglob-pathspecs", _) => self.pathspecs.noglob = true,
+                ("--icase-pathspecs", _) => self.pathspecs.icase = true,
                 // the others have no effect
                 _ => {}
             }

@@ -1,27 +1,33 @@
 //! The help of `files`.
 
 pub(crate) const HELP: &str = "\
-usage: globtree [OPTION..] files [-c] [-o] [-i] [--exclude-standard] [-z] [DIR]
+usage: globtree [OPTION..] files [-c] [-o] [-i] [--exclude-standard] [--error-unmatch] [-z]
+                                 [--] [PATHSPEC..]
        globtree [OPTION..] files -o --directory [--no-empty-directory] [OPTION..] [DIR]
 
-Prints the files below DIR that aren't ignored, tracked or not; without DIR, those below the current
-folder. With options, prints what git ls-files prints with the same ones.
+Prints the files that the pathspecs match and that aren't ignored, tracked or not; without one, those
+below the current folder. With options, prints what git ls-files prints with the same ones.
 
 options:
   -c, --cached          the tracked paths
   -o, --others          the files that aren't tracked
   -i, --ignored         of these, the ignored ones alone; goes with --exclude-standard
   --exclude-standard    patterns count
+  --error-unmatch       tell each pathspec that met nothing, and end with status 1
   --directory           with -o: a folder without tracked files by its name
   --no-empty-directory  with it: only if something to print lies in it
   -z                    a byte 0 ends each name, and none is quoted
   -h, --help            this text (-h: alone)
 
+A pathspec is a path, with all that lies below it, or a pattern. :!x leaves out what x meets, :/x is
+told from the top. In :(glob)x wildcards match no slash, in :(icase)x case doesn't count, in
+:(literal)x no byte is special.
+
 example:
-  $ globtree files src
+  $ globtree files '*.c' ':!vendor'
   src/lib.c
   src/main.c
 
-The status is 0 after an answer, 1 where something couldn't be read, 128 after a fault, 129 where the
-words are wrong.
+The status is 0 after an answer, 1 where something couldn't be read or, with --error-unmatch, a
+pathspec met nothing, 128 after a fault, 129 where the words are wrong.
 ";

@@ -25,6 +25,10 @@ options, before the command:
   --ignore-case        the case of letters doesn't count in patterns
   --system FILE        the system's attribute file; else it is /etc/gitattributes
   --attributes FILE    the user's attribute file, in place of core.attributesFile
+  --literal-pathspecs  files takes pathspecs as they stand: no head, and no byte is special
+  --glob-pathspecs     in pathspecs, wildcards match no slash
+  --noglob-pathspecs   in pathspecs, no byte is special
+  --icase-pathspecs    in pathspecs, the case of letters doesn't count
   -P, --no-pager       without effect
   --no-optional-locks  without effect
   -h, --help           this text; behind a command, that of the command

@@ -1,0 +1,27 @@
+-- The entries that pathspecs match.
+use Rattle.std.proofs.Common.{◌≡◌, ◌⊎◌, inl, inr, refl, ◌∷◌, ◌++◌, [], ℕ, ◌+◌, ◌<◌, List, length, slice_index_or, sym, ap, ◌∙◌, subst, arith}
+use Rattle.std.proofs.lemmas.Bool.{cases_lt}
+use Rattle.std.proofs.lemmas.List.{get_or_default}
+use Rattle.git_index.specs.Entries.{Tracked}
+use Rattle.pathspecs.specs.Elements.{PathspecItem}
+use Rattle.globtree.specs.Listed.{AddsMatched, AreMatched}
+
+-- what was passed over stays so with one more
+pub pass_over : {X : Type 0} (P : X → Type 0) (xs : List X) (i : ℕ) (x : X) → i < length xs → x ≡ slice_index_or xs i x → (P x → ⊥)
+    → ((k : ℕ) (y : X) → k < i → slice_index_or xs k y ≡ y → P y → ⊥)
+    → (k : ℕ) (y : X) → k < i + 1 → slice_index_or xs k y ≡ y → P y → ⊥
+pass_over P xs i x low is other before k y less at has = elim (cases_lt k i) [
+  | inl earlier ↦ before k y earlier at has
+  | inr later ↦
+      let here : k ≡ i = omega (arith, less, later) in
+      let same : y ≡ x = sym at ∙ ap (λ n. slice_index_or xs n y) here ∙ get_or_default xs i y x low ∙ sym is in
+      other (subst P same has)
+]
+
+-- one entry more
+pub one_more : (items : List PathspecItem) (entries : List Tracked) (entry : Tracked) (old new : List (List ℕ)) → AreMatched items entries old → AddsMatched items entry old new → AreMatched items (entries ++ entry ∷ []) new
+one_more items [] entry old new none (inl (matches, is)) = inl (matches, [], is ∙ ap (λ paths. paths ++ entry.path ∷ []) none, refl)
+one_more items [] entry old new none (inr (other, is)) = inr (other, is ∙ none)
+one_more items (first ∷ entries) entry old new (inl (matches, rest, begins, more)) (inl (its, is)) = inl (matches, rest ++ entry.path ∷ [], is ∙ ap (λ paths. paths ++ entry.path ∷ []) begins, one_more items entries entry rest (rest ++ entry.path ∷ []) more (inl (its, refl)))
+one_more items (first ∷ entries) entry old new (inl (matches, rest, begins, more)) (inr (other, is)) = inl (matches, rest, is ∙ begins, one_more items entries entry rest rest more (inr (other, refl)))
+one_more items (first ∷ entries) entry old new (inr (passed, more)) adds = inr (passed, one_more items entries entry old new more adds)
