@@ -60,11 +60,11 @@ pub(crate) fn explain<
     let tracked = TrackedPaths::new(index);
     let mut explainer = Explainer::new(rt, alloc, &fronts, tracked, form, case)?;
     if asked.stdin {
-        refuse_settings_for(rt, alloc, NAME, input)?;
+        refuse_settings_for(rt, alloc, options.pathspecs, NAME, input)?;
         answer_records(alloc, &mut explainer, form, input, output).map_err(fault_of)?;
         return Ok(ANSWERED);
     }
-    refuse_settings(rt, alloc, NAME)?;
+    refuse_settings(rt, alloc, options.pathspecs, NAME)?;
     let mut text = Vec::new(alloc);
     'paths: for path in &asked.paths {
         explainer.answer(&mut text, path.as_bytes())?;

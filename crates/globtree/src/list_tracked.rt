@@ -158,14 +158,12 @@ fn note_tracked(
     if !met.is_asked {
         return Ok(());
     }
-    let mut left = paths;
+    let mut noted = 0;
     'entries: for entry in entries {
         // (the paths are some of those of the entries, in the same order)
-        if let Some((path, rest)) = left.split_first() {
-            if *path == entry.path.as_slice() {
-                met.note(list, &ListedPath::of_entry(alloc, entry)?);
-                left = rest;
-            }
+        if noted < paths.len() && paths[noted] == entry.path.as_slice() {
+            met.note(list, &ListedPath::of_entry(alloc, entry)?);
+            noted += 1;
         }
     }
     Ok(())

@@ -1,5 +1,6 @@
 //! A listing of the files that are found and that pathspecs ask for.
 ghost use Rattle.std.specs.Prelude.{IfOk};
+ghost use Rattle.tree_commands.specs.Private.FoldedPaths.{AreFoldedBy};
 ghost use Rattle.globtree.specs.Running.{IsAnswered};
 
 use crate::common_front::common_front;
@@ -46,7 +47,7 @@ pub(crate) fn run_narrowed<
     let asked = AskedPaths {
         list: &told.list,
         alone: &told.alone,
-        tracked: TrackedFolders::new(&fronts.tracked, folded.as_ref()),
+        tracked: TrackedFolders::new(&fronts.tracked, &folded),
     };
     let source = source_of(rt, alloc, fronts, shows_progress)?;
     let mut narrowed = Narrowed::new(alloc, source, asked);
@@ -96,7 +97,9 @@ fn below_top(alloc: Global, standpoint: &Standpoint, front: &[u8]) -> Result<Vec
 }
 
 /// The paths of an index without case, where case doesn't count.
-fn folded_by(alloc: Global, case: Case, index: &Index) -> Result<Option<FoldedPaths>, AllocError> {
+fn folded_by(alloc: Global, case: Case, index: &Index) -> Result<Option<FoldedPaths>, AllocError>
+    ensures { IfOk result (λ folded. AreFoldedBy case folded index.now) }
+{
     match case {
         Case::Sensitive => Ok(None),
         Case::Fold => Ok(Some(FoldedPaths::new(alloc, index)?)),
