@@ -5,12 +5,12 @@ ghost use Rattle.git_index.specs.Entries.{tracked};
 ghost use Rattle.pathspecs.specs.declared.manner.Manner.TheVariants.{Exact};
 ghost use Rattle.pathspecs.specs.Elements.{MeetsBy};
 ghost use Rattle.tree_commands.specs.TrackedFiles.{is_submodule};
-ghost use Rattle.tree_files.specs.Narrowing.{as_folder};
 ghost use Rattle.globtree.specs.Listed.{IsMetListed, IsText, MatchesListed, MeetsListed, folder_of_entry, seen_listed};
 
 use git_index::{Entry, Kind};
 use pathspecs::{Element, Manner, PathspecList};
 use std::alloc::{AllocError, Global};
+use tree_files::folder_path;
 
 /// A path that is listed, as pathspecs are held against it.
 #[derive(Debug, Drop)]
@@ -37,7 +37,7 @@ impl<'a> ListedPath<'a> {
     {
         let path = entry.path.as_slice();
         let folder = if is_submodule(entry.kind) {
-            Some(with_slash(alloc, path)?)
+            Some(folder_path(alloc, path)?)
         } else {
             None
         };
@@ -103,14 +103,4 @@ fn is_submodule(kind: Kind) -> bool
     ensures { result ≡ is_submodule kind }
 {
     matches!(kind, Kind::Submodule)
-}
-
-/// A path and a slash.
-fn with_slash(alloc: Global, path: &[u8]) -> Result<Vec<u8>, AllocError>
-    ensures { IfOk result (λ folder. folder.items ≡ as_folder path.now) }
-{
-    let mut folder = Vec::with_capacity(alloc, path.len() + 1)?;
-    folder.extend_from_slice(path)?;
-    folder.push(b'/')?;
-    Ok(folder)
 }

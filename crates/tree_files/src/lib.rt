@@ -23,7 +23,7 @@ pub use fault::CheckFault;
 pub use file_kinds::FileKinds;
 pub use files::TreeFiles;
 pub use indexed_files::IndexedFiles;
-pub use narrowed::{AskedPaths, Narrowed};
+pub use narrowed::{AskedPaths, Narrowed, folder_path};
 pub use nested::NestedRepositories;
 pub use seen_files::{file_list, named_list};
 pub use sources::FolderFiles;

@@ -193,7 +193,7 @@ impl<'a, S: FileSource<Fault = CheckFault>> Narrowed<'a, S> {
 }
 
 /// A path as a folder's, with a slash at its end.
-fn folder_path(alloc: Global, path: &[u8]) -> Result<Vec<u8>, AllocError>
+pub fn folder_path(alloc: Global, path: &[u8]) -> Result<Vec<u8>, AllocError>
     ensures { IfOk result (λ folder. folder.items ≡ as_folder path.now) }
 {
     let mut folder = Vec::with_capacity(alloc, path.len() + 1)?;
