@@ -26,8 +26,8 @@ first_unless First Not false first is = (λ _. (first, λ has. false≢true (is.
 
 -- one entry more
 pub one_more : (items : List PathspecItem) (entries : List Tracked) (entry : Tracked) (old new : List (List ℕ)) → AreMatched items entries old → AddsMatched items entry old new → AreMatched items (entries ++ entry ∷ []) new
-one_more items [] entry old new none (inl (matches, is)) = inl (matches, [], is ∙ ap (λ paths. paths ++ entry.path ∷ []) none, refl)
+one_more items [] entry old new none (inl (matches, is)) = inl (matches, ([], is ∙ ap (λ paths. paths ++ entry.path ∷ []) none, refl))
 one_more items [] entry old new none (inr (other, is)) = inr (other, is ∙ none)
-one_more items (first ∷ entries) entry old new (inl (matches, rest, begins, more)) (inl (its, is)) = inl (matches, rest ++ entry.path ∷ [], is ∙ ap (λ paths. paths ++ entry.path ∷ []) begins, one_more items entries entry rest (rest ++ entry.path ∷ []) more (inl (its, refl)))
-one_more items (first ∷ entries) entry old new (inl (matches, rest, begins, more)) (inr (other, is)) = inl (matches, rest, is ∙ begins, one_more items entries entry rest rest more (inr (other, refl)))
+one_more items (first ∷ entries) entry old new (inl (matches, (rest, begins, more))) (inl (its, is)) = inl (matches, (rest ++ entry.path ∷ [], is ∙ ap (λ paths. paths ++ entry.path ∷ []) begins, one_more items entries entry rest (rest ++ entry.path ∷ []) more (inl (its, refl))))
+one_more items (first ∷ entries) entry old new (inl (matches, (rest, begins, more))) (inr (other, is)) = inl (matches, (rest, is ∙ begins, one_more items entries entry rest rest more (inr (other, refl))))
 one_more items (first ∷ entries) entry old new (inr (passed, more)) adds = inr (passed, one_more items entries entry old new more adds)

@@ -9,6 +9,6 @@ pub returns-then-is_met_by : goal.returns-then-is_met_by
 returns-then-is_met_by c =
     let listed = seen_listed c.args.self.now in
     let items = c.args.list.now in
-    first_unless (IsMetListed false items listed) (IsMetListed true items listed) c.is_met_by-2.result
+    first_unless (IsMetListed false items listed) (IsMetListed true items listed) c.is_met_by-then-is_met_by.result
     (subst (λ (its : List PathspecItem). IsMetListed false its listed) c.elements.ensures (c.is_met_by.ensures.0 c.if-is_met_by.true))
-    (subst (λ (its : List PathspecItem). IsTrue c.is_met_by-2.result ↔ IsMetListed true its listed) c.elements-2.ensures c.is_met_by-2.ensures)
+    (subst (λ (its : List PathspecItem). IsTrue c.is_met_by-then-is_met_by.result ↔ IsMetListed true its listed) c.elements-then-is_met_by.ensures c.is_met_by-then-is_met_by.ensures)
