@@ -534,6 +534,28 @@ def exclude_names(current, words, *fields):
     return [fault or told.split(":")[0]]
 
 
+def pathspec_listings(folder, options, words, there, *fields):
+    """What is listed by pathspecs from a folder of a repository with these ignore files and what is there."""
+    set_, asked = [], ["-c", "-o", "--exclude-standard", "-z"]
+    variables = dict(ALONE)
+    for option in options.decode().split():
+        if option.startswith("GIT_"):
+            variables.__setitem__(*option.split("=", 1))
+        else:
+            (asked if option == "--error-unmatch" else set_).append(option)
+    files = [(name if name.endswith(b"exclude") else name + b".gitignore", text) for name, text in rows.pairs(fields)]
+    nested = [line[:-5] for line in there.split(b"|") if line.endswith(b".git/")]
+    files += [(each + name, text) for each in nested for name, text in rows.REPOSITORY]
+    with rows.repository_of(files) as top:
+        for each in filter(None, there.split(b"|")):
+            rows.make(top, each)
+        command = "ls-files" if IS_GIT else "files"
+        words = [word.replace(b"/top", os.fsencode(os.path.realpath(top))) for word in words.split(b"|") if words]
+        ran = subprocess.run([PROGRAM, "-C", os.path.join(os.fsencode(top), folder), *set_, command, *asked, "--", *words], env=variables, capture_output=True, check=False)
+    told = re.findall(rb"^error: pathspec '(.*?)' did not match any file\(s\) known to git$", ran.stderr, re.M | re.S)
+    return [str(ran.returncode), b"|".join(ran.stdout.split(b"\0")[:-1]), b"|".join(told)]
+
+
 OF_PATTERNS = (matching, git_paths, trees, trees_told, git_told, trees_asked, ignore_runs, looked_at, git_attributes, attribute_states, all_states, attribute_streams, attribute_names)
 OF_CONFIGURATION = (config_files, config_includes, config_sources, core_settings, status_settings, config_booleans)
-rows.answer({it.__name__: it for it in (*OF_PATTERNS, *OF_CONFIGURATION, repositories, work_trees, exclude_names, tracked_paths, folded_paths, pathspecs)})
+rows.answer({it.__name__: it for it in (*OF_PATTERNS, *OF_CONFIGURATION, repositories, work_trees, exclude_names, tracked_paths, folded_paths, pathspecs, pathspec_listings)})

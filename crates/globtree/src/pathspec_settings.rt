@@ -30,7 +30,7 @@ pub(crate) fn settings_by<R: Env>(rt: &R, alloc: Global, options: Settings) -> R
     })
 }
 
-/// The same for these words: without one no variable is read.
+/// The same for these words: without one nothing counts, and no variable is read.
 pub(crate) fn settings_for<R: Env>(
     rt: &R,
     alloc: Global,
@@ -38,7 +38,7 @@ pub(crate) fn settings_for<R: Env>(
     words: &[&str],
 ) -> Result<Settings> {
     if words.is_empty() {
-        return Ok(options);
+        return Ok(Settings::default());
     }
     settings_by(rt, alloc, options)
 }

@@ -1,6 +1,7 @@
 -- The entries that pathspecs match.
-use Rattle.std.proofs.Common.{◌≡◌, ◌⊎◌, inl, inr, refl, ◌∷◌, ◌++◌, [], ℕ, ◌+◌, ◌<◌, List, length, slice_index_or, sym, ap, ◌∙◌, subst, arith}
-use Rattle.std.proofs.lemmas.Bool.{cases_lt}
+use Rattle.std.proofs.Common.{◌≡◌, ◌⊎◌, inl, inr, refl, Bool, true, false, not, IsTrue, ◌∷◌, ◌++◌, [], ℕ, ◌+◌, ◌<◌, List, length, slice_index_or, sym, ap, ◌∙◌, subst, arith}
+use Rattle.std.specs.Prelude.{◌↔◌}
+use Rattle.std.proofs.lemmas.Bool.{cases_lt, false≢true}
 use Rattle.std.proofs.lemmas.List.{get_or_default}
 use Rattle.git_index.specs.Entries.{Tracked}
 use Rattle.pathspecs.specs.Elements.{PathspecItem}
@@ -18,10 +19,15 @@ pass_over P xs i x low is other before k y less at has = elim (cases_lt k i) [
       other (subst P same has)
 ]
 
+-- the first is so, and the second isn't
+pub first_unless : (First Not : Type 0) (is_not : Bool) → First → (IsTrue is_not ↔ Not) → IsTrue (not is_not) ↔ (First × ¬ Not)
+first_unless First Not true first is = (λ never. absurd (false≢true never), λ both. absurd (both.1 (is.0 refl)))
+first_unless First Not false first is = (λ _. (first, λ has. false≢true (is.1 has)), λ _. refl)
+
 -- one entry more
 pub one_more : (items : List PathspecItem) (entries : List Tracked) (entry : Tracked) (old new : List (List ℕ)) → AreMatched items entries old → AddsMatched items entry old new → AreMatched items (entries ++ entry ∷ []) new
-one_more items [] entry old new none (inl (matches, is)) = inl (matches, [], is ∙ ap (λ paths. paths ++ entry.path ∷ []) none, refl)
+one_more items [] entry old new none (inl (matches, is)) = inl (matches, ([], is ∙ ap (λ paths. paths ++ entry.path ∷ []) none, refl))
 one_more items [] entry old new none (inr (other, is)) = inr (other, is ∙ none)
-one_more items (first ∷ entries) entry old new (inl (matches, rest, begins, more)) (inl (its, is)) = inl (matches, rest ++ entry.path ∷ [], is ∙ ap (λ paths. paths ++ entry.path ∷ []) begins, one_more items entries entry rest (rest ++ entry.path ∷ []) more (inl (its, refl)))
-one_more items (first ∷ entries) entry old new (inl (matches, rest, begins, more)) (inr (other, is)) = inl (matches, rest, is ∙ begins, one_more items entries entry rest rest more (inr (other, refl)))
+one_more items (first ∷ entries) entry old new (inl (matches, (rest, begins, more))) (inl (its, is)) = inl (matches, (rest ++ entry.path ∷ [], is ∙ ap (λ paths. paths ++ entry.path ∷ []) begins, one_more items entries entry rest (rest ++ entry.path ∷ []) more (inl (its, refl))))
+one_more items (first ∷ entries) entry old new (inl (matches, (rest, begins, more))) (inr (other, is)) = inl (matches, (rest, is ∙ begins, one_more items entries entry rest rest more (inr (other, refl))))
 one_more items (first ∷ entries) entry old new (inr (passed, more)) adds = inr (passed, one_more items entries entry old new more adds)
