@@ -1,5 +1,5 @@
 //! Tracked paths, as `files -c` lists them.
-ghost use Rattle.std.specs.Prelude.{◌≡◌, ℕ, List, false, IfOk, OnOk, map};
+ghost use Rattle.std.specs.Prelude.{◌≡◌, ◌∷◌, ◌++◌, [], ℕ, List, false, IfOk, OnOk, map};
 ghost use Rattle.std.specs.Borrow.{Bor};
 ghost use Rattle.byte_streams.specs.Watched.{has_failed};
 ghost use Rattle.git_index.specs.Entries.{tracked};
@@ -141,9 +141,18 @@ fn push_matched<'a>(
     ensures { OnOk result (AddsMatched list.now (tracked entry.now) (map (λ (path : Bor (List ℕ)). path.now) paths.old.items) (map (λ (path : Bor (List ℕ)). path.now) paths.new.items)) }
 {
     let listed = ListedPath::of_entry(alloc, entry)?;
-    if listed.is_matched(list) {
-        paths.push(entry.path.as_slice())?;
+    if !listed.is_matched(list) {
+        return Ok(());
     }
+    push_path(paths, entry)?;
+    Ok(())
+}
+
+/// Pushes the path of an entry.
+fn push_path<'a>(paths: &mut Vec<&'a [u8]>, entry: &'a Entry) -> Result<(), AllocError>
+    ensures { IfOk result (λ _. map (λ (path : Bor (List ℕ)). path.now) paths.new.items ≡ map (λ (path : Bor (List ℕ)). path.now) paths.old.items ++ (tracked entry.now).path ∷ []) }
+{
+    paths.push(entry.path.as_slice())?;
     Ok(())
 }
 

@@ -1,11 +1,14 @@
 -- The entries that pathspecs match.
 use Rattle.std.proofs.Common.{◌≡◌, ◌⊎◌, inl, inr, refl, Bool, true, false, not, IsTrue, ◌∷◌, ◌++◌, [], ℕ, ◌+◌, ◌<◌, List, length, slice_index_or, sym, ap, ◌∙◌, subst, arith}
-use Rattle.std.specs.Prelude.{◌↔◌}
+use Rattle.std.specs.Prelude.{◌↔◌, Option}
+use Rattle.std.specs.Option.{option_map}
+use Rattle.std.specs.Vec.{vec_items}
 use Rattle.std.proofs.lemmas.Bool.{cases_lt, false≢true}
 use Rattle.std.proofs.lemmas.List.{get_or_default}
 use Rattle.git_index.specs.Entries.{Tracked}
 use Rattle.pathspecs.specs.Elements.{PathspecItem}
-use Rattle.globtree.specs.Listed.{AddsMatched, AreMatched}
+use Rattle.globtree.specs.declared.listed_path.ListedPath.{ListedPath}
+use Rattle.globtree.specs.Listed.{AddsMatched, AreMatched, Listed, folder_of_entry, listed_of, seen_listed}
 
 -- what was passed over stays so with one more
 pub pass_over : {X : Type 0} (P : X → Type 0) (xs : List X) (i : ℕ) (x : X) → i < length xs → x ≡ slice_index_or xs i x → (P x → ⊥)
@@ -23,6 +26,12 @@ pass_over P xs i x low is other before k y less at has = elim (cases_lt k i) [
 pub first_unless : (First Not : Type 0) (is_not : Bool) → First → (IsTrue is_not ↔ Not) → IsTrue (not is_not) ↔ (First × ¬ Not)
 first_unless First Not true first is = (λ never. absurd (false≢true never), λ both. absurd (both.1 (is.0 refl)))
 first_unless First Not false first is = (λ _. (first, λ has. false≢true (is.1 has)), λ _. refl)
+
+abbrev listed_by : List ℕ → Option (List ℕ) → Listed
+listed_by path folder = record { path = path; folder = folder }
+
+pub same_listed : (listed : ListedPath) (entry : Tracked) → listed.path.now ≡ entry.path → option_map vec_items listed.folder ≡ folder_of_entry entry → seen_listed listed ≡ listed_of entry
+same_listed listed entry path folder = ap (λ (p : List ℕ). listed_by p (option_map vec_items listed.folder)) path ∙ ap (λ (f : Option (List ℕ)). listed_by entry.path f) folder
 
 -- one entry more
 pub one_more : (items : List PathspecItem) (entries : List Tracked) (entry : Tracked) (old new : List (List ℕ)) → AreMatched items entries old → AddsMatched items entry old new → AreMatched items (entries ++ entry ∷ []) new
