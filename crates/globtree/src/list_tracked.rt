@@ -167,17 +167,23 @@ fn note_tracked(
     if !met.is_asked {
         return Ok(());
     }
-    let mut left = paths;
+    let mut place = 0;
     'entries: for entry in entries {
         // (the paths are some of those of the entries, in the same order)
-        if let Some((path, rest)) = left.split_first() {
-            if *path == entry.path.as_slice() {
-                met.note(list, &ListedPath::of_entry(alloc, entry)?);
-                left = rest;
-            }
+        if is_at(paths, place, &entry.path) {
+            met.note(list, &ListedPath::of_entry(alloc, entry)?);
+            place = place.saturating_add(1);
         }
     }
     Ok(())
+}
+
+/// Whether a path stands at a place.
+fn is_at(paths: &[&[u8]], place: usize, path: &[u8]) -> bool {
+    match paths.get(place) {
+        Some(there) => *there == path,
+        None => false,
+    }
 }
 
 /// The records of a text, each of which a byte 0 ends.
