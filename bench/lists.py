@@ -126,7 +126,7 @@ def count_folders(o):
     if o.draw:
         import draw
 
-        draw.folders(o.draw, points)
+        draw.folders(points)
 
 
 def count_names(o):
@@ -199,7 +199,7 @@ def main():
     args.add_argument("--paths", type=int, default=1000)
     args.add_argument("--seed", type=int, default=5)
     args.add_argument("--make", metavar="FOLDER")
-    args.add_argument("--draw", metavar="FILE.svg")
+    args.add_argument("--draw", action="store_true", help="with --folders: put the figures into docs/pictures, and draw them")
     args.add_argument("--folders", metavar="COUNTS", help="count paths among the ignore files of so many folders, as 20,200,2000, and nothing else")
     args.add_argument("--names", metavar="COUNTS", help="count paths against so many plain names and literal ends alone, as 100,1000,100000,1000000, of which the last is timed, and nothing else; status 1 where a goal is missed")
     args.add_argument("--hostile-stacks", metavar="PROGRAM", help="count paths among hostile stacks of lists, beside a PROGRAM that tests each pattern in turn, and nothing else; status 1 where one takes more than 1.05 of that")
@@ -215,7 +215,6 @@ def main():
     sizes = [int(size) for size in (o.sizes or sizes).split(",")]
     missed = 0
     rows = {} if o.make else programs()
-    points = {name: [] for name in rows}
     if rows:
         print("| Patterns | " + " | ".join(rows) + " |\n|---" + "|---" * len(rows) + "|")
     for size in sizes:
@@ -231,16 +230,10 @@ def main():
             subprocess.run(["git", "init", "-q", folder], check=False)
             write(f"{folder}/.gitignore", patterns)
             found = {name: counted(words, size, folder, paths) for name, words in rows.items()}
-        for name, (a_path, _) in found.items():
-            points[name].append((size, a_path))
         missed += most is not None and found["globline ignore"][0] > most
         # what git reads before the first path isn't the patterns alone, and among the other kinds the paths' costs differ too much for a rest
         cells = [f"{a_path:,.0f}" + ("" if most or name.startswith("git") else f" ({a_pattern:,.0f})") for name, (a_path, a_pattern) in found.items()]
         print(f"| {size:,} | " + " | ".join(cells) + " |", flush=True)
-    if o.draw:
-        import draw
-
-        draw.lists(o.draw, points)
     sys.exit(1 if missed else 0)
 
 

@@ -138,8 +138,7 @@ def main():
     args.add_argument("--out", default=f"{HERE}/out", help="a folder for what is built")
     args.add_argument("--only", default="", help="a word that the names of the counted loads hold")
     args.add_argument("--fuzz", type=int, default=1_000_000, help="how many random inputs the answers are compared on")
-    args.add_argument("--draw", metavar="FILE.svg", help="count hostile inputs of several lengths too, and draw them")
-    args.add_argument("--lengths", metavar="FILE.svg", help="count values of several lengths too, and draw them")
+    args.add_argument("--draw", action="store_true", help="count hostile inputs and values of several lengths too, put the figures into docs/pictures, and draw them")
     args.add_argument("--sets", action="store_true", help="count hostile sets of two lengths too: twice the length is to cost at most twice as much")
     options = args.parse_args()
     driver = build(os.path.abspath(options.out), options.sources, options.library, options.git)
@@ -152,11 +151,8 @@ def main():
     if options.draw:
         import draw
 
-        draw.hostile(options.draw, lambda engine, load, size: counted(driver, "count_hostile", engine, load, str(size)))
-    if options.lengths:
-        import draw
-
-        draw.lengths(options.lengths, lambda engine, load, size: counted(driver, "count_hostile", engine, load, str(size)))
+        for picture in (draw.hostile, draw.lengths):
+            picture(lambda engine, load, size: counted(driver, "count_hostile", engine, load, str(size)))
     sys.exit(1 if missed else 0)
 
 

@@ -6,6 +6,7 @@ binding is timed alone. Both sides are given the same lists, of `lists.py`, in t
 several turns, of the processor: first microseconds a path by few patterns, then milliseconds by many. The status is 1 where `match_files`
 isn't as many times as fast by many patterns as the load's goal."""
 import argparse
+import glob
 import os
 import subprocess
 import sys
@@ -14,9 +15,8 @@ import time
 
 HERE = os.path.dirname(os.path.abspath(__file__))
 TOP = os.path.dirname(HERE)
-MADE = os.path.join(TOP, "out", "python", "libgix_glob_c.so.0")
-if os.path.exists(MADE):
-    os.environ.setdefault("GIX_GLOB_LIBRARY", MADE)
+for made in glob.glob(os.path.join(TOP, "out", "python", "libgix_glob_c.so.*")):
+    os.environ.setdefault("GIX_GLOB_LIBRARY", made)
 sys.path.insert(0, os.path.join(TOP, "bindings", "python"))
 
 # how many patterns are few

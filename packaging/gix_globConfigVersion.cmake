@@ -1,7 +1,9 @@
-# A version serves who asks for it or an earlier one of the same first number, as does the shared library by its name.
+# A version serves who asks for it or an earlier one of the same first number, and while that is 0 of the same second one, as does the shared
+# library by its name.
 set(PACKAGE_VERSION "@VERSION@")
-string(REGEX MATCH "^[0-9]+" _gix_glob_major "@VERSION@")
-if(PACKAGE_FIND_VERSION VERSION_GREATER PACKAGE_VERSION OR (PACKAGE_FIND_VERSION AND NOT PACKAGE_FIND_VERSION_MAJOR STREQUAL _gix_glob_major))
+string(REGEX MATCH "^(0\\.)?[0-9]+" _gix_glob_series "@VERSION@")
+string(REGEX MATCH "^(0\\.)?[0-9]+" _gix_glob_asked "${PACKAGE_FIND_VERSION_MAJOR}.${PACKAGE_FIND_VERSION_MINOR}")
+if(PACKAGE_FIND_VERSION VERSION_GREATER PACKAGE_VERSION OR (PACKAGE_FIND_VERSION AND NOT _gix_glob_asked STREQUAL _gix_glob_series))
   set(PACKAGE_VERSION_COMPATIBLE FALSE)
 else()
   set(PACKAGE_VERSION_COMPATIBLE TRUE)
@@ -13,4 +15,5 @@ endif()
 if(CMAKE_SIZEOF_VOID_P AND NOT CMAKE_SIZEOF_VOID_P STREQUAL "8")
   set(PACKAGE_VERSION_UNSUITABLE TRUE)
 endif()
-unset(_gix_glob_major)
+unset(_gix_glob_series)
+unset(_gix_glob_asked)

@@ -25,7 +25,6 @@ import manylinux
 
 HERE = os.path.dirname(os.path.abspath(__file__))
 PACKAGE = "gix_glob"
-LIBRARY = "libgix_glob_c.so.0"
 LICENCES = ("LICENSE-APACHE", "LICENSE-MIT")
 AUTHOR = "Girvuzhan maintainers <maintainers@users.noreply.girvuzhan.example>"
 #: One date, so that the same files make the same archive: the first one that a zip file can tell.
@@ -52,6 +51,11 @@ def _project(key: str) -> Any:
     if not found:
         raise KeyError(f"pyproject.toml has no {key}")
     return ast.literal_eval(found[1])
+
+
+# (as the package names it; it can't be asked before there is a library)
+_VERSION = _project("version")
+LIBRARY = "libgix_glob_c.so." + ".".join(_VERSION.split(".")[: 2 if _VERSION.startswith("0.") else 1])
 
 
 def _modules() -> Dict[str, bytes]:

@@ -9,8 +9,8 @@ from typing import Any
 from ._answers import first_wrong
 from ._calls import CALLS, OTHERS, VERSION
 
-#: The file's name, with the version of its calls.
-NAME = "libgix_glob_c.so.0"
+#: The file's name, with the version of its calls: the first number, and while that is 0 the second one, too.
+NAME = "libgix_glob_c.so." + ".".join(VERSION.split(".")[: 2 if VERSION.startswith("0.") else 1])
 #: The environment variable that names the file.
 VARIABLE = "GIX_GLOB_LIBRARY"
 _FOLDER = os.path.dirname(os.path.abspath(__file__))

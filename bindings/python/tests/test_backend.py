@@ -26,7 +26,7 @@ MODULES = {name for name in os.listdir(os.path.join(backend.HERE, "gix_glob")) i
 #: What `readelf` says of a library that a wheel may have; parts of it.
 GOOD = {
     "--file-header": "  Class:   ELF64\n  Type:    DYN (Shared object file)\n  Machine: Advanced Micro Devices X86-64\n",
-    "--dynamic": " 0x01 (NEEDED)   Shared library: [libc.so.6]\n 0x0e (SONAME)  Library soname: [libgix_glob_c.so.0]\n",
+    "--dynamic": f" 0x01 (NEEDED)   Shared library: [libc.so.6]\n 0x0e (SONAME)  Library soname: [{backend.LIBRARY}]\n",
     "--version-info": "  0x0010:   Name: GLIBC_2.2.5  Flags: none  Version: 3\n"
     "  0x0020:   Name: GLIBC_2.17  Flags: none  Version: 2\n",
     "--program-headers": "  GNU_STACK      0x000000 0x0 0x0 0x000000 0x000000 RW  0x10\n",
@@ -96,10 +96,10 @@ class Wheel(Folder):
     def test_what_is_in_it(self):
         files = files_of(self.path(backend.build_wheel(self.out)))
         info = ("METADATA", "WHEEL", "RECORD", "licenses/LICENSE-APACHE", "licenses/LICENSE-MIT")
-        modules = {f"gix_glob/{name}" for name in (*MODULES, "py.typed", "libgix_glob_c.so.0")}
+        modules = {f"gix_glob/{name}" for name in (*MODULES, "py.typed", backend.LIBRARY)}
         self.assertEqual(set(files), modules | {f"{INFO}/{name}" for name in info})
         with open(_library._c._name, "rb") as file:
-            self.assertEqual(files["gix_glob/libgix_glob_c.so.0"], file.read())
+            self.assertEqual(files[f"gix_glob/{backend.LIBRARY}"], file.read())
         self.assertIn(b"Permission is hereby granted", files[f"{INFO}/licenses/LICENSE-MIT"])
         self.assertIn(b"Apache License", files[f"{INFO}/licenses/LICENSE-APACHE"])
 
@@ -219,7 +219,7 @@ class Sources(Folder):
         (name,) = (name for name in files if name.endswith(".pth"))
         self.assertEqual(files[name].decode(), f"{os.path.realpath(sources)}\n")
         self.assertIn(f"{INFO}/RECORD", files)
-        beside = os.path.join(sources, "gix_glob", "libgix_glob_c.so.0")
+        beside = os.path.join(sources, "gix_glob", backend.LIBRARY)
         with open(beside, "rb") as one, open(_library._c._name, "rb") as other:
             self.assertEqual(one.read(), other.read())
         # and once more from the library that lies there

@@ -16,21 +16,20 @@
  * Structs whose parts don't belong together, by rule 1 or not, may give a wrong answer, and nothing worse, as long as 2 and 3 hold.
  *
  * The work of a call is not in its contract: beside some readings of its texts, a match takes at most what "The bounds" in
- * docs/ENGINES.md says, a small multiple of the product of both lengths; a decision, and the state of an attribute before its words
+ * docs/PROOFS.md says, a small multiple of the product of both lengths; a decision, and the state of an attribute before its words
  * are looked at, the sum of that over all patterns; a decision in a work tree that sum once for each folder above the path, and once
  * for the path.
  *
  * How the library grows: a struct never changes its size or its fields, and a call never its parameters, while the library's name,
- * libgix_glob_c.so.N with N = GIX_GLOB_VERSION_MAJOR, stays the same; what is new has a new name, and gix_glob_version() tells whether
- * it is there. What the library alone knows, it keeps in blocks whose size is asked of it. In version 0 the name changes with nothing.
+ * libgix_glob_c.so.N, stays the same: N is the major version, or 0.M with the minor one M while the major one is 0. What is new has a
+ * new name, and gix_glob_version() tells whether it is there. What the library alone knows, it keeps in blocks whose size is asked of it.
  *
  * C99 or C++11 is needed, and a processor of x86-64-v2.
  *
  * For other languages: a struct of a pointer and a count that is passed by value is passed as two parameters, and one of a number as that
  * number, by the calling convention of x86-64 Linux, for which the library is made.
  *
- * The rules of matching are in docs/MATCHING.md, those of pattern lines in docs/PATTERNS.md, those of ignore files in
- * docs/LINES.md, and those of attribute files in docs/ATTRIBUTES.md.
+ * The rules of matching, of pattern lines, of ignore files and of attribute files are in docs/PATTERNS.md.
  */
 #ifndef GIX_GLOB_H
 #define GIX_GLOB_H
@@ -45,7 +44,7 @@
 
 /* The version of this header, as major * 10000 + minor * 100 + patch. */
 #define GIX_GLOB_VERSION_MAJOR 0
-#define GIX_GLOB_VERSION_MINOR 2
+#define GIX_GLOB_VERSION_MINOR 3
 #define GIX_GLOB_VERSION_PATCH 0
 #define GIX_GLOB_VERSION (GIX_GLOB_VERSION_MAJOR * 10000 + GIX_GLOB_VERSION_MINOR * 100 + GIX_GLOB_VERSION_PATCH)
 

@@ -4,3 +4,4 @@ pub mod IndexLemmas
 pub mod InputLemmas
 pub mod MatchLemmas
 pub mod ListedLemmas
+pub mod WayLemmas

@@ -122,6 +122,7 @@ AnswersCommand options (command.CheckIgnore asked) status left rest old new = An
 AnswersCommand options (command.CheckAttr asked) status left rest old new = AnswersAttr options asked left rest old new
 AnswersCommand options (command.Write text) status left rest old new = Appends old new text.now
 AnswersCommand options (command.Config asked) status left rest old new = Unit {0}
+AnswersCommand options (command.Explain asked) status left rest old new = Unit {0}
 AnswersCommand options (command.Files asked) status left rest old new = Unit {0}
 AnswersCommand options (command.MatchPathspec asked) status left rest old new = AnswersMatch asked status left rest old new
 AnswersCommand options (command.Status asked) status left rest old new = Unit {0}

@@ -167,23 +167,15 @@ fn note_tracked(
     if !met.is_asked {
         return Ok(());
     }
-    let mut place = 0;
+    let mut noted = 0;
     'entries: for entry in entries {
         // (the paths are some of those of the entries, in the same order)
-        if is_at(paths, place, &entry.path) {
+        if noted < paths.len() && paths[noted] == entry.path.as_slice() {
             met.note(list, &ListedPath::of_entry(alloc, entry)?);
-            place = place.saturating_add(1);
+            noted += 1;
         }
     }
     Ok(())
-}
-
-/// Whether a path stands at a place.
-fn is_at(paths: &[&[u8]], place: usize, path: &[u8]) -> bool {
-    match paths.get(place) {
-        Some(there) => *there == path,
-        None => false,
-    }
 }
 
 /// The records of a text, each of which a byte 0 ends.

@@ -78,7 +78,7 @@ pub(crate) fn ended(
 }
 
 /// What tells of a folder whether it is a repository of its own. Without a repository the variables of the environment don't count.
-fn nested_repositories<'a, R: Files + Env>(
+pub(crate) fn nested_repositories<'a, R: Files + Env>(
     rt: &'a R,
     alloc: Global,
     fronts: &Fronts,

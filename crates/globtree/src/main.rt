@@ -6,6 +6,7 @@ mod check_attr;
 mod check_ignore;
 mod common_front;
 mod excludes;
+mod explain;
 mod fault;
 mod fronts;
 mod index_use;

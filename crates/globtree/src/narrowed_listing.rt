@@ -1,6 +1,5 @@
 //! A listing of the files that are found and that pathspecs ask for.
 ghost use Rattle.std.specs.Prelude.{IfOk};
-ghost use Rattle.gix_glob.specs.declared.pattern.Case.{Case};
 ghost use Rattle.tree_commands.specs.Private.FoldedPaths.{AreFoldedBy};
 ghost use Rattle.globtree.specs.Running.{IsAnswered};
 
@@ -48,7 +47,7 @@ pub(crate) fn run_narrowed<
     let asked = AskedPaths {
         list: &told.list,
         alone: &told.alone,
-        tracked: tracked_folders(&fronts.tracked, &folded),
+        tracked: TrackedFolders::new(&fronts.tracked, &folded),
     };
     let source = source_of(rt, alloc, fronts, shows_progress)?;
     let mut narrowed = Narrowed::new(alloc, source, asked);
@@ -98,16 +97,11 @@ fn below_top(alloc: Global, standpoint: &Standpoint, front: &[u8]) -> Result<Vec
 }
 
 /// The paths of an index without case, where case doesn't count.
-fn folded_by(alloc: Global, case: Case, index: &Index) -> Result<Option<FoldedPaths>, AllocError> {
+fn folded_by(alloc: Global, case: Case, index: &Index) -> Result<Option<FoldedPaths>, AllocError>
+    ensures { IfOk result (λ folded. AreFoldedBy case folded index.now) }
+{
     match case {
         Case::Sensitive => Ok(None),
         Case::Fold => Ok(Some(FoldedPaths::new(alloc, index)?)),
     }
-}
-
-/// The folders in which tracked paths lie, by an index and its paths without case.
-fn tracked_folders<'a>(index: &'a Index, folded: &'a Option<FoldedPaths>) -> TrackedFolders<'a>
-    requires { (case : Case) × AreFoldedBy case folded.now index.now }
-{
-    TrackedFolders::new(index, folded.as_ref())
 }

@@ -7,6 +7,7 @@ ghost use Rattle.globtree.specs.Running.{IsAnswered, IsRefused, IsStatus};
 
 use crate::check_attr::check_attr;
 use crate::check_ignore::check_ignore;
+use crate::explain::explain;
 use crate::fault::{Fault, Result};
 use crate::list_files::list_files;
 use crate::match_pathspec::match_pathspec;
@@ -75,6 +76,7 @@ fn answer_command<R: Files + Env + Clock + Eprint + AllocGlobal + Clone + Drop, 
         Command::CheckIgnore(asked) => check_ignore(rt, alloc, options, asked, input, output),
         Command::CheckAttr(asked) => check_attr(rt, alloc, options, asked, input, output),
         Command::Config(asked) => show_config(rt, alloc, options, asked, output),
+        Command::Explain(asked) => explain(rt, alloc, options, asked, input, output),
         Command::Files(asked) => list_files(rt, alloc, options, asked, shows_progress, output),
         Command::MatchPathspec(asked) => match_pathspec(rt, alloc, asked, input, output),
         Command::Status(asked) => show_status(rt, alloc, options, asked, shows_progress, output),

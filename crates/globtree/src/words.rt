@@ -5,6 +5,7 @@ pub(crate) mod check_ignore;
 mod command_name;
 mod command_words;
 pub(crate) mod config;
+pub(crate) mod explain;
 pub(crate) mod fault;
 pub(crate) mod files;
 pub(crate) mod match_pathspec;
@@ -20,6 +21,7 @@ use crate::words::check_attr::CheckAttr;
 use crate::words::check_ignore::CheckIgnore;
 use crate::words::command_name::CommandName;
 use crate::words::config::ShowConfig;
+use crate::words::explain::Explain;
 use crate::words::fault::WordFault;
 use crate::words::files::ListFiles;
 use crate::words::match_pathspec::MatchPathspec;
@@ -40,6 +42,8 @@ pub(crate) enum Command<'a> {
     CheckAttr(CheckAttr<'a>),
     /// Tell what the configuration says.
     Config(ShowConfig<'a>),
+    /// Tell why paths are ignored or not.
+    Explain(Explain<'a>),
     /// List files.
     Files(ListFiles<'a>),
     /// Tell which paths pathspecs match.
@@ -48,7 +52,7 @@ pub(crate) enum Command<'a> {
     Status(ShowStatus),
 }
 
-const VERSION: &str = "globtree 0.2.0\n";
+const VERSION: &str = "globtree 0.3.0\n";
 
 /// The options and the command of the words.
 ///
@@ -87,6 +91,7 @@ fn command_of(alloc: Global, words: &[String]) -> Result<Command<'_>, WordFault<
         CommandName::CheckIgnore => Ok(Command::CheckIgnore(CheckIgnore::read(alloc, rest)?)),
         CommandName::CheckAttr => Ok(Command::CheckAttr(CheckAttr::read(alloc, rest)?)),
         CommandName::Config => Ok(Command::Config(ShowConfig::read(alloc, rest)?)),
+        CommandName::Explain => Ok(Command::Explain(Explain::read(alloc, rest)?)),
         CommandName::Files => Ok(Command::Files(ListFiles::read(alloc, rest)?)),
         CommandName::MatchPathspec => Ok(Command::MatchPathspec(MatchPathspec::read(alloc, rest)?)),
         CommandName::Status => Ok(Command::Status(ShowStatus::read(alloc, rest)?)),

@@ -36,10 +36,10 @@ pub enum CheckFault {
     /// A folder above the path is a link.
     #[error("'{0}' is beyond a symbolic link")]
     BeyondLink(String),
-    /// Reading a file was interrupted or would have had to wait, it has fewer bytes than it tells, or a folder stands in its place. One text
-    /// tells which file and why, so that the fault stays small: each answer about a path has room for one.
+    /// A file that decides couldn't be read, though it is there and may be opened, or a folder stands in its place. One text tells which file
+    /// and why, so that the fault stays small: each answer about a path has room for one.
     #[error("{0}")]
-    Unready(String),
+    Unread(String),
     /// A file of patterns isn't in the work tree, or can't be read there, and Git reads it from the index.
     #[error("'{0}' can't be read in the work tree, and from the index it isn't read")]
     InIndexAlone(String),

@@ -1,13 +1,11 @@
 //! Files of patterns, each opened as it was looked at: what stands under its name at the second look has to be what stood there at the
 //! first.
-ghost use Rattle.std.specs.Prelude.{◌≡◌, ◌⊎◌, ◌↔◌, [], IfOk, IfSome, IsTrue, Ok, Some, string_bytes};
-ghost use Rattle.std.specs.IoError.{error_kind};
-ghost use Rattle.std.specs.declared.io.ErrorKind.TheVariants as kinds;
+ghost use Rattle.std.specs.Prelude.{◌≡◌, ◌⊎◌, [], IfOk, IfSome, Ok, Some, string_bytes};
 ghost use Rattle.gix_glob.specs.EntryLists.{entry_list_of};
 ghost use Rattle.tree_files.specs.FileLists.{IsOfFile};
 
 use crate::fault::CheckFault;
-use crate::standing::tell_unread;
+use crate::standing::pass_over_error;
 use gix_glob::search;
 use gix_glob::search::LoadFault;
 use gix_glob::search::pattern::List;
@@ -79,8 +77,12 @@ pub(crate) fn read_seen<R: Files>(
         Ok(Some(opened)) => opened,
         Ok(None) | Err(Unread::Device) => return Ok(true),
         Err(Unread::Folder) => return Ok(false),
-        Err(Unread::Waiting) => return Err(unread("it is no regular file")),
-        Err(Unread::Replaced) => return Err(unread("another file took its place")),
+        Err(Unread::Waiting) => {
+            return Err(unread(ErrorKind::Other, "it is no regular file"));
+        }
+        Err(Unread::Replaced) => {
+            return Err(unread(ErrorKind::Interrupted, "another file took its place"));
+        }
         Err(Unread::System(error)) => return is_there(error),
     };
     match opened
@@ -97,8 +99,8 @@ pub(crate) fn read_seen<R: Files>(
 }
 
 /// The fault of a file that isn't read.
-fn unread(reason: &'static str) -> LoadFault {
-    LoadFault::Read(io::Error::other(reason))
+fn unread(kind: ErrorKind, reason: &'static str) -> LoadFault {
+    LoadFault::Read(io::Error::new(kind, reason))
 }
 
 /// Whether a file is there that can't be opened or read: it isn't, or this is a fault.
@@ -112,7 +114,10 @@ pub(crate) fn is_there(error: io::Error) -> Result<bool, LoadFault> {
 }
 
 /// The list of a file that lies outside all folders, whose bytes are put into `bytes`; no patterns and no bytes where there is none. A link
-/// is followed. One that can't be read is told, and passed over; but not one that could be read the next time, nor a folder.
+/// is followed. One that may not be opened is told, and passed over.
+///
+/// # Errors
+/// Where a folder stands there, and where the file can't be read for another reason.
 pub fn file_list<T: search::Pattern, R: Files + Eprint>(
     rt: &R,
     alloc: Global,
@@ -124,7 +129,7 @@ pub fn file_list<T: search::Pattern, R: Files + Eprint>(
 {
     bytes.clear();
     match fs::metadata(rt, file.as_str()) {
-        Ok(found) if found.is_dir() => Err(CheckFault::Unready(format!(in alloc;
+        Ok(found) if found.is_dir() => Err(CheckFault::Unread(format!(in alloc;
             "cannot use {file} as an exclude file"
         )?)),
         Ok(found) => seen_file_list(rt, alloc, file, &Sight::of(&found), bytes, parser),
@@ -153,7 +158,7 @@ pub(crate) fn seen_file_list<T: search::Pattern, R: Files + Eprint>(
     list_or_told(rt, alloc, name.as_str(), list, bytes)
 }
 
-/// The list of a file that could be read. Why another couldn't is told.
+/// The list of a file that could be read. Why another may not be opened is told.
 fn list_or_told<T: search::Pattern, R: Eprint>(
     rt: &R,
     alloc: Global,
@@ -173,10 +178,10 @@ fn list_or_told<T: search::Pattern, R: Eprint>(
     }
 }
 
-/// Tells why a file couldn't be read, and takes its bytes away.
+/// Tells why a file may not be opened, and takes its bytes away.
 ///
 /// # Errors
-/// Where memory was refused, and where the file could be read the next time.
+/// Where memory was refused, and where it couldn't be read for another reason.
 pub(crate) fn pass_over<R: Eprint>(
     rt: &R,
     alloc: Global,
@@ -184,25 +189,9 @@ pub(crate) fn pass_over<R: Eprint>(
     fault: LoadFault,
     bytes: &mut Vec<u8>,
 ) -> Result<(), CheckFault> {
+    bytes.clear();
     match fault {
         LoadFault::Memory => Err(CheckFault::Memory),
-        LoadFault::Read(error) if is_passing(&error) => {
-            let text = format!(in alloc; "'{name}' wasn't read to its end: {error}")?;
-            Err(CheckFault::Unready(text))
-        }
-        LoadFault::Read(error) => {
-            bytes.clear();
-            Ok(tell_unread(rt, alloc, name, error)?)
-        }
+        LoadFault::Read(error) => pass_over_error(rt, alloc, name, error),
     }
-}
-
-/// Whether an error says that the same may be done the next time.
-fn is_passing(error: &io::Error) -> bool
-    ensures { IsTrue result ↔ ((error_kind error.now ≡ kinds.Interrupted) ⊎ ((error_kind error.now ≡ kinds.WouldBlock) ⊎ (error_kind error.now ≡ kinds.UnexpectedEof))) }
-{
-    matches!(
-        error.kind(),
-        ErrorKind::Interrupted | ErrorKind::WouldBlock | ErrorKind::UnexpectedEof
-    )
 }

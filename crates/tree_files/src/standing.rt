@@ -1,5 +1,5 @@
 //! What stands in the file system under a name.
-ghost use Rattle.std.specs.Prelude.{◌≡◌, ◌≢◌, ◌↔◌, IfOk, IsTrue, string_bytes};
+ghost use Rattle.std.specs.Prelude.{◌≡◌, ◌≢◌, ◌⊎◌, ◌↔◌, IfOk, IsTrue, string_bytes};
 ghost use Rattle.std.specs.IoError.{error_kind};
 ghost use Rattle.std.specs.declared.io.ErrorKind.TheVariants as kinds;
 ghost use Rattle.git_paths.specs.Paths.{below};
@@ -39,12 +39,15 @@ pub(crate) enum OwnFile {
     Found(Metadata),
 }
 
-/// What stands in the place of a folder, the top being named by an empty text. Why it can't be looked at is told.
+/// What stands in the place of a folder, the top being named by an empty text. Why it may not be looked at is told.
+///
+/// # Errors
+/// As [`pass_over_error`].
 pub(crate) fn what_stands<R: Files + Eprint>(
     rt: &R,
     alloc: Global,
     name: &str,
-) -> Result<Standing, AllocError> {
+) -> Result<Standing, CheckFault> {
     if name.is_empty() {
         return Ok(Standing::Folder);
     }
@@ -53,7 +56,7 @@ pub(crate) fn what_stands<R: Files + Eprint>(
         Ok(found) if found.is_dir() => Ok(Standing::Folder),
         Ok(_file) => Ok(Standing::Nothing),
         Err(error) if is_fault(&error) => {
-            tell_unread(rt, alloc, name, error)?;
+            pass_over_error(rt, alloc, name, error)?;
             Ok(Standing::Unseen)
         }
         Err(_missing) => Ok(Standing::Nothing),
@@ -85,21 +88,24 @@ pub(crate) fn file_in(alloc: Global, folder: &str, file: &str) -> Result<String,
     Ok(name)
 }
 
-/// What is known of a folder's own file. A link isn't followed, which is told, as is why one can't be read.
+/// What is known of a folder's own file. A link isn't followed, which is told, as is why one may not be looked at.
+///
+/// # Errors
+/// As [`pass_over_error`].
 pub(crate) fn own_file<R: Files + Eprint>(
     rt: &R,
     alloc: Global,
     file: &str,
-) -> Result<OwnFile, AllocError> {
+) -> Result<OwnFile, CheckFault> {
     match fs::symlink_metadata(rt, file) {
         Ok(found) if found.is_symlink() => {
-            tell_unread(rt, alloc, file, io::Error::from(ErrorKind::FilesystemLoop))?;
+            pass_over_error(rt, alloc, file, io::Error::from(ErrorKind::FilesystemLoop))?;
             Ok(OwnFile::Nothing)
         }
         Ok(found) => Ok(OwnFile::Found(found)),
         Err(error) if is_fault(&error) => {
             let is_shut = error.kind() == ErrorKind::PermissionDenied;
-            tell_unread(rt, alloc, file, error)?;
+            pass_over_error(rt, alloc, file, error)?;
             Ok(if is_shut {
                 OwnFile::Shut
             } else {
@@ -117,16 +123,35 @@ fn is_fault(error: &io::Error) -> bool
     !matches!(error.kind(), ErrorKind::NotFound | ErrorKind::NotADirectory)
 }
 
-/// Tells that a file couldn't be read.
-pub(crate) fn tell_unread<R: Eprint>(
+/// Tells why a file or a folder may not be opened, which is passed over then, as in Git.
+///
+/// # Errors
+/// Where the error says nothing of the file, as that memory was refused or the disk failed: an answer without its lines might be wrong.
+pub(crate) fn pass_over_error<R: Eprint>(
     rt: &R,
     alloc: Global,
     name: &str,
     error: io::Error,
-) -> Result<(), AllocError> {
-    tell_line(
-        rt,
-        alloc,
-        format_args!("warning: unable to access '{name}': {error}"),
+) -> Result<(), CheckFault> {
+    if error.kind() == ErrorKind::OutOfMemory {
+        return Err(CheckFault::Memory);
+    }
+    let told = format!(in alloc; "unable to access '{name}': {error}")?;
+    if !may_not_be_opened(&error) {
+        return Err(CheckFault::Unread(told));
+    }
+    Ok(tell_line(rt, alloc, format_args!("warning: {told}"))?)
+}
+
+/// Whether an error says of a file that it may not be opened. No error of the system is [`ErrorKind::Other`]: a pipe is, which isn't opened.
+fn may_not_be_opened(error: &io::Error) -> bool
+    ensures { IsTrue result ↔ ((error_kind error.now ≡ kinds.PermissionDenied) ⊎ ((error_kind error.now ≡ kinds.FilesystemLoop) ⊎ ((error_kind error.now ≡ kinds.InvalidFilename) ⊎ (error_kind error.now ≡ kinds.Other)))) }
+{
+    matches!(
+        error.kind(),
+        ErrorKind::PermissionDenied
+            | ErrorKind::FilesystemLoop
+            | ErrorKind::InvalidFilename
+            | ErrorKind::Other
     )
 }

@@ -1,7 +1,8 @@
 //! In which folders tracked paths lie: with case, or without.
 ghost use Rattle.std.specs.Prelude.{◌≡◌, ◌↔◌, IsTrue};
 ghost use Rattle.tree_commands.specs.Lookups.{HasEntryBelow};
-ghost use Rattle.tree_commands.specs.Private.FoldedPaths.{AreOf, case_by};
+ghost use Rattle.tree_commands.specs.Private.FoldedPaths.{AreFoldedBy, AreOf, case_by};
+ghost use Rattle.gix_glob.specs.declared.pattern.Case.{Case};
 
 use git_index::{FoldedPaths, Index};
 
@@ -16,12 +17,15 @@ pub struct TrackedFolders<'a> {
 
 impl<'a> TrackedFolders<'a> {
     /// Those of an index, and of its paths without case where case doesn't count.
-    pub fn new(index: &'a Index, folded: Option<&'a FoldedPaths>) -> TrackedFolders<'a>
-        requires { AreOf folded index.now }
+    pub fn new(index: &'a Index, folded: &'a Option<FoldedPaths>) -> TrackedFolders<'a>
+        requires { (case : Case) × AreFoldedBy case folded.now index.now }
         ensures index { result.index.now ≡ index.entry.now }
-        ensures folded { result.folded ≡ folded.entry }
+        ensures case { (case : Case) → AreFoldedBy case folded.now index.now → case_by result.folded ≡ case }
     {
-        TrackedFolders { index, folded }
+        TrackedFolders {
+            index,
+            folded: folded.as_ref(),
+        }
     }
 
     /// Whether a tracked path lies in a folder.

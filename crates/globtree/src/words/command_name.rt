@@ -3,10 +3,11 @@
 use crate::words::texts;
 
 /// The names of the commands.
-pub(crate) const COMMANDS: [&str; 6] = [
+pub(crate) const COMMANDS: [&str; 7] = [
     "check-ignore",
     "check-attr",
     "config",
+    "explain",
     "files",
     "match-pathspec",
     "status",
@@ -21,6 +22,8 @@ pub(crate) enum CommandName {
     CheckAttr,
     /// `config`
     Config,
+    /// `explain`
+    Explain,
     /// `files`
     Files,
     /// `match-pathspec`
@@ -36,6 +39,7 @@ impl CommandName {
             "check-ignore" => Some(CommandName::CheckIgnore),
             "check-attr" => Some(CommandName::CheckAttr),
             "config" => Some(CommandName::Config),
+            "explain" => Some(CommandName::Explain),
             "files" => Some(CommandName::Files),
             "match-pathspec" => Some(CommandName::MatchPathspec),
             "status" => Some(CommandName::Status),
@@ -49,6 +53,7 @@ impl CommandName {
             CommandName::CheckIgnore => "check-ignore",
             CommandName::CheckAttr => "check-attr",
             CommandName::Config => "config",
+            CommandName::Explain => "explain",
             CommandName::Files => "files",
             CommandName::MatchPathspec => "match-pathspec",
             CommandName::Status => "status",
@@ -66,6 +71,7 @@ impl CommandName {
             CommandName::CheckIgnore => texts::check_ignore::HELP,
             CommandName::CheckAttr => texts::check_attr::HELP,
             CommandName::Config => texts::config::HELP,
+            CommandName::Explain => texts::explain::HELP,
             CommandName::Files => texts::files::HELP,
             CommandName::MatchPathspec => texts::match_pathspec::HELP,
             CommandName::Status => texts::status::HELP,

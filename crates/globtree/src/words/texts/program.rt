@@ -9,6 +9,7 @@ which files aren't, which attributes paths have.
 commands:
   check-ignore       which paths are ignored; with -v, by which line of which file
   check-attr         which states attributes have for paths
+  explain            why a path is ignored or not, and what to write
   files              the files that aren't ignored, or are tracked
   status             which files aren't tracked, and which are ignored
   match-pathspec     which of the paths that are read pathspecs match
