@@ -121,8 +121,11 @@ class Comparison:
             self.tell(folder, settings, words, expected, found)
 
     def is_named(self, words, expected, found):
-        """Whether other elements alone are told that met nothing: with an index, Git counts those that met what an exclude takes."""
-        return MET in NAMED and self.indexed and any(is_exclude(word) for word in words if isinstance(word, bytes)) and expected.output == found.output
+        """Whether Git alone counts elements as met, and lists paths, by what an exclude takes: with an index, and `--error-unmatch`."""
+        if MET not in NAMED or not self.indexed or "--error-unmatch" not in words:
+            return False
+        has_exclude = any(is_exclude(word) for word in words if isinstance(word, bytes))
+        return has_exclude and set(found.output.split(b"\0")) <= set(expected.output.split(b"\0"))
 
     def is_same(self, expected, found):
         errors = [b"\n".join(line for line in told.errors.split(b"\n") if not line.startswith(b"warning: ")) for told in (expected, found)]
