@@ -1,0 +1,6 @@
+-- Lemmas over plain variables.
+pub mod Ranks
+pub mod Left
+pub mod Finding
+pub mod RealPaths
+pub mod Together

@@ -1,0 +1,4 @@
+pub mod Lines
+pub mod Without
+pub mod Ignoring
+pub mod Private

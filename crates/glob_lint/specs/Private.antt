@@ -1,0 +1,2 @@
+-- Words that only private clauses cite: what the functions of the crate say to one another.
+pub mod Reasons

@@ -1,0 +1,2 @@
+//! Which lines of ignore files do nothing, and which lines do.
+#![tactic(auto)]
