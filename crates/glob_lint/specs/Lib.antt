@@ -1,4 +1,6 @@
 pub mod Lines
+pub mod Parts
 pub mod Without
 pub mod Ignoring
+pub mod Effects
 pub mod Private

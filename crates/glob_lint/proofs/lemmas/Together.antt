@@ -9,7 +9,9 @@ use Rattle.glob_trees.specs.Trees.{DecidesInTree, HasNoneIgnored, Ignores, IsAbo
 use Rattle.glob_trees.proofs.lemmas.Folders.{above_above}
 use Rattle.glob_lint.specs.Ignoring.{IgnoreAlike, Ignoring}
 use Rattle.glob_lint.specs.Lines.{IsReal}
-use Rattle.glob_lint.specs.Private.Reasons.{Before, IsBacked, MayGo, NeverDecides, TakesNothing}
+use Rattle.glob_lint.specs.declared.why.Why.TheVariants.{TakesNothingBack}
+use Rattle.glob_lint.specs.Effects.{Before, IsWhy}
+use Rattle.glob_lint.specs.Private.Reasons.{IsBacked, MayGo}
 use Rattle.glob_lint.specs.Without.{is_among, lists_but}
 use Rattle.glob_lint.proofs.lemmas.Finding.{something_decides}
 use Rattle.glob_lint.proofs.lemmas.Left.{IsLeft, match_stays, match_stood, sign_stays}
@@ -117,14 +119,13 @@ module _ {V : Type 0} (lists : List (EntryList V)) (gone : List (ℕ × ℕ)) (r
       alike_backed real b =
           let s = match_stays lists gone path is_dir rules b.by (b.covers path is_dir real was.answers) b.stays in
           let left : ℕ × ℕ = (b.by.0, rank (is_among gone b.by.0) 0 b.by.1) in
-          let sign : IsPositiveAt lists (y.0, stood.0) ↔ IsPositiveAt lists pair = by_order b.by (y.0, stood.0) (IsPositiveAt lists (y.0, stood.0) ↔ IsPositiveAt lists pair)
-              (λ before. b.between path is_dir (y.0, stood.0) real was.answers stood.1.was before stood_earlier)
-              (λ same. subst (λ p. IsPositiveAt lists p ↔ IsPositiveAt lists pair) same b.sign)
-              (λ after. absurd (not_past left y (is.last left.0 left.1 s.is) (left_earlier (y.0, stood.0) b.by y left stood.1 s after))) in
+          let sign = b.alike (y.0, stood.0)
+              (λ after. not_past left y (is.last left.0 left.1 s.is) (left_earlier (y.0, stood.0) b.by y left stood.1 s after))
+              stood_earlier path is_dir real was.answers stood.1.was in
           let stays = sign_stays lists gone path is_dir rules (y.0, stood.0) y stood.1 in
           (λ h. stays.0 (sign.1 h), λ h. sign.0 (stays.1 h))
 
-      alike_taking : IsReal path → TakesNothing rules lists pair → IsPositiveAt lists pair ↔ IsPositiveAt but y
+      alike_taking : IsReal path → IsWhy rules lists pair TakesNothingBack → IsPositiveAt lists pair ↔ IsPositiveAt but y
       alike_taking real takes =
           let stays = sign_stays lists gone path is_dir rules (y.0, stood.0) y stood.1 in
           (
