@@ -4,3 +4,5 @@ pub mod Left
 pub mod Finding
 pub mod RealPaths
 pub mod Together
+pub mod Held
+pub mod OneLess

@@ -2,3 +2,4 @@
 pub mod Reasons
 pub mod Pairs
 pub mod Asking
+pub mod Findings

@@ -1,18 +1,31 @@
 //! What a line does: a path about which it changes the answer, or why it makes no difference.
-ghost use Rattle.std.specs.Prelude.{◌≡◌, IfOk, OnOk};
+ghost use Rattle.std.specs.Prelude.{◌≡◌, IfOk, IfSome};
+ghost use Rattle.glob_lists.specs.Deciding.{BasesAreFolders, HasEntryAt};
+ghost use Rattle.glob_lint.specs.Effects.{Turns};
 ghost use Rattle.glob_lint.specs.Lines.{seen};
+ghost use Rattle.glob_lint.specs.Private.Reasons.{IsFound};
 
-use crate::why::Why;
+use crate::pairs::samples_at;
+use crate::samples::Samples;
+use crate::trying::turns;
+use crate::why::{Why, reason_of};
+use gix_glob::search::pattern::List;
+use glob_lines::GitIgnoreLines;
+use glob_lists::Rules;
+use std::alloc::{AllocError, Global};
 
-/// About how many matches are asked for at most: each is one of a line with one path, or with another line. What is left then isn't looked at.
+/// About how many matches are asked for at most: each is one of a line with a path or with another line. What is left then isn't looked at.
 pub const MOST_MATCHES: usize = 200_000_000;
+
+/// How many questions it takes to look for a reason: each line is asked as often.
+const QUESTIONS_OF_A_REASON: usize = 3;
 
 /// What a line does.
 #[derive(Debug, Drop)]
 pub enum Effect {
     /// It makes no difference.
     Idle(Why),
-    /// It decides about this path, of a folder or of something else, which would be ignored without it if it isn't, and the other way round.
+    /// It decides about this path, which without it would be ignored if it isn't, and wouldn't if it is.
     Changes {
         /// The path from the top.
         path: Vec<u8>,
@@ -21,4 +34,100 @@ pub enum Effect {
     },
     /// That isn't known.
     Unknown,
+}
+
+/// What a search may use: memory, and a number of matches.
+#[derive(Drop)]
+pub(crate) struct Means {
+    pub(crate) alloc: Global,
+    /// How many matches may still be asked for.
+    left: usize,
+    /// How many lines there are: each question is one match of each of them.
+    lines: usize,
+}
+
+impl Means {
+    /// What a search over these lists may use.
+    pub(crate) fn new(alloc: Global, lists: &[List<GitIgnoreLines>]) -> Means {
+        let mut lines: usize = 0;
+        'lists: for list in lists {
+            lines = lines.saturating_add(list.patterns.len());
+        }
+        Means {
+            alloc,
+            left: MOST_MATCHES,
+            lines,
+        }
+    }
+
+    /// Takes the matches of some questions; whether so many were left.
+    fn take(&mut self, questions: usize) -> bool {
+        match questions.checked_mul(self.lines) {
+            Some(matches) if matches <= self.left => {
+                self.left -= matches;
+                true
+            }
+            _ => false,
+        }
+    }
+}
+
+/// What the line at a pair of places does. The lists are as before.
+///
+/// # Errors
+/// Only where memory was refused.
+pub(crate) fn effect_of(
+    means: &mut Means,
+    lists: &mut [List<GitIgnoreLines>],
+    pair: (usize, usize),
+    rules: Rules,
+) -> Result<Effect, AllocError>
+    requires folders { BasesAreFolders (seen lists.old) }
+    requires there { HasEntryAt (seen lists.old) pair }
+    ensures found { IfOk result (IsFound rules (seen lists.old) pair) }
+    ensures same { seen lists.new ≡ seen lists.old }
+{
+    let samples = samples_at(means.alloc, lists, pair, rules)?;
+    if let Some((path, is_dir)) = change_by(means, lists, pair, samples, rules) {
+        return Ok(Effect::Changes { path, is_dir });
+    }
+    if !means.take(QUESTIONS_OF_A_REASON) {
+        return Ok(Effect::Unknown);
+    }
+    match reason_of(means.alloc, lists, pair, rules)? {
+        Some(why) => Ok(Effect::Idle(why)),
+        None => Ok(Effect::Unknown),
+    }
+}
+
+/// The first of these paths about which the line at a pair of places changes the answer, and whether it is a folder's.
+fn change_by(
+    means: &mut Means,
+    lists: &mut [List<GitIgnoreLines>],
+    pair: (usize, usize),
+    samples: Samples,
+    rules: Rules,
+) -> Option<(Vec<u8>, bool)>
+    requires folders { BasesAreFolders (seen lists.old) }
+    requires there { HasEntryAt (seen lists.old) pair }
+    ensures told { IfSome result (λ found. Turns rules (seen lists.old) pair found.0.items found.1) }
+    ensures same { seen lists.new ≡ seen lists.old }
+{
+    'samples: for (path, is_dir) in samples.paths {
+        if means.take(questions_of(&path)) && turns(lists, pair, &path, is_dir, rules) {
+            return Some((path, is_dir));
+        }
+    }
+    None
+}
+
+/// How many questions it takes to ask about a path twice: one about each folder above it, and one about the path.
+fn questions_of(path: &[u8]) -> usize {
+    let mut questions: usize = 2;
+    'bytes: for byte in path {
+        if *byte == b'/' {
+            questions = questions.saturating_add(2);
+        }
+    }
+    questions
 }

@@ -1,5 +1,6 @@
 //! What is asked of the lines at pairs of places: a list and a line in it, both from 0.
-ghost use Rattle.std.specs.Prelude.{◌↔◌, ◌≡◌, IsTrue, MatchOption};
+ghost use Rattle.std.specs.Prelude.{◌↔◌, ◌≡◌, IsTrue, option_map};
+ghost use Rattle.std.specs.Vec.{vec_items};
 ghost use Rattle.glob_lists.specs.Deciding.{HasEntryAt};
 ghost use Rattle.glob_lint.specs.declared.why.Why.TheVariants.{MatchesNothing};
 ghost use Rattle.glob_lint.specs.Effects.{Before, CoversAt, IsWhy};
@@ -28,13 +29,19 @@ pub(crate) fn line_at<'a>(
     ensures { IsLineAt (seen lists.entry.now) pair (parts_of result) }
 {
     let list = &lists[pair.0];
-    let base = match &list.base {
+    Line {
+        base: base_of(list),
+        pattern: list.patterns[pair.1].pattern.view(),
+    }
+}
+
+/// The base of a list.
+fn base_of(list: &List<GitIgnoreLines>) -> Option<&[u8]>
+    ensures { option_map (λ base. base.now) result ≡ option_map vec_items list.now.base }
+{
+    match &list.base {
         Some(base) => Some(base.as_slice()),
         None => None,
-    };
-    Line {
-        base,
-        pattern: list.patterns[pair.1].pattern.view(),
     }
 }
 

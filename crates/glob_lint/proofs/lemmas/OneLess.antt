@@ -1,0 +1,103 @@
+-- Lists without the line at one pair of places, and the line put back.
+use Rattle.std.proofs.Common.{◌≡◌, ◌≢◌, ℕ, zero, suc, ◌+◌, ◌<◌, ◌≤◌, Bool, true, false, List, [], ◌∷◌, ◌++◌, Some, get_or, length, map, take, drop, refl, ap, sym, subst, ◌∙◌, arith, add-zero}
+use Rattle.std.specs.Prelude.{◌==◌, ◌&&◌, if◌then◌else◌, Vec, slice_get, slice_set}
+use Rattle.std.specs.List.{insert, remove}
+use Rattle.std.specs.declared.alloc.Global.{Global}
+use Rattle.std.proofs.lemmas.List.{get_or-set_same, map-set, set-get_or}
+use Rattle.std.proofs.lemmas.List.Elements.{All-set}
+use Rattle.std.proofs.lemmas.Option.{same_Some}
+use Rattle.std.proofs.Math.Seq.{map-set_same}
+use Rattle.gix_glob.specs.Entries.{Entry, entry_of}
+use Rattle.gix_glob.specs.EntryLists.{EntryList}
+use Rattle.gix_glob.specs.declared.search.pattern.list.List as patterns
+use Rattle.gix_glob.specs.declared.search.pattern.mapping.Mapping.{Mapping}
+use Rattle.gix_glob.proofs.lemmas.Elements.{All-map_at, slice_get-map_at}
+use Rattle.glob_lists.specs.Deciding.{BasesAreFolders, HasFolder}
+use Rattle.glob_lint.specs.Lines.{seen}
+use Rattle.glob_lint.specs.Without.{entries_but, is_among, lists_but}
+use Rattle.glob_lint.proofs.lemmas.Held.{as_seen}
+
+-- ---- one place of a list
+
+module _ {V : Type 0} (gone : ℕ → Bool) where
+  all_stay : (es : List (Entry V)) (k : ℕ) → ((n : ℕ) → k ≤ n → gone n ≡ false) → entries_but gone k es ≡ es
+  all_stay [] k stay = refl
+  all_stay (e ∷ es) k stay =
+      let rest = all_stay es (k + 1) (λ n h. stay n (omega arith)) in
+      subst (λ b. (if b then entries_but gone (k + 1) es else e ∷ entries_but gone (k + 1) es) ≡ e ∷ es) (sym (stay k (omega arith))) (ap (λ l. e ∷ l) rest)
+
+  one_goes : (es : List (Entry V)) (k m : ℕ) → gone (k + m) ≡ true → ((n : ℕ) → n ≢ k + m → gone n ≡ false) → entries_but gone k es ≡ remove es m
+  one_goes [] k zero goes stay = refl
+  one_goes [] k (suc m) goes stay = refl
+  one_goes (e ∷ es) k zero goes stay =
+      let here : gone k ≡ true = subst (λ n. gone n ≡ true) (add-zero k) goes in
+      let rest = all_stay es (k + 1) (λ n h. stay n (λ same. omega arith)) in
+      subst (λ b. (if b then entries_but gone (k + 1) es else e ∷ entries_but gone (k + 1) es) ≡ es) (sym here) rest
+  one_goes (e ∷ es) k (suc m) goes stay =
+      let next : gone ((k + 1) + m) ≡ true = subst (λ n. gone n ≡ true) (omega arith) goes in
+      let rest = one_goes es (k + 1) m next (λ n other. stay n (λ same. other (omega arith))) in
+      subst (λ b. (if b then entries_but gone (k + 1) es else e ∷ entries_but gone (k + 1) es) ≡ e ∷ remove es m) (sym (stay k (λ same. omega arith))) (ap (λ l. e ∷ l) rest)
+
+-- ---- one pair of places
+
+here_alone : (i m : ℕ) → is_among ((i, m) ∷ []) i m ≡ true
+here_alone i m = grind arith
+
+not_of_list : (i m j n : ℕ) → j ≢ i → is_among ((i, m) ∷ []) j n ≡ false
+not_of_list i m j n other = grind arith
+
+not_of_place : (i m j n : ℕ) → n ≢ m → is_among ((i, m) ∷ []) j n ≡ false
+not_of_place i m j n other = grind arith
+
+module _ {V : Type 0} where
+  -- a list without its entry at a place
+  abbrev pub removed : EntryList V → ℕ → EntryList V
+  removed list m = record { entries = remove list.entries m; source = list.source; base = list.base }
+
+  abbrev with_entries : EntryList V → List (Entry V) → EntryList V
+  with_entries list es = record { entries = es; source = list.source; base = list.base }
+
+  later_stay : (lists : List (EntryList V)) (k i m : ℕ) → i < k → lists_but ((i, m) ∷ []) k lists ≡ lists
+  later_stay [] k i m past = refl
+  later_stay (x ∷ lists) k i m past =
+      let here = all_stay (is_among ((i, m) ∷ []) k) x.entries 0 (λ n h. not_of_list i m k n (λ same. omega arith)) in
+      let rest = later_stay lists (k + 1) i m (omega arith) in
+      ap (λ es. with_entries x es ∷ lists_but ((i, m) ∷ []) (k + 1) lists) here ∙ ap (λ l. x ∷ l) rest
+
+  one_less : (lists : List (EntryList V)) (k i m : ℕ) (list : EntryList V) → slice_get lists i ≡ Some list → lists_but ((k + i, m) ∷ []) k lists ≡ slice_set lists i (removed list m)
+  one_less [] k i m list there = cc
+  one_less (x ∷ lists) k zero m list there =
+      let same : x ≡ list = same_Some x list there in
+      let at : k + 0 ≡ k = add-zero k in
+      let place : 0 + m ≡ m = omega arith in
+      let goes : is_among ((k, m) ∷ []) k (0 + m) ≡ true = subst (λ n. is_among ((k, m) ∷ []) k n ≡ true) (sym place) (here_alone k m) in
+      let here = one_goes (is_among ((k, m) ∷ []) k) x.entries 0 m goes (λ n other. not_of_place k m k n (λ level. other (level ∙ sym place))) in
+      let rest = later_stay lists (k + 1) k m (omega arith) in
+      ap (λ i. lists_but ((i, m) ∷ []) k (x ∷ lists)) at
+      ∙ (ap (λ es. with_entries x es ∷ lists_but ((k, m) ∷ []) (k + 1) lists) here
+      ∙ (ap (λ l. removed x m ∷ l) rest ∙ ap (λ l. removed l m ∷ lists) same))
+  one_less (x ∷ lists) k (suc i) m list there =
+      let here = all_stay (is_among ((k + suc i, m) ∷ []) k) x.entries 0 (λ n h. not_of_list (k + suc i) m k n (λ same. omega arith)) in
+      let next : k + suc i ≡ (k + 1) + i = omega arith in
+      let rest = one_less lists (k + 1) i m list there in
+      ap (λ es. with_entries x es ∷ lists_but ((k + suc i, m) ∷ []) (k + 1) lists) here
+      ∙ ap (λ l. x ∷ l) (ap (λ j. lists_but ((j, m) ∷ []) (k + 1) lists) next ∙ rest)
+
+-- ---- taken out and put back
+
+put_back : {X : Type 0} (xs : List X) (m : ℕ) (x : X) → m < length xs → x ≡ get_or xs m x → insert (remove xs m) m x ≡ xs
+put_back [] m x within is = absurd (omega arith)
+put_back (y ∷ ys) zero x within is = ap (λ z. z ∷ ys) is
+put_back (y ∷ ys) (suc m) x within is = ap (λ l. y ∷ l) (put_back ys m x (omega arith) is)
+
+-- of two writes to one place the second counts
+set_over : {X : Type 0} (xs : List X) (i : ℕ) (x y : X) → slice_set (slice_set xs i x) i y ≡ slice_set xs i y
+set_over [] i x y = refl
+set_over (z ∷ zs) zero x y = refl
+set_over (z ∷ zs) (suc i) x y = ap (λ rest. z ∷ rest) (set_over zs i x y)
+
+map-remove : {X Y : Type 0} (f : X → Y) (xs : List X) (m : ℕ) → map f (remove xs m) ≡ remove (map f xs) m
+map-remove f [] zero = refl
+map-remove f [] (suc m) = refl
+map-remove f (x ∷ xs) zero = refl
+map-remove f (x ∷ xs) (suc m) = ap (λ l. f x ∷ l) (map-remove f xs m)
