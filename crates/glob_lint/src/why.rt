@@ -154,18 +154,37 @@ fn are_alike_in(
 ) -> bool
     requires there { HasEntryAt (seen lists.now) pair }
     requires inside { at < length lists.now }
-    ensures { IsTrue result → (m : ℕ) → AlikeAt rules (seen lists.now) first pair (at, m) }
+    ensures { IsTrue result → (m : ℕ) → HasEntryAt (seen lists.now) (at, m) → AlikeAt rules (seen lists.now) first pair (at, m) }
 {
     let patterns = lists[at].patterns.as_slice();
     'lines: for place in 0..patterns.len() {
-        let other = (at, place);
-        if !comes_before(other, first)
-            && comes_before(other, pair)
-            && lists.is_negative(other) != lists.is_negative(pair)
-            && !are_apart_at(lists, pair, other, rules)
-        {
+        if !is_alike(lists, (at, place), first, pair, rules) {
             return false;
         }
     }
     true
+}
+
+/// Whether a line comes before the place `first`, or doesn't come before the line at a pair of places, or has its sign or is apart from it.
+fn is_alike(
+    lists: &[List<GitIgnoreLines>],
+    other: (usize, usize),
+    first: (usize, usize),
+    pair: (usize, usize),
+    rules: Rules,
+) -> bool
+    requires here { HasEntryAt (seen lists.now) other }
+    requires there { HasEntryAt (seen lists.now) pair }
+    ensures { IsTrue result → AlikeAt rules (seen lists.now) first pair other }
+{
+    if comes_before(other, first) {
+        return true;
+    }
+    if !comes_before(other, pair) {
+        return true;
+    }
+    if lists.is_negative(other) == lists.is_negative(pair) {
+        return true;
+    }
+    are_apart_at(lists, pair, other, rules)
 }

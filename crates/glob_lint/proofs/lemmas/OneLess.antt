@@ -1,5 +1,5 @@
 -- Lists without the line at one pair of places, and the line put back.
-use Rattle.std.proofs.Common.{◌≡◌, ◌≢◌, ℕ, zero, suc, ◌+◌, ◌<◌, ◌≤◌, Bool, true, false, List, [], ◌∷◌, ◌++◌, Some, get_or, length, map, take, drop, refl, ap, sym, subst, ◌∙◌, arith, add-zero}
+use Rattle.std.proofs.Common.{◌≡◌, ◌≢◌, ℕ, zero, suc, ◌+◌, ◌<◌, ◌≤◌, Bool, true, false, List, [], ◌∷◌, ◌++◌, Some, get_or, length, map, take, drop, refl, ap, sym, subst, ◌∙◌, arith, add-zero, zero-add}
 use Rattle.std.specs.Prelude.{◌==◌, ◌&&◌, if◌then◌else◌, Vec, slice_get, slice_set}
 use Rattle.std.specs.List.{insert, remove}
 use Rattle.std.specs.declared.alloc.Global.{Global}
@@ -12,10 +12,10 @@ use Rattle.gix_glob.specs.EntryLists.{EntryList}
 use Rattle.gix_glob.specs.declared.search.pattern.list.List as patterns
 use Rattle.gix_glob.specs.declared.search.pattern.mapping.Mapping.{Mapping}
 use Rattle.gix_glob.proofs.lemmas.Elements.{All-map_at, slice_get-map_at}
-use Rattle.glob_lists.specs.Deciding.{BasesAreFolders, HasFolder}
+use Rattle.glob_lists.specs.Deciding.{BasesAreFolders, HasEntryAt, HasFolder}
 use Rattle.glob_lint.specs.Lines.{seen}
 use Rattle.glob_lint.specs.Without.{entries_but, is_among, lists_but}
-use Rattle.glob_lint.proofs.lemmas.Held.{as_seen}
+use Rattle.glob_lint.proofs.lemmas.Held.{as_seen, within_list, within_of_entry}
 
 -- ---- one place of a list
 
@@ -101,3 +101,52 @@ map-remove f [] zero = refl
 map-remove f [] (suc m) = refl
 map-remove f (x ∷ xs) zero = refl
 map-remove f (x ∷ xs) (suc m) = ap (λ l. f x ∷ l) (map-remove f xs m)
+
+module _ {T X : Type 0} where
+  -- a list with other patterns
+  abbrev pub with_patterns : patterns.List T X → Vec (Mapping X) Global → patterns.List T X
+  with_patterns list v = record { patterns = v; source = list.source; base = list.base }
+
+  module _ (lists : List (patterns.List T X)) (pair : ℕ × ℕ) (held : patterns.List T X) (is : held ≡ get_or lists pair.0 held) (there : HasEntryAt (seen lists) pair) where
+    pub within : pair.0 < length lists
+    within = within_of_entry lists pair there
+
+    pub inside : pair.1 < length (get_or lists pair.0 held).patterns.items
+    inside = subst (λ (l : patterns.List T X). pair.1 < length l.patterns.items) is (within_list lists pair held is there.0 there.1)
+
+    module _ (v : Vec (Mapping X) Global) (items : v.items ≡ remove (get_or lists pair.0 held).patterns.items pair.1) where
+      abbrev pub changed : List (patterns.List T X)
+      changed = slice_set lists pair.0 (with_patterns (get_or lists pair.0 held) v)
+
+      changed_at : seen changed ≡ slice_set (seen lists) pair.0 (removed (as_seen held) pair.1)
+      changed_at =
+          let entries = ap (map (entry_of (λ _. tt))) items ∙ map-remove (entry_of (λ _. tt)) (get_or lists pair.0 held).patterns.items pair.1 in
+          let like : as_seen (with_patterns (get_or lists pair.0 held) v) ≡ removed (as_seen held) pair.1 =
+          ap (λ es. with_entries (as_seen (get_or lists pair.0 held)) es) entries ∙ ap (λ (l : patterns.List T X). removed (as_seen l) pair.1) (sym is) in
+          map-set as_seen lists pair.0 (with_patterns (get_or lists pair.0 held) v) ∙ ap (λ l. slice_set (seen lists) pair.0 l) like
+
+      pub seen_changed : seen changed ≡ lists_but (pair ∷ []) 0 (seen lists)
+      seen_changed =
+          let less = one_less (seen lists) 0 pair.0 pair.1 (as_seen held) (slice_get-map_at as_seen lists pair.0 held within is) in
+          changed_at ∙ (sym less ∙ ap (λ i. lists_but ((i, pair.1) ∷ []) 0 (seen lists)) (zero-add pair.0))
+
+      pub folders_changed : BasesAreFolders (seen lists) → BasesAreFolders (seen changed)
+      folders_changed all =
+          let folder : HasFolder (as_seen held) = All-map_at as_seen HasFolder lists pair.0 held all within is in
+          subst BasesAreFolders (sym changed_at) (All-set HasFolder (seen lists) pair.0 (removed (as_seen held) pair.1) folder all)
+
+      pub held_changed : (other : patterns.List T X) → get_or changed pair.0 other ≡ with_patterns (get_or lists pair.0 held) v
+      held_changed other = get_or-set_same lists pair.0 (with_patterns (get_or lists pair.0 held) v) other within
+
+      pub changed_back : (other : patterns.List T X) (w : Vec (Mapping X) Global) (x : Mapping X) → x ≡ get_or (get_or lists pair.0 held).patterns.items pair.1 x
+          → w.items ≡ insert (get_or changed pair.0 other).patterns.items pair.1 x → seen (slice_set changed pair.0 (with_patterns (get_or changed pair.0 other) w)) ≡ seen lists
+      changed_back other w x was put =
+          let old = get_or lists pair.0 held in
+          let back : patterns.List T X = with_patterns (get_or changed pair.0 other) w in
+          let entries : w.items ≡ old.patterns.items =
+          put ∙ (ap (λ (l : patterns.List T X). insert l.patterns.items pair.1 x) (held_changed other)
+          ∙ (ap (λ xs. insert xs pair.1 x) items ∙ put_back old.patterns.items pair.1 x inside was)) in
+          let same : as_seen back ≡ as_seen old =
+          ap (λ (list : patterns.List T X). as_seen (with_patterns list w)) (held_changed other)
+          ∙ ap (λ xs. with_entries (as_seen old) (map (entry_of (λ _. tt)) xs)) entries in
+          ap seen (set_over lists pair.0 (with_patterns old v) back) ∙ map-set_same as_seen lists pair.0 back held same

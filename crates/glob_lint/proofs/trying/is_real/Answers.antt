@@ -1,6 +1,6 @@
 -- Each part is tested.
-use Rattle.std.proofs.Common.{◌≡◌, Bool, true, false, refl, sym, subst, ◌∙◌}
-use Rattle.std.specs.Prelude.{◌==◌, ◌↔◌, IsTrue}
+use Rattle.std.proofs.Common.{◌≡◌, Bool, sym, ◌∙◌, rules}
+use Rattle.std.specs.Prelude.{◌==◌}
 use Rattle.std.specs.List.{list_all, slice_split}
 use Rattle.std.proofs.lemmas.Iterator.Search.{all_from_yields_List}
 use Rattle.std.proofs.lemmas.Iterator.Splits.{YieldsList-from_slice_split}
@@ -9,14 +9,10 @@ use Rattle.gix_glob.specs.Bytes.{slash}
 use Rattle.glob_lint.specs.Lines.{is_part}
 use Rattle.glob_lint.proofs.trying.is_real.Goals as goal
 
-true_is : (b : Bool) → IsTrue b ↔ (b ≡ true)
-true_is true = (λ h. refl, λ h. tt)
-true_is false = (λ h. absurd h, λ h. cc)
-
 pub returns : goal.returns
 returns c =
     let parts = slice_split (λ b. b == slash) c.args.path.now in
     let same : c.all.result ≡ list_all is_part parts = all_from_yields_List is_part _ _ c.all.result c.all.ensures.ran
         (YieldsList-from_slice_split _ (λ b. b == slash) c.args.path.now c.split.ensures.rest c.split.ensures.done c.split.ensures.closure (λ x b q k. search (rules, tests)))
         (λ x b q k. search (rules, tests)) in
-    (λ h. sym same ∙ (true_is c.all.result).0 h, λ h. (true_is c.all.result).1 (same ∙ h))
+    (λ h. sym same ∙ h, λ h. same ∙ h)

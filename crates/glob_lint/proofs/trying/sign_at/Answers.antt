@@ -1,10 +1,10 @@
 -- The line that decides is the one that was asked for.
-use Rattle.std.proofs.Common.{◌≡◌, Some, ap, subst, arith}
+use Rattle.std.proofs.Common.{◌≡◌, Some, rules, subst}
 use borrow.Author.Tests.{tests}
 use Rattle.glob_lists.specs.Deciding.{HasEntryAt}
 use Rattle.glob_trees.specs.Trees.{DecidesInTree}
 use Rattle.glob_lint.specs.Lines.{seen}
-use Rattle.glob_lint.proofs.lemmas.Held.{sign_of}
+use Rattle.glob_lint.proofs.lemmas.Held.{same_pair, sign_of}
 use Rattle.glob_lint.proofs.trying.sign_at.Goals as goal
 
 pub returns : goal.returns
@@ -12,7 +12,7 @@ returns c =
     let lists = seen c.args.lists.now in
     let first : c.in_ok-by.by.0 ≡ c.args.pair.0 = search (rules, tests) in
     let second : c.in_ok-by.by.1 ≡ c.args.pair.1 = search (rules, tests) in
-    let same : c.in_ok-by.by ≡ c.args.pair = cc in
+    let same : c.in_ok-by.by ≡ c.args.pair = same_pair c.in_ok-by.by c.args.pair first second in
     let there : HasEntryAt lists c.args.pair = subst (HasEntryAt lists) same c.in_ok-by.ensures.inside in
     record {
       decides = subst (λ pair. DecidesInTree lists c.args.path.now.bytes c.args.path.now.is_dir c.args.rules (Some pair)) same (c.in_ok-by.ensures.exact tt);
