@@ -6,3 +6,4 @@ pub mod RealPaths
 pub mod Together
 pub mod Held
 pub mod OneLess
+pub mod Going

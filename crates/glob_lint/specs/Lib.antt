@@ -1,5 +1,5 @@
 pub mod Lines
-pub mod Parts
+pub mod Seen
 pub mod Without
 pub mod Ignoring
 pub mod Effects

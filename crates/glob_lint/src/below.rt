@@ -3,7 +3,7 @@ ghost use Rattle.std.specs.Prelude.{IfOk, IfSome};
 ghost use Rattle.glob_lists.specs.Deciding.{BasesAreFolders, HasEntryAt};
 ghost use Rattle.glob_lint.specs.declared.why.Why.TheVariants.{BelowIgnored};
 ghost use Rattle.glob_lint.specs.Effects.{IsWhy};
-ghost use Rattle.glob_lint.specs.Lines.{seen};
+ghost use Rattle.glob_lint.specs.Seen.{seen};
 
 use gix_glob::search::pattern::List;
 use glob_lines::GitIgnoreLines;

@@ -15,5 +15,5 @@ mod trying;
 mod why;
 
 pub use effects::{Effect, MOST_MATCHES};
-pub use report::{Finding, Report};
+pub use report::{Finding, Report, report_on};
 pub use why::Why;

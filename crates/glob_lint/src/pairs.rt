@@ -1,13 +1,11 @@
 //! What is asked of the lines at pairs of places: a list and a line in it, both from 0.
-ghost use Rattle.std.specs.Prelude.{◌↔◌, ◌≡◌, IsTrue, option_map};
-ghost use Rattle.std.specs.Vec.{vec_items};
+ghost use Rattle.std.specs.Prelude.{◌↔◌, ◌≡◌, IsTrue};
 ghost use Rattle.glob_lists.specs.Deciding.{HasEntryAt};
 ghost use Rattle.glob_lint.specs.declared.why.Why.TheVariants.{MatchesNothing};
 ghost use Rattle.glob_lint.specs.Effects.{Before, CoversAt, IsWhy};
-ghost use Rattle.glob_lint.specs.Lines.{seen};
+ghost use Rattle.glob_lint.specs.Seen.{seen};
 ghost use Rattle.glob_lint.specs.Private.Pairs.{IsLineAt};
 ghost use Rattle.glob_lint.specs.Private.Reasons.{AreApartAt};
-ghost use Rattle.glob_lint.specs.Parts.{parts_of};
 ghost use Rattle.glob_lint.specs.Without.{is_among};
 
 use crate::apart::are_apart;
@@ -26,23 +24,9 @@ pub(crate) fn line_at<'a>(
     pair: (usize, usize),
 ) -> Line<'a>
     requires { HasEntryAt (seen lists.now) pair }
-    ensures { IsLineAt (seen lists.entry.now) pair (parts_of result) }
+    ensures { IsLineAt (seen lists.entry.now) pair result }
 {
-    let list = &lists[pair.0];
-    Line {
-        base: base_of(list),
-        pattern: list.patterns[pair.1].pattern.view(),
-    }
-}
-
-/// The base of a list.
-fn base_of(list: &List<GitIgnoreLines>) -> Option<&[u8]>
-    ensures { option_map (λ base. base.now) result ≡ option_map vec_items list.now.base }
-{
-    match &list.base {
-        Some(base) => Some(base.as_slice()),
-        None => None,
-    }
+    Line::at(&lists[pair.0], pair.1)
 }
 
 /// Whether the line at `by` matches each path of a work tree that the one at `pair` does.
@@ -56,7 +40,7 @@ pub(crate) fn covers_at(
     requires there { HasEntryAt (seen lists.now) by }
     ensures { IsTrue result → CoversAt rules (seen lists.now) pair by }
 {
-    covers(line_at(lists, pair), line_at(lists, by), rules)
+    covers(&line_at(lists, pair), &line_at(lists, by), rules)
 }
 
 /// Whether the line at a pair of places matches no path of a work tree.
@@ -68,7 +52,7 @@ pub(crate) fn matches_nothing_at(
     requires { HasEntryAt (seen lists.now) pair }
     ensures { IsTrue result → IsWhy rules (seen lists.now) pair MatchesNothing }
 {
-    matches_nothing(line_at(lists, pair), rules)
+    matches_nothing(&line_at(lists, pair), rules)
 }
 
 /// Whether the lines at two pairs of places match no path of a work tree together.
@@ -82,7 +66,7 @@ pub(crate) fn are_apart_at(
     requires there { HasEntryAt (seen lists.now) other }
     ensures { IsTrue result → AreApartAt rules (seen lists.now) pair other }
 {
-    are_apart(line_at(lists, pair), line_at(lists, other), rules)
+    are_apart(&line_at(lists, pair), &line_at(lists, other), rules)
 }
 
 /// Some paths that the line at a pair of places may match.
@@ -94,7 +78,7 @@ pub(crate) fn samples_at(
 ) -> Result<Samples, AllocError>
     requires { HasEntryAt (seen lists.now) pair }
 {
-    samples_of(alloc, line_at(lists, pair), rules)
+    samples_of(alloc, &line_at(lists, pair), rules)
 }
 
 /// Whether the one pair of places comes before the other: lists first.

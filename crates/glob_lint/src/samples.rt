@@ -15,7 +15,7 @@ pub struct Samples {
 ///
 /// # Errors
 /// Only where memory was refused.
-pub fn samples_of(alloc: Global, line: Line<'_>, rules: Rules) -> Result<Samples, AllocError> {
+pub fn samples_of(alloc: Global, line: &Line<'_>, rules: Rules) -> Result<Samples, AllocError> {
     let _rules = rules;
     let mut paths = Vec::new(alloc);
     if line.pattern.first_wildcard_pos.is_none() {

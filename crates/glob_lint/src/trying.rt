@@ -2,7 +2,8 @@
 ghost use Rattle.std.specs.Prelude.{◌≡◌, ◌↔◌, ◌∷◌, [], IfSome, IsTrue, Some};
 ghost use Rattle.glob_lists.specs.Deciding.{BasesAreFolders, HasEntryAt};
 ghost use Rattle.glob_lint.specs.Effects.{Turns};
-ghost use Rattle.glob_lint.specs.Lines.{IsReal, is_part, seen};
+ghost use Rattle.glob_lint.specs.Lines.{IsReal, is_part};
+ghost use Rattle.glob_lint.specs.Seen.{seen};
 ghost use Rattle.glob_lint.specs.Private.Asking.{DecidesSo, IsIgnored};
 ghost use Rattle.glob_lint.specs.Without.{lists_but};
 

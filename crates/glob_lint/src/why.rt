@@ -4,7 +4,7 @@ ghost use Rattle.gix_glob.specs.EntryLists.{EntryList};
 ghost use Rattle.glob_lists.specs.Deciding.{BasesAreFolders, HasEntryAt};
 ghost use Rattle.glob_lint.specs.declared.why.Why.TheVariants.{Covered, TakesNothingBack};
 ghost use Rattle.glob_lint.specs.Effects.{Before, IsWhy};
-ghost use Rattle.glob_lint.specs.Lines.{seen};
+ghost use Rattle.glob_lint.specs.Seen.{seen};
 ghost use Rattle.glob_lint.specs.Private.Reasons.{AlikeAt, AlikeFrom, IsReason};
 
 use crate::below::ignored_folder_of;

@@ -14,7 +14,8 @@ use Rattle.gix_glob.proofs.lemmas.Elements.{slice_get-map_at, slice_get-map_with
 use Rattle.glob_lists.specs.declared.rules.Rules.{Rules}
 use Rattle.glob_lists.specs.Deciding.{AnswersFor, HasEntryAt, IsEntryAt, PairAnswers}
 use Rattle.glob_trees.specs.Trees.{IsPositiveAt}
-use Rattle.glob_lint.specs.Lines.{LineParts, Meets, seen}
+use Rattle.glob_lint.specs.Lines.{LineParts, Meets}
+use Rattle.glob_lint.specs.Seen.{seen}
 use Rattle.glob_lint.specs.Private.Pairs.{IsLineAt}
 use Rattle.glob_lint.proofs.lemmas.Left.{entry_of_positive, positive_by_entry}
 

@@ -13,7 +13,7 @@ use Rattle.gix_glob.specs.declared.search.pattern.list.List as patterns
 use Rattle.gix_glob.specs.declared.search.pattern.mapping.Mapping.{Mapping}
 use Rattle.gix_glob.proofs.lemmas.Elements.{All-map_at, slice_get-map_at}
 use Rattle.glob_lists.specs.Deciding.{BasesAreFolders, HasEntryAt, HasFolder}
-use Rattle.glob_lint.specs.Lines.{seen}
+use Rattle.glob_lint.specs.Seen.{seen}
 use Rattle.glob_lint.specs.Without.{entries_but, is_among, lists_but}
 use Rattle.glob_lint.proofs.lemmas.Held.{as_seen, within_list, within_of_entry}
 

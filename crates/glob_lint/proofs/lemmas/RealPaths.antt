@@ -1,9 +1,11 @@
 -- Folders above a path that a work tree can have are such paths, too.
-use Rattle.std.proofs.Common.{◌≡◌, ℕ, Bool, true, false, List, [], ◌∷◌, ◌++◌, refl, sym, ap, subst, ◌∙◌}
+use Rattle.std.proofs.Common.{◌≡◌, ℕ, ◌<◌, All, length, length-append, arith, Bool, true, false, List, [], ◌∷◌, ◌++◌, refl, sym, ap, subst, ◌∙◌}
 use Rattle.std.specs.Prelude.{◌==◌, ◌&&◌, cond}
 use Rattle.std.specs.List.{list_all, onto_first, slice_split}
+use Rattle.std.proofs.Math.ListN.{get_or-append}
 use Rattle.std.proofs.lemmas.List.Folds.{list_all-append}
 use Rattle.gix_glob.specs.Bytes.{slash}
+use Rattle.gix_glob.specs.Paths.{pieces}
 use Rattle.glob_trees.specs.Trees.{IsAbove}
 use Rattle.glob_lint.specs.Lines.{IsReal, is_part}
 
@@ -33,10 +35,18 @@ first_of_both : (a b : Bool) → (a && b) ≡ true → a ≡ true
 first_of_both true b h = refl
 first_of_both false b h = h
 
+front_bytes : (front back : List ℕ) → All (λ b. b < 256) (front ++ back) → All (λ b. b < 256) front
+front_bytes front back all i d within =
+    let inside : i < length (front ++ back) = omega (arith, length-append front back) in
+    subst (λ b. b < 256) (get_or-append front back d i within) (all i d inside)
+
 pub folder_is_real : (folder path : List ℕ) → IsAbove folder path → IsReal path → IsReal folder
 folder_is_real folder path above real =
-    let parts = slice_split (λ b. b == slash) folder in
-    let behind = slice_split (λ b. b == slash) above.0 in
-    let joined = ap (λ p. slice_split (λ b. b == slash) p) above.1 ∙ split_joined (λ b. b == slash) folder slash above.0 refl in
-    first_of_both (list_all is_part parts) (list_all is_part behind)
-    (sym (list_all-append is_part parts behind) ∙ sym (ap (λ ps. list_all is_part ps) joined) ∙ real)
+    let parts = pieces folder in
+    let behind = pieces above.0 in
+    let joined = ap pieces above.1 ∙ split_joined (λ b. b == slash) folder slash above.0 refl in
+    record {
+      bytes = front_bytes folder (slash ∷ above.0) (subst (All (λ b. b < 256)) above.1 real.bytes);
+      parts = first_of_both (list_all is_part parts) (list_all is_part behind)
+          (sym (list_all-append is_part parts behind) ∙ sym (ap (λ ps. list_all is_part ps) joined) ∙ real.parts);
+    }

@@ -37,7 +37,7 @@ in_order (i, m) (j, n) =
         (cases_lt j i))
     (cases_lt i j)
 
-by_order : (a b : ℕ × ℕ) (P : Type 0) → (Before a b → P) → (a ≡ b → P) → (Before b a → P) → P
+pub by_order : (a b : ℕ × ℕ) (P : Type 0) → (Before a b → P) → (a ≡ b → P) → (Before b a → P) → P
 by_order a b P before same after = ⊎_elim before (λ (h : (a ≡ b) ⊎ Before b a). ⊎_elim same after h) (in_order a b)
 
 pub not_both : (a b : ℕ × ℕ) → Before a b → ¬ Before b a
@@ -47,10 +47,10 @@ not_both a b (inr h) (inl k) = let same = h.0 in omega arith
 not_both a b (inr h) (inr k) = let less = h.1 in let more = k.1 in omega arith
 
 -- the one pair of places is the other, or comes before it
-abbrev UpTo : ℕ × ℕ → ℕ × ℕ → Type 0
+abbrev pub UpTo : ℕ × ℕ → ℕ × ℕ → Type 0
 UpTo a b = (a.0 < b.0) ⊎ ((a.0 ≡ b.0) × (a.1 ≤ b.1))
 
-not_past : (a b : ℕ × ℕ) → UpTo a b → ¬ Before b a
+pub not_past : (a b : ℕ × ℕ) → UpTo a b → ¬ Before b a
 not_past a b (inl h) (inl k) = omega arith
 not_past a b (inl h) (inr k) = let same = k.0 in omega arith
 not_past a b (inr h) (inl k) = let same = h.0 in omega arith
@@ -59,7 +59,7 @@ not_past a b (inr h) (inr k) = let less = h.1 in let more = k.1 in omega arith
 one_last : (a b : ℕ × ℕ) → UpTo a b → UpTo b a → a ≡ b
 one_last a b h k = by_order a b (a ≡ b) (λ before. absurd (not_past b a k before)) (λ same. same) (λ after. absurd (not_past a b h after))
 
-false_or_true : (b : Bool) → (b ≡ false) ⊎ (b ≡ true)
+pub false_or_true : (b : Bool) → (b ≡ false) ⊎ (b ≡ true)
 false_or_true true = inr refl
 false_or_true false = inl refl
 

@@ -3,7 +3,7 @@ use Rattle.std.proofs.Common.{◌≡◌, Some, rules, subst}
 use borrow.Author.Tests.{tests}
 use Rattle.glob_lists.specs.Deciding.{HasEntryAt}
 use Rattle.glob_trees.specs.Trees.{DecidesInTree}
-use Rattle.glob_lint.specs.Lines.{seen}
+use Rattle.glob_lint.specs.Seen.{seen}
 use Rattle.glob_lint.proofs.lemmas.Held.{same_pair, sign_of}
 use Rattle.glob_lint.proofs.trying.sign_at.Goals as goal
 

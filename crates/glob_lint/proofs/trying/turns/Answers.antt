@@ -5,7 +5,8 @@ use Rattle.std.specs.Prelude.{[], ◌∷◌}
 use Rattle.glob_lists.specs.Paths.{Path}
 use Rattle.glob_trees.specs.Trees.{DecidesInTree}
 use Rattle.glob_lint.specs.Ignoring.{Ignoring}
-use Rattle.glob_lint.specs.Lines.{IsReal, seen}
+use Rattle.glob_lint.specs.Lines.{IsReal}
+use Rattle.glob_lint.specs.Seen.{seen}
 use Rattle.glob_lint.specs.Private.Asking.{IsIgnored}
 use Rattle.glob_lint.specs.Without.{lists_but}
 use Rattle.glob_lint.proofs.lemmas.Held.{differ}

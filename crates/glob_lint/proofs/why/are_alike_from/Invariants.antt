@@ -1,7 +1,7 @@
 -- Each line of the lists so far has the sign of the one at the pair, or is apart from it.
 use Rattle.std.proofs.Common.{ℕ, ◌<◌}
 use Rattle.glob_lists.specs.Deciding.{HasEntryAt}
-use Rattle.glob_lint.specs.Lines.{seen}
+use Rattle.glob_lint.specs.Seen.{seen}
 use Rattle.glob_lint.specs.Private.Reasons.{AlikeAt}
 use Rattle.glob_lint.proofs.why.are_alike_from.Given as goal
 
