@@ -7,3 +7,4 @@ pub mod Together
 pub mod Held
 pub mod OneLess
 pub mod Going
+pub mod Named

@@ -19,10 +19,7 @@ use glob_lists::Rules;
 use std::alloc::{AllocError, Global};
 
 /// The line at a pair of places.
-pub(crate) fn line_at<'a>(
-    lists: &'a [List<GitIgnoreLines>],
-    pair: (usize, usize),
-) -> Line<'a>
+pub(crate) fn line_at<'a>(lists: &'a [List<GitIgnoreLines>], pair: (usize, usize)) -> Line<'a>
     requires { HasEntryAt (seen lists.now) pair }
     ensures { IsLineAt (seen lists.entry.now) pair result }
 {
@@ -92,5 +89,7 @@ pub(crate) fn comes_before(pair: (usize, usize), other: (usize, usize)) -> bool
 pub(crate) fn is_among(pairs: &[(usize, usize)], pair: (usize, usize)) -> bool
     ensures { result ≡ is_among pairs.now pair.0 pair.1 }
 {
-    pairs.iter().any(|held| held.0 == pair.0 && held.1 == pair.1)
+    pairs
+        .iter()
+        .any(|held| held.0 == pair.0 && held.1 == pair.1)
 }

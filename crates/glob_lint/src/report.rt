@@ -1,11 +1,10 @@
 //! The report on ignore files: of each line what it does, and the lines that may go.
-ghost use Rattle.std.specs.Prelude.{◌≡◌, ◌<◌, ℕ, All, Any, IfOk, List, OnOk, length};
+ghost use Rattle.std.specs.Prelude.{◌≡◌, ◌<◌, ℕ, All, Any, IfOk, OnOk, length};
 ghost use Rattle.glob_lists.specs.Deciding.{BasesAreFolders, HasEntryAt};
 ghost use Rattle.glob_lint.specs.Effects.{IsEffect};
-ghost use Rattle.glob_lint.specs.Ignoring.{IgnoreAlike};
+ghost use Rattle.glob_lint.specs.Ignoring.{AreRemovable};
 ghost use Rattle.glob_lint.specs.Private.Findings.{AddsFindings, AreFindings};
 ghost use Rattle.glob_lint.specs.Seen.{seen};
-ghost use Rattle.glob_lint.specs.Without.{AreAmong, lists_but};
 
 use crate::effects::{Effect, Means, effect_of};
 use crate::removable::removable_of;
@@ -49,7 +48,7 @@ pub fn report_on(
     requires { BasesAreFolders (seen lists.old) }
     ensures each { IfOk result (λ report. (pair : ℕ × ℕ) → HasEntryAt (seen lists.old) pair → Any (λ finding. finding.pair ≡ pair) report.findings.items) }
     ensures told { IfOk result (λ report. All (λ finding. IsEffect rules (seen lists.old) finding.pair finding.effect) report.findings.items) }
-    ensures together { IfOk result (λ report. (gone : List (ℕ × ℕ)) → AreAmong gone report.removable.items → IgnoreAlike rules (seen lists.old) (lists_but gone 0 (seen lists.old))) }
+    ensures together { IfOk result (λ report. AreRemovable rules (seen lists.old) report.removable.items) }
     ensures same { seen lists.new ≡ seen lists.old }
 {
     let findings = findings_of(alloc, lists, rules)?;

@@ -70,11 +70,7 @@ fn sign_at(
 }
 
 /// Whether a path is ignored.
-fn is_ignored(
-    lists: &[List<GitIgnoreLines>],
-    path: &RepositoryPath<'_>,
-    rules: Rules,
-) -> bool
+fn is_ignored(lists: &[List<GitIgnoreLines>], path: &RepositoryPath<'_>, rules: Rules) -> bool
     requires { BasesAreFolders (seen lists.now) }
     ensures { IsIgnored (seen lists.now) rules path.now result }
 {

@@ -115,11 +115,7 @@ fn is_covered(
 }
 
 /// Whether a line takes nothing back: it has `!` in front, and each line before it that has none is apart from it.
-fn takes_nothing_back(
-    lists: &[List<GitIgnoreLines>],
-    pair: (usize, usize),
-    rules: Rules,
-) -> bool
+fn takes_nothing_back(lists: &[List<GitIgnoreLines>], pair: (usize, usize), rules: Rules) -> bool
     requires { HasEntryAt (seen lists.now) pair }
     ensures { IsTrue result → IsWhy rules (seen lists.now) pair TakesNothingBack }
 {

@@ -25,10 +25,13 @@ module _ (P : ℕ → Type 0) where
 
   last_before : (bound : ℕ) → ¬ P bound → NoneOrLast bound → NoneOrLast (suc bound)
   last_before bound not_here (inl none) = inl (λ place less h. elim (below_or_at place bound less) as (λ _. ⊥) [ inl below ↦ none place below h | inr at ↦ not_here (subst P at h) ])
-  last_before bound not_here (inr (place, found)) = inr (place, record {
-    holds = found.holds;
-    last = λ other less h. elim (below_or_at other bound less) as (λ _. other ≤ place) [ inl below ↦ found.last other below h | inr at ↦ absurd (not_here (subst P at h)) ];
-  })
+  last_before bound not_here (inr (place, found)) = inr (
+    place,
+    record {
+      holds = found.holds;
+      last = λ other less h. elim (below_or_at other bound less) as (λ _. other ≤ place) [ inl below ↦ found.last other below h | inr at ↦ absurd (not_here (subst P at h)) ];
+    },
+  )
 
   pub none_or_last : (bound : ℕ) → ¬ ¬ NoneOrLast bound
   none_or_last zero neither = neither (inl (λ place less h. omega arith))
@@ -67,9 +70,9 @@ module _ {V : Type 0} (lists : List (EntryList V)) (path : List ℕ) (is_dir : B
         ⊎_elim
         (λ (less : j < i). inl less)
         (λ (from : i ≤ j).
-            let same : j ≡ i = omega arith in
-            let here : PairAnswers lists path is_dir rules i k = subst (λ l. PairAnswers lists path is_dir rules l k) same other in
-            inr (same, found.last k (within_list i m k h here) here))
+        let same : j ≡ i = omega arith in
+        let here : PairAnswers lists path is_dir rules i k = subst (λ l. PairAnswers lists path is_dir rules l k) same other in
+        inr (same, found.last k (within_list i m k h here) here))
         (cases_lt j i);
   }
 

@@ -43,8 +43,8 @@ among_more [] y i m h =
 among_more (x ∷ xs) y i m h =
     let rest = among_more xs y i m in
     elim (x.0 == i && x.1 == m) as (λ b. (b || is_among (xs ++ y ∷ []) i m) ≡ true → ((b || is_among xs i m) ≡ true) ⊎ (y ≡ (i, m))) [
-      true ↦ λ k. inl refl
-    | false ↦ rest
+      | true ↦ λ k. inl refl
+      | false ↦ rest
     ] h
 
 -- what isn't among the one nor the last isn't among both
@@ -52,9 +52,9 @@ none_more : (xs : List (ℕ × ℕ)) (y : ℕ × ℕ) (i m : ℕ) → is_among x
 none_more xs y i m none other = ⊎_elim
     (λ (h : is_among (xs ++ y ∷ []) i m ≡ false). h)
     (λ (h : is_among (xs ++ y ∷ []) i m ≡ true). absurd (⊎_elim
-        (λ (k : is_among xs i m ≡ true). false≢true (sym none ∙ k))
-        (λ (k : y ≡ (i, m)). other k)
-        (among_more xs y i m h)))
+    (λ (k : is_among xs i m ≡ true). false≢true (sym none ∙ k))
+    (λ (k : y ≡ (i, m)). other k)
+    (among_more xs y i m h)))
     (false_or_true (is_among (xs ++ y ∷ []) i m))
 
 not_among_one : (pair by : ℕ × ℕ) → Before by pair → is_among (pair ∷ []) by.0 by.1 ≡ false
@@ -101,9 +101,9 @@ module _ {V : Type 0} (rules : Rules) (lists : List (EntryList V)) where
               (among_more gone pair p.0 p.1 h);
           apart = λ p h. ⊎_elim
               (λ (old : is_among gone p.0 p.1 ≡ true). none_more stay by p.0 p.1 (may.apart p old)
-                  (λ same. false≢true (sym kept ∙ subst (λ (q : ℕ × ℕ). is_among gone q.0 q.1 ≡ true) (sym same) old)))
+              (λ same. false≢true (sym kept ∙ subst (λ (q : ℕ × ℕ). is_among gone q.0 q.1 ≡ true) (sym same) old)))
               (λ (same : pair ≡ p). subst (λ (q : ℕ × ℕ). is_among (stay ++ by ∷ []) q.0 q.1 ≡ false) same
-                  (none_more stay by pair.0 pair.1 unneeded (λ self. let both : Before by by = subst (λ q. Before by q) (sym self) first in not_both by by both both)))
+              (none_more stay by pair.0 pair.1 unneeded (λ self. let both : Before by by = subst (λ q. Before by q) (sym self) first in not_both by by both both)))
               (among_more gone pair p.0 p.1 h);
         }
 
@@ -120,11 +120,11 @@ module _ {V : Type 0} (rules : Rules) (lists : List (EntryList V)) where
   alike_together all stay gone may some = alike lists gone rules (λ pair is_gone.
       let r = may.reasons pair (some pair.0 pair.1 is_gone) in
       may_go gone pair r.0 r.1 (λ by covered first.
-          let needed : is_among stay by.0 by.1 ≡ true = subst (Needs rules lists stay pair) covered r.2 first in
-          ⊎_elim
-          (λ (h : is_among gone by.0 by.1 ≡ false). h)
-          (λ (h : is_among gone by.0 by.1 ≡ true). absurd (false≢true (sym (may.apart by (some by.0 by.1 h)) ∙ needed)))
-          (false_or_true (is_among gone by.0 by.1))))
+      let needed : is_among stay by.0 by.1 ≡ true = subst (Needs rules lists stay pair) covered r.2 first in
+      ⊎_elim
+      (λ (h : is_among gone by.0 by.1 ≡ false). h)
+      (λ (h : is_among gone by.0 by.1 ≡ true). absurd (false≢true (sym (may.apart by (some by.0 by.1 h)) ∙ needed)))
+      (false_or_true (is_among gone by.0 by.1))))
 
   alike_alone : (pair : ℕ × ℕ) (why : Why) → IsReason rules lists pair why → IgnoreAlike rules lists (lists_but (pair ∷ []) 0 lists)
   alike_alone pair why reason = alike lists (pair ∷ []) rules (λ p is_gone. ⊎_elim

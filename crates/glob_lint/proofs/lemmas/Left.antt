@@ -104,8 +104,7 @@ module _ {V : Type 0} (lists : List (EntryList V)) (gone : List (ℕ × ℕ)) (p
       let found : slice_get (entries_but (is_among gone i) 0 s.list.entries) n ≡ Some at.entry =
       ap (λ (l : EntryList V). slice_get l.entries n) list_is ∙ at.there in
       let e = entry_stood (is_among gone i) s.list.entries 0 n at.entry found in
-      let base_is : is.list.base ≡ s.list.base = sym (ap (λ (l : EntryList V). l.base) list_is) in
-      (
+      let base_is : is.list.base ≡ s.list.base = sym (ap (λ (l : EntryList V). l.base) list_is) in (
         e.m,
         record {
           list = refl;

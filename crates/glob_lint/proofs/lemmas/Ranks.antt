@@ -85,12 +85,12 @@ module _ {V : Type 0} (gone : ℕ → Bool) where
   entry_stood (x ∷ es) k zero e found =
       let rest = entries_but gone (k + 1) es in
       let by = elim (gone k) as (λ b. gone k ≡ b → slice_get (if b then rest else x ∷ rest) 0 ≡ Some e → Stood (x ∷ es) k 0 e) [
-        true ↦ λ here h. behind_gone x es k 0 e here (entry_stood es (k + 1) 0 e h)
-      | false ↦ λ here h. first_kept x es k 0 e here h
+        | true ↦ λ here h. behind_gone x es k 0 e here (entry_stood es (k + 1) 0 e h)
+        | false ↦ λ here h. first_kept x es k 0 e here h
       ] in by refl found
   entry_stood (x ∷ es) k (suc n) e found =
       let rest = entries_but gone (k + 1) es in
       let by = elim (gone k) as (λ b. gone k ≡ b → slice_get (if b then rest else x ∷ rest) (suc n) ≡ Some e → Stood (x ∷ es) k (suc n) e) [
-        true ↦ λ here h. behind_gone x es k (suc n) e here (entry_stood es (k + 1) (suc n) e h)
-      | false ↦ λ here h. behind_kept x es k n e here (entry_stood es (k + 1) n e h)
+        | true ↦ λ here h. behind_gone x es k (suc n) e here (entry_stood es (k + 1) (suc n) e h)
+        | false ↦ λ here h. behind_kept x es k n e here (entry_stood es (k + 1) n e h)
       ] in by refl found

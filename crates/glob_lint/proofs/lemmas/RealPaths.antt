@@ -14,10 +14,10 @@ module _ {X : Type 0} (p : X → Bool) where
   onto_front x [] parts = refl
   onto_front x (y ∷ xs) parts = front (slice_split p xs) (p y)
     where
-    front : (rest : List (List X)) (b : Bool) → onto_first x (cond b ([] ∷ rest) (onto_first y rest) ++ parts) ≡ onto_first x (cond b ([] ∷ rest) (onto_first y rest)) ++ parts
-    front rest true = refl
-    front [] false = refl
-    front (part ∷ rest) false = refl
+      front : (rest : List (List X)) (b : Bool) → onto_first x (cond b ([] ∷ rest) (onto_first y rest) ++ parts) ≡ onto_first x (cond b ([] ∷ rest) (onto_first y rest)) ++ parts
+      front rest true = refl
+      front [] false = refl
+      front (part ∷ rest) false = refl
 
   -- the parts before a cut, and then those behind it
   pub split_joined : (front : List X) (y : X) (back : List X) → p y ≡ true → slice_split p (front ++ y ∷ back) ≡ slice_split p front ++ slice_split p back
@@ -26,9 +26,9 @@ module _ {X : Type 0} (p : X → Bool) where
       let rest = split_joined front y back cut in
       let joined = ap (λ parts. cond (p x) ([] ∷ parts) (onto_first x parts)) rest in
       joined ∙ elim (p x) as (λ b. cond b ([] ∷ (slice_split p front ++ slice_split p back)) (onto_first x (slice_split p front ++ slice_split p back))
-          ≡ cond b ([] ∷ slice_split p front) (onto_first x (slice_split p front)) ++ slice_split p back) [
-        true ↦ refl
-      | false ↦ onto_front x front (slice_split p back)
+      ≡ cond b ([] ∷ slice_split p front) (onto_first x (slice_split p front)) ++ slice_split p back) [
+        | true ↦ refl
+        | false ↦ onto_front x front (slice_split p back)
       ]
 
 first_of_both : (a b : Bool) → (a && b) ≡ true → a ≡ true

@@ -24,17 +24,17 @@ in_order (i, m) (j, n) =
     ⊎_elim
     (λ (less : i < j). inl (inl less))
     (λ (from : j ≤ i). ⊎_elim
-        (λ (more : j < i). inr (inr (inl more)))
-        (λ (up_to : i ≤ j).
-            let same : i ≡ j = omega arith in
-            ⊎_elim
-            (λ (low : m < n). inl (inr (same, low)))
-            (λ (high : n ≤ m). ⊎_elim
-                (λ (lower : n < m). inr (inr (inr (sym same, lower))))
-                (λ (level : m ≤ n). let place : m ≡ n = omega arith in inr (inl cc))
-                (cases_lt n m))
-            (cases_lt m n))
-        (cases_lt j i))
+    (λ (more : j < i). inr (inr (inl more)))
+    (λ (up_to : i ≤ j).
+    let same : i ≡ j = omega arith in
+    ⊎_elim
+    (λ (low : m < n). inl (inr (same, low)))
+    (λ (high : n ≤ m). ⊎_elim
+    (λ (lower : n < m). inr (inr (inr (sym same, lower))))
+    (λ (level : m ≤ n). let place : m ≡ n = omega arith in inr (inl cc))
+    (cases_lt n m))
+    (cases_lt m n))
+    (cases_lt j i))
     (cases_lt i j)
 
 pub by_order : (a b : ℕ × ℕ) (P : Type 0) → (Before a b → P) → (a ≡ b → P) → (Before b a → P) → P
@@ -120,15 +120,14 @@ module _ {V : Type 0} (lists : List (EntryList V)) (gone : List (ℕ × ℕ)) (r
           let s = match_stays lists gone path is_dir rules b.by (b.covers path is_dir real was.answers) b.stays in
           let left : ℕ × ℕ = (b.by.0, rank (is_among gone b.by.0) 0 b.by.1) in
           let sign = b.alike (y.0, stood.0)
-              (λ after. not_past left y (is.last left.0 left.1 s.is) (left_earlier (y.0, stood.0) b.by y left stood.1 s after))
-              stood_earlier path is_dir real was.answers stood.1.was in
+          (λ after. not_past left y (is.last left.0 left.1 s.is) (left_earlier (y.0, stood.0) b.by y left stood.1 s after))
+          stood_earlier path is_dir real was.answers stood.1.was in
           let stays = sign_stays lists gone path is_dir rules (y.0, stood.0) y stood.1 in
           (λ h. stays.0 (sign.1 h), λ h. sign.0 (stays.1 h))
 
       alike_taking : IsReal path → IsWhy rules lists pair TakesNothingBack → IsPositiveAt lists pair ↔ IsPositiveAt but y
       alike_taking real takes =
-          let stays = sign_stays lists gone path is_dir rules (y.0, stood.0) y stood.1 in
-          (
+          let stays = sign_stays lists gone path is_dir rules (y.0, stood.0) y stood.1 in (
             λ h. let self = takes path is_dir pair real was.answers was.answers h in absurd (not_both pair pair self self),
             λ h. absurd (not_both (y.0, stood.0) pair stood_earlier (takes path is_dir (y.0, stood.0) real was.answers stood.1.was (stays.1 h))),
           )
@@ -182,13 +181,13 @@ module _ {V : Type 0} (lists : List (EntryList V)) (gone : List (ℕ × ℕ)) (r
         let folder = x.1.folder in
         let folder_real = folder_is_real folder path x.1.above real in
         absurd (something_decides but folder true rules (λ d.
-            let same = alike_here folder true folder_real x.1.topmost (Some x.0) d.0 x.1.ignored.0 d.1 in
-            not_ignoring but folder rules d.0 d.1 (λ pair. y.0 folder pair x.1.above) (same.0 x.1.ignored.1)))
+        let same = alike_here folder true folder_real x.1.topmost (Some x.0) d.0 x.1.ignored.0 d.1 in
+        not_ignoring but folder rules d.0 d.1 (λ pair. y.0 folder pair x.1.above) (same.0 x.1.ignored.1)))
     alike path is_dir was is real (inr x) (inl y) =
         let folder = y.1.folder in
         let folder_real = folder_is_real folder path y.1.above real in
         let none : HasNoneIgnored lists rules folder = λ top by higher. x.0 top by (above_above top folder path higher y.1.above) in
         absurd (something_decides lists folder true rules (λ d.
-            let same = alike_here folder true folder_real none d.0 (Some y.0) d.1 y.1.ignored.0 in
-            not_ignoring lists folder rules d.0 d.1 (λ pair. x.0 folder pair y.1.above) (same.1 y.1.ignored.1)))
+        let same = alike_here folder true folder_real none d.0 (Some y.0) d.1 y.1.ignored.0 in
+        not_ignoring lists folder rules d.0 d.1 (λ pair. x.0 folder pair y.1.above) (same.1 y.1.ignored.1)))
     alike path is_dir was is real (inr x) (inr y) = alike_here path is_dir real x.0 was is x.1 y.1
