@@ -8,3 +8,4 @@ pub mod Held
 pub mod OneLess
 pub mod Going
 pub mod Named
+pub mod Beginning

@@ -3,3 +3,4 @@ pub mod Reasons
 pub mod Pairs
 pub mod Asking
 pub mod Findings
+pub mod Beginnings
