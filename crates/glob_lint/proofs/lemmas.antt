@@ -1,0 +1,2 @@
+-- Lemmas about lines and their rows of tokens.
+pub mod Rows

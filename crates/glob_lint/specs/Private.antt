@@ -1,0 +1,3 @@
+-- Words that only private clauses cite: what the functions of the crate say to one another.
+pub mod Rows
+pub mod Running
