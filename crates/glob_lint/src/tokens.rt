@@ -29,10 +29,11 @@ pub(crate) struct NextToken<'a> {
 }
 
 impl<'a> LineTokens<'a> {
-    ghost use Rattle.std.specs.Prelude.{◌≡◌, ◌↔◌, ◌++◌, false, IsTrue, MatchOption};
+    ghost use Rattle.std.specs.Prelude.{◌≡◌, ◌↔◌, ◌++◌, false, IfSome, IsTrue, MatchOption};
     ghost use Rattle.glob_matcher.specs.declared.wildmatch.tokens.TokenKind.TheVariants as kind;
     ghost use Rattle.glob_matcher.specs.Matching.{Fits};
     ghost use Rattle.glob_lint.specs.Private.Rows.{IsEnd, IsNext, Row, row_of};
+    ghost use Rattle.glob_lint.specs.Private.Running.{KeepsWithin, TakesFolders};
 
     /// The next token; `None` at the end.
     pub(crate) fn next(&self, way: Way) -> Option<NextToken<'a>>
@@ -103,5 +104,41 @@ impl<'a> LineTokens<'a> {
             TokenKind::Set => self.place < self.text.len() && kind.fits_at(self.text, self.place, byte, way),
             TokenKind::Free | TokenKind::Local | TokenKind::Dirs | TokenKind::Nothing => false,
         }
+    }
+
+    /// Whether the next token, of this kind, matches no slash.
+    pub(crate) fn keeps_within(&self, kind: TokenKind, way: Way) -> bool
+        ensures { (after : Row) (next : IsNext way (row_of self.now) kind after) → IsTrue result → KeepsWithin way next.token }
+    {
+        match kind {
+            TokenKind::Local => true,
+            TokenKind::Byte(_) | TokenKind::Any | TokenKind::Set => !self.fits(kind, b'/', way),
+            TokenKind::Free | TokenKind::Dirs | TokenKind::Nothing => false,
+        }
+    }
+
+    /// What is left behind the next folders: those of any name, or all up to the next slash.
+    pub(crate) fn past_folders(&self, way: Way) -> Option<LineTokens<'a>>
+        ensures { IfSome result (λ after. TakesFolders way (row_of self.now) (row_of after)) }
+    {
+        let next = self.next(way)?;
+        if let TokenKind::Dirs = next.kind {
+            return Some(next.after);
+        }
+        self.past_slash(way)
+    }
+
+    /// What is left behind the next slash.
+    fn past_slash(&self, way: Way) -> Option<LineTokens<'a>>
+        ensures { IfSome result (λ after. TakesFolders way (row_of self.now) (row_of after)) }
+    {
+        let mut left = *self;
+        'tokens: while let Some(next) = left.next(way) {
+            if let TokenKind::Byte(b'/') = next.kind {
+                return Some(next.after);
+            }
+            left = next.after;
+        }
+        None
     }
 }
