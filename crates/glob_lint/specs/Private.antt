@@ -1,3 +1,4 @@
 -- Words that only private clauses cite: what the functions of the crate say to one another.
+pub mod LineRows
 pub mod Rows
 pub mod Running
