@@ -1,3 +1,6 @@
 -- Lemmas about lines and their rows of tokens.
+pub mod Coverings
+pub mod LineRows
+pub mod Literals
 pub mod Rows
 pub mod Running

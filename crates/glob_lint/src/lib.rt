@@ -1,6 +1,11 @@
 //! Which lines of ignore files do nothing: what a line matches among all paths, and whether another line matches it too.
 #![tactic(auto)]
 
+mod covering;
 mod line;
+mod reading;
 mod running;
 mod tokens;
+
+pub use covering::covers;
+pub use line::Line;

@@ -22,7 +22,7 @@ bytes_behind front rest bytes k d below =
     subst (λ (b : ℕ). b < 256) (get_or-append-add front rest k d) (bytes (length front + k) d (omega (arith, length-append front rest)))
 
 -- no slash in either text, none in both
-no_slash_append : (xs ys : List ℕ) → NoSlash xs 0 (length xs) → NoSlash ys 0 (length ys) → NoSlash (xs ++ ys) 0 (length (xs ++ ys))
+pub no_slash_append : (xs ys : List ℕ) → NoSlash xs 0 (length xs) → NoSlash ys 0 (length ys) → NoSlash (xs ++ ys) 0 (length (xs ++ ys))
 no_slash_append xs ys none none_too = record {
   at = λ m low below is. ⊎_elim
   (λ (inside : m < length xs). none.at m low inside (sym (get_or-append xs ys 0 m inside) ∙ is))
@@ -31,7 +31,7 @@ no_slash_append xs ys none none_too = record {
 }
 
 -- folders behind folders
-folders_append : (xs ys : List ℕ) → (xs ≡ []) ⊎ EndsInSlash xs → (ys ≡ []) ⊎ EndsInSlash ys → (xs ++ ys ≡ []) ⊎ EndsInSlash (xs ++ ys)
+pub folders_append : (xs ys : List ℕ) → (xs ≡ []) ⊎ EndsInSlash xs → (ys ≡ []) ⊎ EndsInSlash ys → (xs ++ ys ≡ []) ⊎ EndsInSlash (xs ++ ys)
 folders_append xs ys x (inr ends) = inr (record { front = xs ++ ends.front; joined = ap (λ (zs : List ℕ). xs ++ zs) ends.joined ∙ sym (append_assoc xs ends.front (slash ∷ [])) })
 folders_append xs ys (inl none) (inl none_too) = inl (ap (λ (zs : List ℕ). zs ++ ys) none ∙ none_too)
 folders_append xs ys (inr ends) (inl none_too) = inr (record { front = ends.front; joined = ap (λ (zs : List ℕ). xs ++ zs) none_too ∙ append-nil xs ∙ ends.joined })

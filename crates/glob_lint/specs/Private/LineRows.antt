@@ -1,5 +1,5 @@
 -- A line's row of tokens matches the paths that the line does.
-use Rattle.std.specs.Prelude.{◌≡◌, ℕ, Bool, true, false, IsTrue, List, []}
+use Rattle.std.specs.Prelude.{◌≡◌, ℕ, Bool, true, false, IsTrue, List, [], Option, MatchOption}
 use Rattle.glob_matcher.specs.Bytes.{HasByte, has_slash, star}
 use Rattle.glob_patterns.specs.declared.pattern.case.Case.{Case}
 use Rattle.glob_patterns.specs.GitPaths.{git_way}
@@ -18,3 +18,7 @@ pub record IsRowOf (case : Case) (line : LineParts) (row : Row) : Type 0 where
 pub record IsNameText (text : List ℕ) : Type 0 where
   pub bare : has_slash text ≡ false
   pub few : ¬ (HasByte text 0 star × HasByte text 1 star)
+
+-- the bytes of a base, and none where there is no base
+abbrev pub IsBytesOf : Option (List ℕ) → List ℕ → Type 0
+IsBytesOf base bytes = MatchOption base (bytes ≡ []) (λ base. bytes ≡ base)

@@ -1,0 +1,32 @@
+-- What rows of tokens say of lines, by Git's rules.
+use Rattle.std.proofs.Common.{◌≡◌, Bool, true, IsTrue, List, ℕ, Some, sym, subst}
+use Rattle.glob_matcher.specs.declared.wildmatch.way.Way.{Way}
+use Rattle.glob_patterns.specs.declared.pattern.case.Case.{Case}
+use Rattle.glob_patterns.specs.GitPaths.{git_way}
+use Rattle.glob_patterns.specs.Patterns.{is_for_directories}
+use Rattle.glob_lists.specs.declared.rules.Reading.{Reading}
+use Rattle.glob_lists.specs.declared.rules.Reading.TheVariants.{Git}
+use Rattle.glob_lists.specs.declared.rules.Rules.{Rules}
+use Rattle.glob_lists.specs.Rules.{by_git}
+use Rattle.glob_lint.specs.Lines.{Covers, LineParts, Meets}
+use Rattle.glob_lint.specs.Private.LineRows.{IsRowOf}
+use Rattle.glob_lint.specs.Private.Rows.{Row}
+use Rattle.glob_lint.specs.Private.Running.{RunsOver}
+
+-- a line for folders alone matches no file
+only_folders : (case : Case) (line : LineParts) (path : List ℕ) (is_dir : Bool) → Meets (by_git case) line path is_dir → IsTrue (is_for_directories line.mode) → is_dir ≡ true
+only_folders case line path is_dir m for_folders = let same = m.answers.answers.directory for_folders in cc
+
+module _ (left right : LineParts) (left_row right_row : Row) where
+  covered_by_git : (case : Case) → IsRowOf case left left_row → IsRowOf case right right_row → (way : Way) → way ≡ git_way case → RunsOver way left_row right_row
+      → (IsTrue (is_for_directories right.mode) → IsTrue (is_for_directories left.mode)) → Covers (by_git case) left right
+  covered_by_git case x y way is runs folders = λ path is_dir real m.
+      y.back path is_dir (λ t. only_folders case left path is_dir m (folders t))
+      ((subst (λ (w : Way). RunsOver w left_row right_row) is runs).at path real.bytes (x.out path is_dir m))
+
+  pub covered : (rules : Rules) → rules.reading ≡ Git → ((case : Case) → IsRowOf case left left_row) → ((case : Case) → IsRowOf case right right_row)
+      → (way : Way) → way ≡ git_way rules.case → RunsOver way left_row right_row
+      → (IsTrue (is_for_directories right.mode) → IsTrue (is_for_directories left.mode)) → Covers rules left right
+  covered rules git x y way is runs folders =
+      subst (λ (reading : Reading). Covers (record { case = rules.case; reading = reading }) left right) (sym git)
+      (covered_by_git rules.case (x rules.case) (y rules.case) way is runs folders)
