@@ -2,5 +2,6 @@
 pub mod Coverings
 pub mod LineRows
 pub mod Literals
+pub mod Parts
 pub mod Rows
 pub mod Running

@@ -3,9 +3,11 @@
 
 mod covering;
 mod line;
+mod nothing;
 mod reading;
 mod running;
 mod tokens;
 
 pub use covering::covers;
 pub use line::Line;
+pub use nothing::matches_nothing;

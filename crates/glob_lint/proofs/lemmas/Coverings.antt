@@ -8,8 +8,9 @@ use Rattle.glob_lists.specs.declared.rules.Reading.{Reading}
 use Rattle.glob_lists.specs.declared.rules.Reading.TheVariants.{Git}
 use Rattle.glob_lists.specs.declared.rules.Rules.{Rules}
 use Rattle.glob_lists.specs.Rules.{by_git}
-use Rattle.glob_lint.specs.Lines.{Covers, LineParts, Meets}
+use Rattle.glob_lint.specs.Lines.{Covers, LineParts, Meets, MeetsNothing}
 use Rattle.glob_lint.specs.Private.LineRows.{IsRowOf}
+use Rattle.glob_lint.specs.Private.Parts.{MatchesNoPath}
 use Rattle.glob_lint.specs.Private.Rows.{Row}
 use Rattle.glob_lint.specs.Private.Running.{RunsOver}
 
@@ -30,3 +31,13 @@ module _ (left right : LineParts) (left_row right_row : Row) where
   covered rules git x y way is runs folders =
       subst (λ (reading : Reading). Covers (record { case = rules.case; reading = reading }) left right) (sym git)
       (covered_by_git rules.case (x rules.case) (y rules.case) way is runs folders)
+
+-- a row that matches no path
+module _ (line : LineParts) (row : Row) where
+  none_by_git : (case : Case) → IsRowOf case line row → (way : Way) → way ≡ git_way case → MatchesNoPath way row → MeetsNothing (by_git case) line
+  none_by_git case x way is none = λ path is_dir real m.
+      (subst (λ (w : Way). MatchesNoPath w row) is none).at path real (x.out path is_dir m)
+
+  pub none_met : (rules : Rules) → rules.reading ≡ Git → ((case : Case) → IsRowOf case line row) → (way : Way) → way ≡ git_way rules.case → MatchesNoPath way row → MeetsNothing rules line
+  none_met rules git x way is none =
+      subst (λ (reading : Reading). MeetsNothing (record { case = rules.case; reading = reading }) line) (sym git) (none_by_git rules.case (x rules.case) way is none)
