@@ -1,5 +1,6 @@
 -- Lemmas about lines and their rows of tokens.
 pub mod Coverings
+pub mod Ends
 pub mod LineRows
 pub mod Literals
 pub mod Parts

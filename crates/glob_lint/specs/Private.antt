@@ -1,4 +1,5 @@
 -- Words that only private clauses cite: what the functions of the crate say to one another.
+pub mod Ends
 pub mod LineRows
 pub mod Parts
 pub mod Rows

@@ -1,6 +1,7 @@
 //! Which lines of ignore files do nothing: what a line matches among all paths, and whether another line matches it too.
 #![tactic(auto)]
 
+mod apart;
 mod covering;
 mod line;
 mod nothing;
@@ -8,6 +9,7 @@ mod reading;
 mod running;
 mod tokens;
 
+pub use apart::are_apart;
 pub use covering::covers;
 pub use line::Line;
 pub use nothing::matches_nothing;

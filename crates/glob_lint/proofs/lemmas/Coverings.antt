@@ -8,11 +8,13 @@ use Rattle.glob_lists.specs.declared.rules.Reading.{Reading}
 use Rattle.glob_lists.specs.declared.rules.Reading.TheVariants.{Git}
 use Rattle.glob_lists.specs.declared.rules.Rules.{Rules}
 use Rattle.glob_lists.specs.Rules.{by_git}
-use Rattle.glob_lint.specs.Lines.{Covers, LineParts, Meets, MeetsNothing}
+use Rattle.glob_lint.specs.Lines.{AreApart, Covers, LineParts, Meets, MeetsNothing}
+use Rattle.glob_lint.specs.Private.Ends.{DifferAtEnd, EndsIn}
 use Rattle.glob_lint.specs.Private.LineRows.{IsRowOf}
 use Rattle.glob_lint.specs.Private.Parts.{MatchesNoPath}
-use Rattle.glob_lint.specs.Private.Rows.{Row}
+use Rattle.glob_lint.specs.Private.Rows.{IsCutBy, Row}
 use Rattle.glob_lint.specs.Private.Running.{RunsOver}
+use Rattle.glob_lint.proofs.lemmas.Ends.{ends_apart}
 
 -- a line for folders alone matches no file
 only_folders : (case : Case) (line : LineParts) (path : List ℕ) (is_dir : Bool) → Meets (by_git case) line path is_dir → IsTrue (is_for_directories line.mode) → is_dir ≡ true
@@ -41,3 +43,19 @@ module _ (line : LineParts) (row : Row) where
   pub none_met : (rules : Rules) → rules.reading ≡ Git → ((case : Case) → IsRowOf case line row) → (way : Way) → way ≡ git_way rules.case → MatchesNoPath way row → MeetsNothing rules line
   none_met rules git x way is none =
       subst (λ (reading : Reading). MeetsNothing (record { case = rules.case; reading = reading }) line) (sym git) (none_by_git rules.case (x rules.case) way is none)
+
+-- rows whose ends differ
+module _ (left right : LineParts) (left_row right_row : Row) where
+  apart_by_git : (case : Case) → IsRowOf case left left_row → IsRowOf case right right_row → (way : Way) → way ≡ git_way case → (left_end right_end : List ℕ)
+      → EndsIn way left_row left_end → EndsIn way right_row right_end → DifferAtEnd way left_end right_end → AreApart (by_git case) left right
+  apart_by_git case x y way is left_end right_end ends ends_too differ = λ path is_dir real m k.
+      ends_apart way left_end right_end path differ
+      (ends.at path (subst (λ (w : Way). IsCutBy w left_row path) (sym is) (x.out path is_dir m)))
+      (ends_too.at path (subst (λ (w : Way). IsCutBy w right_row path) (sym is) (y.out path is_dir k)))
+
+  pub apart : (rules : Rules) → rules.reading ≡ Git → ((case : Case) → IsRowOf case left left_row) → ((case : Case) → IsRowOf case right right_row)
+      → (way : Way) → way ≡ git_way rules.case → (left_end right_end : List ℕ)
+      → EndsIn way left_row left_end → EndsIn way right_row right_end → DifferAtEnd way left_end right_end → AreApart rules left right
+  apart rules git x y way is left_end right_end ends ends_too differ =
+      subst (λ (reading : Reading). AreApart (record { case = rules.case; reading = reading }) left right) (sym git)
+      (apart_by_git rules.case (x rules.case) (y rules.case) way is left_end right_end ends ends_too differ)

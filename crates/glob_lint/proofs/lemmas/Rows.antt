@@ -1,11 +1,13 @@
 -- The next token of a row, and what it takes of a value.
-use Rattle.std.proofs.Common.{◌≡◌, ℕ, zero, suc, ◌+◌, ◌-◌, ◌<◌, ◌≤◌, Bool, true, false, List, [], ◌∷◌, ◌++◌, length, get_or, take, drop, take_all, le_refl, refl, sym, ap, subst, ◌∙◌, arith}
+use Rattle.std.proofs.Common.{◌≡◌, ◌⊎◌, inl, inr, ℕ, ◌+◌, ◌-◌, ◌<◌, ◌≤◌, Bool, true, false, List, [], ◌∷◌, ◌++◌, length, get_or, take, drop, take_all, le_refl, refl, sym, ap, subst, ◌∙◌, arith}
 use Rattle.glob_matcher.specs.declared.wildmatch.tokens.TokenKind.{TokenKind}
 use Rattle.glob_matcher.specs.declared.wildmatch.tokens.TokenKind.TheVariants as kind
 use Rattle.glob_matcher.specs.declared.wildmatch.way.Way.{Way}
+use Rattle.glob_matcher.specs.Bytes.{HasByte}
 use Rattle.glob_matcher.specs.Matching.{IsCut, Lang}
 use Rattle.glob_matcher.specs.Tokens.{Byte, Dirs, From, IsToken, Token, TokenAt, kind_of}
-use Rattle.glob_matcher.proofs.lemmas.reading.TokenLemmas.{From-unique, TokenAt-inside, TokenAt-unique}
+use Rattle.glob_matcher.proofs.lemmas.reading.TokenKinds.{token_is}
+use Rattle.glob_matcher.proofs.lemmas.reading.TokenLemmas.{TokenAt-inside, TokenAt-unique}
 use Rattle.glob_lint.specs.Private.Rows.{IsCutBy, IsEnd, IsNext, IsPartedBy, Row, in_front, size}
 
 module _ (way : Way) where
@@ -20,6 +22,10 @@ module _ (way : Way) where
     back = λ value x. record { tokens = x.later.tokens; read = x.later.read; cut = (x.piece, x.rest, x.joined, x.takes, x.later.cut) };
     set = λ is. absurd (cc);
     less = omega arith;
+    same_text = refl;
+    inside = λ h. h;
+    low = omega arith;
+    bare = λ b is one. absurd (omega arith);
   }
 
   -- folders of any name
@@ -33,6 +39,10 @@ module _ (way : Way) where
     back = λ value x. record { tokens = x.later.tokens; read = x.later.read; cut = (x.piece, x.rest, x.joined, x.takes, x.later.cut) };
     set = λ is. absurd (cc);
     less = omega arith;
+    same_text = refl;
+    inside = λ h. h;
+    low = omega arith;
+    bare = λ b is one. absurd (omega arith);
   }
 
   -- a token of the text
@@ -46,7 +56,15 @@ module _ (way : Way) where
     back = λ value y. record { tokens = x.token ∷ y.later.tokens; read = (end, x.here, y.later.read); cut = (y.piece, y.rest, y.joined, y.takes, y.later.cut) };
     set = λ is. (TokenAt-inside way text place x.token end x.here, end, x.here);
     less = omega (arith, x.past, x.inside);
+    same_text = refl;
+    inside = λ h. x.inside;
+    low = omega (arith, x.past);
+    bare = λ b is one. bare_byte b one (subst (λ (t : Token). TokenAt way text place t end) (token_is x.token (sym x.same_kind ∙ is)) x.here);
   } where
+    bare_byte : (b : ℕ) → end ≡ place + 1 → TokenAt way text place (Byte b) end → HasByte text place b
+    bare_byte b one (inl escaped) = let two : end ≡ place + 2 = escaped.1 in absurd (omega arith)
+    bare_byte b one (inr bare) = bare.0
+
     parted : (value : List ℕ) (ts : List Token) → From way text place ts → IsCut way ts value
         → IsPartedBy way x.token (record { bytes = []; any_folder = false; text = text; place = end }) value
     parted value [] read cut = let inside = TokenAt-inside way text place x.token end x.here in absurd (omega arith)
@@ -62,7 +80,7 @@ module _ (way : Way) where
 
   -- the end
   pub row_ends : (text : List ℕ) (place : ℕ) → place ≡ length text → IsEnd way (record { bytes = []; any_folder = false; text = text; place = place })
-  row_ends text place at_end = record { out = λ value x. none value x.tokens x.read x.cut; back = record { tokens = []; read = at_end; cut = refl } } where
+  row_ends text place at_end = record { out = λ value x. none value x.tokens x.read x.cut; back = record { tokens = []; read = at_end; cut = refl }; at_end = at_end } where
     none : (value : List ℕ) (ts : List Token) → From way text place ts → IsCut way ts value → value ≡ []
     none value [] read cut = cut
     none value (t ∷ ts) read cut = let inside = TokenAt-inside way text place t read.0 read.1 in absurd (omega arith)

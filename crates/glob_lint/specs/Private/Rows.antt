@@ -1,8 +1,9 @@
 -- A line as one row of tokens: which texts the tokens that are left match, and what the next one takes of them.
-use Rattle.std.specs.Prelude.{◌≡◌, ℕ, ◌+◌, ◌-◌, ◌<◌, Bool, if◌then◌else◌, List, [], ◌∷◌, ◌++◌, length, map}
+use Rattle.std.specs.Prelude.{◌≡◌, ℕ, ◌+◌, ◌-◌, ◌<◌, ◌≤◌, Bool, if◌then◌else◌, List, [], ◌∷◌, ◌++◌, length, map}
 use Rattle.glob_matcher.specs.declared.wildmatch.tokens.TokenKind.{TokenKind}
 use Rattle.glob_matcher.specs.declared.wildmatch.tokens.TokenKind.TheVariants.{Set}
 use Rattle.glob_matcher.specs.declared.wildmatch.way.Way.{Way}
+use Rattle.glob_matcher.specs.Bytes.{HasByte}
 use Rattle.glob_matcher.specs.Matching.{IsCut, Lang}
 use Rattle.glob_matcher.specs.Tokens.{Byte, Dirs, From, Token, TokenAt, kind_of}
 use Rattle.glob_lint.specs.declared.tokens.LineTokens.{LineTokens}
@@ -31,6 +32,7 @@ pub record IsCutBy (way : Way) (row : Row) (value : List ℕ) : Type 0 where
 pub record IsEnd (way : Way) (row : Row) : Type 0 where
   pub out : (value : List ℕ) → IsCutBy way row value → value ≡ []
   pub back : IsCutBy way row []
+  pub at_end : row.place ≡ length row.text
 
 -- what a value that the row matches is made of: a piece for the token, and what the row behind it matches
 pub record IsPartedBy (way : Way) (token : Token) (after : Row) (value : List ℕ) : Type 0 where
@@ -52,3 +54,7 @@ pub record IsNext (way : Way) (row : Row) (kind : TokenKind) (after : Row) : Typ
   pub back : (value : List ℕ) → IsPartedBy way token after value → IsCutBy way row value
   pub set : kind ≡ Set → (row.place < length row.text) × (end : ℕ) × TokenAt way row.text row.place token end
   pub less : size after < size row
+  pub same_text : after.text ≡ row.text
+  pub inside : row.place ≤ length row.text → after.place ≤ length row.text
+  pub low : row.place ≤ after.place
+  pub bare : (b : ℕ) → kind ≡ kind_of (Byte b) → after.place ≡ row.place + 1 → HasByte row.text row.place b
