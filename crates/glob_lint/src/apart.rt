@@ -20,7 +20,11 @@ pub fn are_apart(left: &Line<'_>, right: &Line<'_>, rules: Rules) -> bool
     };
     let way = way_of(rules.case);
     match (left.tokens(), right.tokens()) {
-        (Some(left), Some(right)) => ends_differ(literal_end(left, way), literal_end(right, way), way),
+        (Some(left), Some(right)) => ends_differ(
+            literal_end(left, way),
+            literal_end(right, way),
+            way,
+        ),
         _ => false,
     }
 }

@@ -6,10 +6,14 @@ mod covering;
 mod line;
 mod nothing;
 mod reading;
+mod real;
 mod running;
+mod samples;
 mod tokens;
 
 pub use apart::are_apart;
 pub use covering::covers;
 pub use line::Line;
 pub use nothing::matches_nothing;
+pub use real::is_real;
+pub use samples::{Sample, samples_of};

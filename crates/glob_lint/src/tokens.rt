@@ -101,7 +101,8 @@ impl<'a> LineTokens<'a> {
         match kind {
             TokenKind::Byte(wanted) => way.alike(byte, wanted),
             TokenKind::Any => !(way.is_path() && byte == b'/'),
-            TokenKind::Set => self.place < self.text.len() && kind.fits_at(self.text, self.place, byte, way),
+            TokenKind::Set => self.place < self.text.len()
+                && kind.fits_at(self.text, self.place, byte, way),
             TokenKind::Free | TokenKind::Local | TokenKind::Dirs | TokenKind::Nothing => false,
         }
     }

@@ -1,5 +1,5 @@
 -- What rows of tokens say of lines, by Git's rules.
-use Rattle.std.proofs.Common.{◌≡◌, Bool, true, IsTrue, List, ℕ, Some, sym, subst}
+use Rattle.std.proofs.Common.{◌≡◌, Bool, true, IsTrue, List, ℕ, sym, subst}
 use Rattle.glob_matcher.specs.declared.wildmatch.way.Way.{Way}
 use Rattle.glob_patterns.specs.declared.pattern.case.Case.{Case}
 use Rattle.glob_patterns.specs.GitPaths.{git_way}

@@ -1,17 +1,17 @@
 -- The bytes in which what a row of tokens matches ends.
-use Rattle.std.proofs.Common.{◌≡◌, ℕ, suc, ◌+◌, ◌-◌, ◌<◌, ◌≤◌, List, [], ◌∷◌, ◌++◌, length, get_or, take, drop, map, take_all, refl, sym, ap, subst, ◌∙◌, append_assoc, append-nil, length-append, length-drop, arith}
+use Rattle.std.proofs.Common.{◌≡◌, ℕ, suc, ◌+◌, ◌-◌, ◌<◌, ◌≤◌, List, [], ◌∷◌, ◌++◌, length, get_or, take, drop, take_all, refl, sym, ap, subst, ◌∙◌, append_assoc, append-nil, length-append, length-drop, arith}
 use Rattle.std.proofs.Math.Seq.{take-suc}
 use Rattle.std.proofs.lemmas.List.{get_or-append-add, get_or-drop, map-append}
 use Rattle.glob_matcher.specs.declared.wildmatch.tokens.TokenKind.{TokenKind}
 use Rattle.glob_matcher.specs.declared.wildmatch.way.Way.{Way}
 use Rattle.glob_matcher.specs.Bytes.{HasByte, fold}
 use Rattle.glob_matcher.specs.Matching.{Lang}
-use Rattle.glob_matcher.specs.Tokens.{Byte, Token}
+use Rattle.glob_matcher.specs.Tokens.{Token}
 use Rattle.glob_matcher.proofs.lemmas.reading.TokenKinds.{token_is}
 use Rattle.glob_patterns.specs.Folding.{folding_of}
 use Rattle.glob_patterns.proofs.lemmas.LiteralLemmas.{AreAlike-at, AreAlike-length}
-use Rattle.glob_lint.specs.Private.Ends.{DifferAtEnd, EndsIn, HasEnd, IsBareByte, IsBareSince, IsEndCut}
-use Rattle.glob_lint.specs.Private.Rows.{IsCutBy, IsEnd, IsNext, Row}
+use Rattle.glob_lint.specs.Private.Ends.{DifferAtEnd, EndsIn, HasEnd, IsBareByte, IsBareSince}
+use Rattle.glob_lint.specs.Private.Rows.{IsEnd, IsNext, Row}
 
 module _ (way : Way) where
   -- a place of the value, told from its end

@@ -3,11 +3,11 @@ use Rattle.std.proofs.Common.{◌≡◌, ◌⊎◌, inl, inr, ℕ, zero, suc, �
 use Rattle.std.proofs.Math.Seq.{drop-append_seam, get_or-append_right, get_or-append_seam, take-suc}
 use Rattle.std.proofs.lemmas.Bool.{false≢true}
 use Rattle.std.proofs.lemmas.Bool.Decides.{eqb_tells}
-use Rattle.std.proofs.lemmas.List.{get_or-drop, length-take-le, length-append, length-drop}
+use Rattle.std.proofs.lemmas.List.{length-take-le, length-append}
 use Rattle.std.proofs.lemmas.List.Folds.{list_any_at}
 use Rattle.std.specs.Option.{unwrap_or}
 use Rattle.glob_matcher.specs.declared.wildmatch.way.Way.{Way}
-use Rattle.glob_matcher.specs.Bytes.{EndsInSlash, HasByte, NoSlash, fold, has_slash, is_path, slash, star}
+use Rattle.glob_matcher.specs.Bytes.{EndsInSlash, HasByte, NoSlash, fold, has_slash, is_path, slash}
 use Rattle.glob_matcher.specs.Matching.{Fits, IsCut, Lang, SplitsBy}
 use Rattle.glob_matcher.specs.Tokens.{Any, Byte, Dirs, Free, From, Local, Nothing, OneOf, Token, TokenAt}
 use Rattle.glob_matcher.proofs.lemmas.cutting.SlashLemmas.{fold_slash, no_slash_in_set}
@@ -15,17 +15,17 @@ use Rattle.glob_patterns.specs.declared.mode.Mode.{Mode}
 use Rattle.glob_patterns.specs.declared.pattern.case.Case.{Case}
 use Rattle.glob_patterns.specs.declared.pattern.case.Case.TheVariants.{Sensitive, Fold}
 use Rattle.glob_patterns.specs.Folding.{folding_of}
-use Rattle.glob_patterns.specs.GitPaths.{AnswersAsGit, FrontAndRest, git_way}
+use Rattle.glob_patterns.specs.GitPaths.{FrontAndRest, git_way}
 use Rattle.glob_patterns.specs.Patterns.{first_special, is_for_directories, looks_at_name}
-use Rattle.glob_patterns.specs.RepositoryPaths.{IsAfterLastSlash, IsBasenameStart, subject}
+use Rattle.glob_patterns.specs.RepositoryPaths.{IsBasenameStart, subject}
 use Rattle.glob_patterns.proofs.lemmas.FrontLemmas.{front_all, front_cut, front_inside, front_joined}
 use Rattle.glob_patterns.proofs.lemmas.LiteralLemmas.{AreAlike-length}
 use Rattle.glob_lists.specs.Rules.{by_git}
-use Rattle.gix_glob.specs.Stripping.{Rest, RestOf}
+use Rattle.gix_glob.specs.Stripping.{RestOf}
 use Rattle.glob_lists.specs.Deciding.{AnswersFor}
-use Rattle.glob_lint.specs.Lines.{LineParts, Meets}
+use Rattle.glob_lint.specs.Lines.{LineParts}
 use Rattle.glob_lint.specs.Private.LineRows.{IsBytesOf, IsNameText, IsRowOf}
-use Rattle.glob_lint.specs.Private.Rows.{IsCutBy, Row, in_front}
+use Rattle.glob_lint.specs.Private.Rows.{in_front}
 use Rattle.glob_lint.proofs.lemmas.Literals.{base_back, base_out, literal_back, literal_out}
 use Rattle.glob_lint.proofs.lemmas.Running.{no_slash_append}
 

@@ -1,5 +1,5 @@
 -- Parts that no path of a work tree has, and how a row of tokens comes to them.
-use Rattle.std.proofs.Common.{◌≡◌, ◌⊎◌, inl, inr, ℕ, suc, ◌+◌, ◌≤◌, Bool, true, false, ◌&&◌, ◌==◌, cond, if◌then◌else◌, IsTrue, List, [], ◌∷◌, ◌++◌, length, Option, None, Some, refl, sym, ap, subst, ◌∙◌, append_assoc, append-nil, arith}
+use Rattle.std.proofs.Common.{◌≡◌, ◌⊎◌, inl, inr, ℕ, ◌≤◌, Bool, true, false, ◌&&◌, ◌==◌, cond, if◌then◌else◌, List, [], ◌∷◌, ◌++◌, length, refl, sym, ap, subst, ◌∙◌, append_assoc, append-nil, arith}
 use Rattle.std.specs.Prelude.{codes}
 use Rattle.std.specs.Char.{to_ascii_lowercase}
 use Rattle.std.specs.List.{list_all, onto_first}
@@ -11,16 +11,16 @@ use Rattle.glob_matcher.specs.declared.wildmatch.tokens.TokenKind.TheVariants as
 use Rattle.glob_matcher.specs.declared.wildmatch.way.Way.{Way}
 use Rattle.glob_matcher.specs.Bytes.{EndsInSlash, fold, folds, slash}
 use Rattle.glob_matcher.specs.Matching.{Lang}
-use Rattle.glob_matcher.specs.Tokens.{Byte, Dirs, Nothing, Token}
+use Rattle.glob_matcher.specs.Tokens.{Token}
 use Rattle.glob_matcher.proofs.lemmas.cutting.SlashLemmas.{fold_slash}
 use Rattle.glob_matcher.proofs.lemmas.reading.TokenKinds.{token_is}
 use Rattle.gix_glob.specs.Paths.{pieces}
 use Rattle.glob_lint.specs.declared.nothing.Part.{Part}
 use Rattle.glob_lint.specs.declared.nothing.Part.TheVariants.{Dot, Empty, Other, TwoDots}
-use Rattle.glob_lint.specs.Lines.{IsReal, is_part}
-use Rattle.glob_lint.specs.Private.Parts.{IsPartCut, MatchesNoPath, StandsAt, StandsBehind, text_of_part}
-use Rattle.glob_lint.specs.Private.Rows.{IsCutBy, IsEnd, IsNext, Row}
-use Rattle.glob_lint.specs.Private.Running.{Reaches, TakesFolders}
+use Rattle.glob_lint.specs.Lines.{is_part}
+use Rattle.glob_lint.specs.Private.Parts.{MatchesNoPath, StandsAt, StandsBehind}
+use Rattle.glob_lint.specs.Private.Rows.{IsEnd, IsNext, Row}
+use Rattle.glob_lint.specs.Private.Running.{Reaches}
 use Rattle.glob_lint.proofs.lemmas.Running.{folders_append, reaches_next, slash_reached}
 
 -- ---- the parts of a text in two

@@ -1,5 +1,5 @@
 -- The next token of a row, and what it takes of a value.
-use Rattle.std.proofs.Common.{◌≡◌, ◌⊎◌, inl, inr, ℕ, ◌+◌, ◌-◌, ◌<◌, ◌≤◌, Bool, true, false, List, [], ◌∷◌, ◌++◌, length, get_or, take, drop, take_all, le_refl, refl, sym, ap, subst, ◌∙◌, arith}
+use Rattle.std.proofs.Common.{◌≡◌, inl, inr, ℕ, ◌+◌, ◌-◌, ◌<◌, ◌≤◌, Bool, true, false, List, [], ◌∷◌, ◌++◌, length, get_or, take, drop, take_all, refl, sym, ap, subst, ◌∙◌, arith}
 use Rattle.glob_matcher.specs.declared.wildmatch.tokens.TokenKind.{TokenKind}
 use Rattle.glob_matcher.specs.declared.wildmatch.tokens.TokenKind.TheVariants as kind
 use Rattle.glob_matcher.specs.declared.wildmatch.way.Way.{Way}
@@ -8,13 +8,13 @@ use Rattle.glob_matcher.specs.Matching.{IsCut, Lang}
 use Rattle.glob_matcher.specs.Tokens.{Byte, Dirs, From, IsToken, Token, TokenAt, kind_of}
 use Rattle.glob_matcher.proofs.lemmas.reading.TokenKinds.{token_is}
 use Rattle.glob_matcher.proofs.lemmas.reading.TokenLemmas.{TokenAt-inside, TokenAt-unique}
-use Rattle.glob_lint.specs.Private.Rows.{IsCutBy, IsEnd, IsNext, IsPartedBy, Row, in_front, size}
+use Rattle.glob_lint.specs.Private.Rows.{IsEnd, IsNext, IsPartedBy, Row}
 
 module _ (way : Way) where
   -- a byte that stands for itself
   pub byte_next : (b : ℕ) (bytes : List ℕ) (any_folder : Bool) (text : List ℕ) (place : ℕ)
       → IsNext way (record { bytes = b ∷ bytes; any_folder = any_folder; text = text; place = place }) (kind.Byte b)
-          (record { bytes = bytes; any_folder = any_folder; text = text; place = place })
+      (record { bytes = bytes; any_folder = any_folder; text = text; place = place })
   byte_next b bytes any_folder text place = record {
     token = Byte b;
     same_kind = refl;
@@ -31,7 +31,7 @@ module _ (way : Way) where
   -- folders of any name
   pub folders_next : (text : List ℕ) (place : ℕ)
       → IsNext way (record { bytes = []; any_folder = true; text = text; place = place }) kind.Dirs
-          (record { bytes = []; any_folder = false; text = text; place = place })
+      (record { bytes = []; any_folder = false; text = text; place = place })
   folders_next text place = record {
     token = Dirs;
     same_kind = refl;
@@ -48,7 +48,7 @@ module _ (way : Way) where
   -- a token of the text
   pub text_next : (text : List ℕ) (place : ℕ) (kind : TokenKind) (end : ℕ) → IsToken way text place kind end
       → IsNext way (record { bytes = []; any_folder = false; text = text; place = place }) kind
-          (record { bytes = []; any_folder = false; text = text; place = end })
+      (record { bytes = []; any_folder = false; text = text; place = end })
   text_next text place kind end x = record {
     token = x.token;
     same_kind = x.same_kind;

@@ -1,5 +1,5 @@
 -- When one row of tokens runs over another, from token to token.
-use Rattle.std.proofs.Common.{◌≡◌, ◌⊎◌, inl, inr, ⊎_elim, ℕ, ◌+◌, ◌-◌, ◌<◌, ◌≤◌, IsTrue, List, [], ◌∷◌, ◌++◌, length, get_or, refl, sym, ap, subst, ◌∙◌, length-append, append_assoc, append-nil, arith}
+use Rattle.std.proofs.Common.{◌≡◌, ◌⊎◌, inl, inr, ⊎_elim, ℕ, ◌+◌, ◌-◌, ◌<◌, ◌≤◌, List, [], ◌∷◌, ◌++◌, length, get_or, refl, sym, ap, subst, ◌∙◌, length-append, append_assoc, append-nil, arith}
 use Rattle.std.proofs.Math.ListN.{get_or-append}
 use Rattle.std.proofs.Math.Seq.{get_or-append_right}
 use Rattle.std.proofs.lemmas.Bool.{cases_lt}
@@ -8,8 +8,8 @@ use Rattle.glob_matcher.specs.declared.wildmatch.tokens.TokenKind.{TokenKind}
 use Rattle.glob_matcher.specs.declared.wildmatch.tokens.TokenKind.TheVariants as kind
 use Rattle.glob_matcher.specs.declared.wildmatch.way.Way.{Way}
 use Rattle.glob_matcher.specs.Bytes.{EndsInSlash, NoSlash, fold, slash}
-use Rattle.glob_matcher.specs.Matching.{Fits, Lang, OneByte}
-use Rattle.glob_matcher.specs.Tokens.{Any, Byte, Dirs, Free, Local, Nothing, OneOf, Token, kind_of}
+use Rattle.glob_matcher.specs.Matching.{Fits, Lang}
+use Rattle.glob_matcher.specs.Tokens.{Byte, Dirs, Local, Token, kind_of}
 use Rattle.glob_matcher.proofs.lemmas.cutting.CutLemmas.{one_is_lang}
 use Rattle.glob_matcher.proofs.lemmas.cutting.SlashLemmas.{fold_slash}
 use Rattle.glob_matcher.proofs.lemmas.reading.TokenKinds.{token_is}
@@ -25,9 +25,9 @@ bytes_behind front rest bytes k d below =
 pub no_slash_append : (xs ys : List ℕ) → NoSlash xs 0 (length xs) → NoSlash ys 0 (length ys) → NoSlash (xs ++ ys) 0 (length (xs ++ ys))
 no_slash_append xs ys none none_too = record {
   at = λ m low below is. ⊎_elim
-  (λ (inside : m < length xs). none.at m low inside (sym (get_or-append xs ys 0 m inside) ∙ is))
-  (λ (past : length xs ≤ m). none_too.at (m - length xs) (omega arith) (omega (arith, length-append xs ys)) (sym (get_or-append_right xs ys m 0 past) ∙ is))
-  (cases_lt m (length xs));
+      (λ (inside : m < length xs). none.at m low inside (sym (get_or-append xs ys 0 m inside) ∙ is))
+      (λ (past : length xs ≤ m). none_too.at (m - length xs) (omega arith) (omega (arith, length-append xs ys)) (sym (get_or-append_right xs ys m 0 past) ∙ is))
+      (cases_lt m (length xs));
 }
 
 -- folders behind folders
