@@ -55,14 +55,13 @@ impl<'a> Search<'a> {
     fn turn(&self, way: Way) -> Option<Search<'a>>
         ensures { IfSome result (λ next. (left right : Row) → IsSound way left right self.now → IsSound way left right next) }
     {
-        let marked = self.marked(way);
-        match marked.at.met(way) {
-            Some(at) => Some(Search {
-                at,
-                within: marked.within,
-                across: marked.across,
-            }),
-            None => marked.back(way),
+        let mut next = self.marked(way);
+        match next.at.met(way) {
+            Some(at) => {
+                next.at = at;
+                Some(next)
+            }
+            None => next.back(way),
         }
     }
 
@@ -71,43 +70,31 @@ impl<'a> Search<'a> {
         ensures stand { result.at ≡ self.now.at }
         ensures sound { (left right : Row) → IsSound way left right self.now → IsSound way left right result }
     {
-        let Some(right) = self.at.right.next(way) else {
-            return *self;
-        };
-        match right.kind {
-            TokenKind::Local => Search {
-                at: self.at,
-                within: Some(self.at),
-                across: self.across,
-            },
-            TokenKind::Free | TokenKind::Dirs => Search {
-                at: self.at,
-                within: None,
-                across: Some(self.at),
-            },
-            _ => *self,
+        let mut marked = *self;
+        match self.at.right.next(way) {
+            Some(right) if matches!(right.kind, TokenKind::Local) => marked.within = Some(self.at),
+            Some(right) if matches!(right.kind, TokenKind::Free | TokenKind::Dirs) => {
+                marked.within = None;
+                marked.across = Some(self.at);
+            }
+            _ => {}
         }
+        marked
     }
 
     /// The stand after the last star that can take one token more has taken it.
     fn back(&self, way: Way) -> Option<Search<'a>>
         ensures { IfSome result (λ next. (left right : Row) → IsSound way left right self.now → IsSound way left right next) }
     {
-        if let Some(mark) = self.within {
-            if let Some(at) = mark.grown(way) {
-                return Some(Search {
-                    at,
-                    within: None,
-                    across: self.across,
-                });
-            }
+        let mut next = *self;
+        next.within = None;
+        if let Some(at) = self.within.and_then(|mark| mark.grown(way)) {
+            next.at = at;
+            return Some(next);
         }
-        let at = self.across?.grown(way)?;
-        Some(Search {
-            at,
-            within: None,
-            across: None,
-        })
+        next.across = None;
+        next.at = self.across?.grown(way)?;
+        Some(next)
     }
 }
 

@@ -19,16 +19,15 @@ pub struct Sample {
     pub is_dir: bool,
 }
 
-/// What the stars of a line stand for.
-#[derive(Clone, Copy)]
-enum Filling {
-    /// Nothing.
-    Nothing,
-    /// A name.
-    Names,
-    /// A name, and where folders may stand a folder.
-    Folders,
-}
+/// What stars within a part stand for, what folders of any name do, and whether the path is a folder's.
+const FILLINGS: [(&str, &str, bool); 6] = [
+    ("", "", false),
+    ("", "", true),
+    ("x", "", false),
+    ("x", "", true),
+    ("x", "x/", false),
+    ("x", "x/", true),
+];
 
 /// At most six paths that a line may match, by Git's rules: its stars stand for nothing, for a name, or for a name and folders, each path as a
 /// file and as a folder. None has a part `.git`, which Git passes over.
@@ -43,77 +42,53 @@ pub fn samples_of(alloc: Global, line: &Line<'_>, rules: Rules) -> Result<Vec<Sa
         return Ok(samples);
     };
     let way = way_of(rules.case);
-    'fillings: for filling in [Filling::Nothing, Filling::Names, Filling::Folders] {
-        let Some(path) = filling.path_of(alloc, &tokens, way)? else {
+    let for_folders = line.is_for_folders();
+    'fillings: for (name, folder, is_dir) in FILLINGS {
+        if for_folders && !is_dir {
+            continue;
+        }
+        let Some(path) = path_of(alloc, tokens, (name, folder), way)? else {
             continue;
         };
         if !is_real(&path) || has_git_part(&path) {
             continue;
         }
-        if !line.is_for_folders() {
-            samples.push(Sample {
-                path: Vec::from_slice(alloc, &path)?,
-                is_dir: false,
-            })?;
-        }
-        samples.push(Sample { path, is_dir: true })?;
+        samples.push(Sample { path, is_dir })?;
     }
     Ok(samples)
 }
 
-impl Filling {
-    /// The path that tokens stand for; `None` where they stand for none.
-    fn path_of(
-        self,
-        alloc: Global,
-        tokens: &LineTokens<'_>,
-        way: Way,
-    ) -> Result<Option<Vec<u8>>, AllocError> {
-        let mut path = Vec::new(alloc);
-        let mut left = *tokens;
-        'tokens: while let Some(next) = left.next(way) {
-            match next.kind {
-                TokenKind::Byte(byte) => path.push(byte)?,
-                TokenKind::Any => path.push(b'x')?,
-                TokenKind::Set => match byte_of_set(&left, way) {
-                    Some(byte) => path.push(byte)?,
-                    None => return Ok(None),
-                },
-                TokenKind::Local | TokenKind::Free => path.extend_from_slice(self.name())?,
-                TokenKind::Dirs => path.extend_from_slice(self.folder())?,
-                TokenKind::Nothing => return Ok(None),
-            }
-            left = next.after;
+/// The path that tokens stand for, where stars within a part stand for the one text, and folders of any name for the other; `None` where they
+/// stand for none.
+fn path_of(
+    alloc: Global,
+    mut left: LineTokens<'_>,
+    (name, folder): (&str, &str),
+    way: Way,
+) -> Result<Option<Vec<u8>>, AllocError> {
+    let mut path = Vec::new(alloc);
+    'tokens: while let Some(next) = left.next(way) {
+        match next.kind {
+            TokenKind::Byte(byte) => path.push(byte)?,
+            TokenKind::Any => path.push(b'x')?,
+            TokenKind::Set => match byte_of_set(&left, way) {
+                Some(byte) => path.push(byte)?,
+                None => return Ok(None),
+            },
+            TokenKind::Local | TokenKind::Free => path.extend_from_slice(name.as_bytes())?,
+            TokenKind::Dirs => path.extend_from_slice(folder.as_bytes())?,
+            TokenKind::Nothing => return Ok(None),
         }
-        Ok(Some(path))
+        left = next.after;
     }
-
-    /// What a star stands for.
-    fn name(self) -> &'static [u8] {
-        match self {
-            Filling::Nothing => b"",
-            Filling::Names | Filling::Folders => b"x",
-        }
-    }
-
-    /// What stands where folders may.
-    fn folder(self) -> &'static [u8] {
-        match self {
-            Filling::Nothing | Filling::Names => b"",
-            Filling::Folders => b"x/",
-        }
-    }
+    Ok(Some(path))
 }
 
 /// The first byte, from `a` on, that the set in front takes.
 fn byte_of_set(tokens: &LineTokens<'_>, way: Way) -> Option<u8> {
-    'bytes: for n in 0..=255u8 {
-        let byte = b'a'.wrapping_add(n);
-        if tokens.fits(TokenKind::Set, byte, way) {
-            return Some(byte);
-        }
-    }
-    None
+    (0..=255u8)
+        .map(|n| b'a'.wrapping_add(n))
+        .find(|byte| tokens.fits(TokenKind::Set, *byte, way))
 }
 
 /// Whether a part of a path is `.git`.

@@ -29,8 +29,7 @@ pub(crate) struct NextToken<'a> {
 }
 
 impl<'a> LineTokens<'a> {
-    ghost use Rattle.std.specs.Prelude.{◌≡◌, ◌↔◌, ◌++◌, false, IfSome, IsTrue, MatchOption};
-    ghost use Rattle.glob_matcher.specs.declared.wildmatch.tokens.TokenKind.TheVariants as kind;
+    ghost use Rattle.std.specs.Prelude.{◌↔◌, IfSome, IsTrue, MatchOption};
     ghost use Rattle.glob_matcher.specs.Matching.{Fits};
     ghost use Rattle.glob_lint.specs.Private.Rows.{IsEnd, IsNext, Row, row_of};
     ghost use Rattle.glob_lint.specs.Private.Running.{KeepsWithin, TakesFolders};
@@ -41,57 +40,29 @@ impl<'a> LineTokens<'a> {
             (IsEnd way (row_of self.now))
             (λ next. IsNext way (row_of self.now) next.kind (row_of next.after)) }
     {
+        let mut after = *self;
         if let [byte, base @ ..] = self.base {
-            return Some(self.byte(*byte, base, self.front));
+            after.base = base;
+            let kind = TokenKind::Byte(*byte);
+            return Some(NextToken { kind, after });
         }
         if let [byte, front @ ..] = self.front {
-            return Some(self.byte(*byte, self.base, front));
+            after.front = front;
+            let kind = TokenKind::Byte(*byte);
+            return Some(NextToken { kind, after });
         }
         if self.any_folder {
-            return Some(self.token(TokenKind::Dirs, self.place));
+            after.any_folder = false;
+            let kind = TokenKind::Dirs;
+            return Some(NextToken { kind, after });
         }
         if self.place == self.text.len() {
             return None;
         }
         let token = token_at(self.text, self.place, way);
-        Some(self.token(token.kind, token.end))
-    }
-
-    /// A byte that stands for itself, in front of what is left of base and front.
-    fn byte(&self, byte: u8, base: &'a [u8], front: &'a [u8]) -> NextToken<'a>
-        ensures kind { result.kind ≡ kind.Byte byte }
-        ensures after { row_of result.after
-            ≡ record { bytes = base.entry.now ++ front.entry.now; any_folder = self.now.any_folder; text = self.now.text.now; place = self.now.place } }
-    {
-        NextToken {
-            kind: TokenKind::Byte(byte),
-            after: LineTokens {
-                base,
-                front,
-                any_folder: self.any_folder,
-                text: self.text,
-                place: self.place,
-            },
-        }
-    }
-
-    /// A token behind the literal bytes, up to a place of the text.
-    fn token(&self, kind: TokenKind, place: usize) -> NextToken<'a>
-        requires { place ≤ length self.now.text.now }
-        ensures kind { result.kind ≡ kind }
-        ensures after { row_of result.after
-            ≡ record { bytes = self.now.base.now ++ self.now.front.now; any_folder = false; text = self.now.text.now; place = place } }
-    {
-        NextToken {
-            kind,
-            after: LineTokens {
-                base: self.base,
-                front: self.front,
-                any_folder: false,
-                text: self.text,
-                place,
-            },
-        }
+        after.place = token.end;
+        let kind = token.kind;
+        Some(NextToken { kind, after })
     }
 
     /// Whether the next token, of this kind, takes this byte alone.

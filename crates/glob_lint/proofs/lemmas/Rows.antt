@@ -126,7 +126,7 @@ module _ (way : Way) where
 
   pub next_of_text : (base front : List ℕ) (any_folder : Bool) (text : List ℕ) (place end : ℕ) (read kind : TokenKind) (after : Row)
       → length base < 1 → length front < 1 → any_folder ≡ false → IsToken way text place read end → kind ≡ read
-      → after ≡ record { bytes = base ++ front; any_folder = false; text = text; place = end }
+      → after ≡ record { bytes = base ++ front; any_folder = any_folder; text = text; place = end }
       → IsNext way (record { bytes = base ++ front; any_folder = any_folder; text = text; place = place }) kind after
   next_of_text (b ∷ base) front any_folder text place end read kind after none none_too is token same same_row = absurd (omega arith)
   next_of_text [] (b ∷ front) any_folder text place end read kind after none none_too is token same same_row = absurd (omega arith)
