@@ -1,4 +1,11 @@
 -- Lemmas over plain variables.
+pub mod Coverings
+pub mod Ends
+pub mod LineRows
+pub mod Literals
+pub mod Parts
+pub mod Rows
+pub mod Running
 pub mod Ranks
 pub mod Left
 pub mod Finding

@@ -6,7 +6,7 @@ ghost use Rattle.glob_lint.specs.Seen.{seen};
 ghost use Rattle.glob_lint.specs.Private.Reasons.{IsFound};
 
 use crate::pairs::samples_at;
-use crate::samples::Samples;
+use crate::samples::Sample;
 use crate::trying::turns;
 use crate::why::{Why, reason_of};
 use gix_glob::search::pattern::List;
@@ -88,8 +88,11 @@ pub(crate) fn effect_of(
     ensures same { seen lists.new ≡ seen lists.old }
 {
     let samples = samples_at(means.alloc, lists, pair, rules)?;
-    if let Some((path, is_dir)) = change_by(means, lists, pair, samples, rules) {
-        return Ok(Effect::Changes { path, is_dir });
+    if let Some(sample) = change_by(means, lists, pair, samples, rules) {
+        return Ok(Effect::Changes {
+            path: sample.path,
+            is_dir: sample.is_dir,
+        });
     }
     if !means.take(QUESTIONS_OF_A_REASON) {
         return Ok(Effect::Unknown);
@@ -100,22 +103,24 @@ pub(crate) fn effect_of(
     }
 }
 
-/// The first of these paths about which the line at a pair of places changes the answer, and whether it is a folder's.
+/// The first of these paths about which the line at a pair of places changes the answer.
 fn change_by(
     means: &mut Means,
     lists: &mut [List<GitIgnoreLines>],
     pair: (usize, usize),
-    samples: Samples,
+    samples: Vec<Sample>,
     rules: Rules,
-) -> Option<(Vec<u8>, bool)>
+) -> Option<Sample>
     requires folders { BasesAreFolders (seen lists.old) }
     requires there { HasEntryAt (seen lists.old) pair }
-    ensures told { IfSome result (λ found. Turns rules (seen lists.old) pair found.0.items found.1) }
+    ensures told { IfSome result (λ sample. Turns rules (seen lists.old) pair sample.path.items sample.is_dir) }
     ensures same { seen lists.new ≡ seen lists.old }
 {
-    'samples: for (path, is_dir) in samples.paths {
-        if means.take(questions_of(&path)) && turns(lists, pair, &path, is_dir, rules) {
-            return Some((path, is_dir));
+    'samples: for sample in samples {
+        if means.take(questions_of(&sample.path))
+            && turns(lists, pair, &sample.path, sample.is_dir, rules)
+        {
+            return Some(sample);
         }
     }
     None

@@ -1,4 +1,4 @@
-//! Which lines of ignore files do nothing, and why; and for each other line a path about which it changes what Git says.
+//! Which lines of ignore files do nothing, and why; and for the others a path about which they change what Git says.
 #![tactic(auto)]
 
 mod apart;
@@ -8,12 +8,22 @@ mod effects;
 mod line;
 mod nothing;
 mod pairs;
+mod reading;
+mod real;
 mod removable;
 mod report;
+mod running;
 mod samples;
+mod tokens;
 mod trying;
 mod why;
 
+pub use apart::are_apart;
+pub use covering::covers;
 pub use effects::{Effect, MOST_MATCHES};
+pub use line::Line;
+pub use nothing::matches_nothing;
+pub use real::is_real;
 pub use report::{Finding, Report, report_on};
+pub use samples::{Sample, samples_of};
 pub use why::Why;

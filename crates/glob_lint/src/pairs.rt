@@ -12,7 +12,7 @@ use crate::apart::are_apart;
 use crate::covering::covers;
 use crate::line::Line;
 use crate::nothing::matches_nothing;
-use crate::samples::{Samples, samples_of};
+use crate::samples::{Sample, samples_of};
 use gix_glob::search::pattern::List;
 use glob_lines::GitIgnoreLines;
 use glob_lists::Rules;
@@ -72,7 +72,7 @@ pub(crate) fn samples_at(
     lists: &[List<GitIgnoreLines>],
     pair: (usize, usize),
     rules: Rules,
-) -> Result<Samples, AllocError>
+) -> Result<Vec<Sample>, AllocError>
     requires { HasEntryAt (seen lists.now) pair }
 {
     samples_of(alloc, &line_at(lists, pair), rules)

@@ -2,11 +2,11 @@
 ghost use Rattle.std.specs.Prelude.{◌≡◌, ◌↔◌, ◌∷◌, [], IfSome, IsTrue, Some};
 ghost use Rattle.glob_lists.specs.Deciding.{BasesAreFolders, HasEntryAt};
 ghost use Rattle.glob_lint.specs.Effects.{Turns};
-ghost use Rattle.glob_lint.specs.Lines.{IsReal, is_part};
 ghost use Rattle.glob_lint.specs.Seen.{seen};
 ghost use Rattle.glob_lint.specs.Private.Asking.{DecidesSo, IsIgnored};
 ghost use Rattle.glob_lint.specs.Without.{lists_but};
 
+use crate::real::is_real;
 use gix_glob::search::pattern::List;
 use glob_lines::GitIgnoreLines;
 use glob_lists::{ListStack, RepositoryPath, Rules};
@@ -36,20 +36,6 @@ pub(crate) fn turns(
         return false;
     };
     ignored != is_ignored_without(lists, pair, &path, rules)
-}
-
-/// Whether a path is one that a work tree can have: no part of it is empty, `.` or `..`.
-pub(crate) fn is_real(path: &[u8]) -> bool
-    ensures { IsTrue result ↔ IsReal path.now }
-{
-    path.split(|byte| *byte == b'/').all(is_name)
-}
-
-/// Whether a part of a path is a name.
-fn is_name(part: &[u8]) -> bool
-    ensures { result ≡ is_part part.now }
-{
-    !matches!(part, [] | b"." | b"..")
 }
 
 /// Where the line at a pair of places decides about a path, whether the path is ignored.

@@ -13,5 +13,5 @@ turns-requires-clause-there c = subst (λ lists. HasEntryAt lists c.args.pair) (
 
 pub returns-then-turns-clause-told : goal.returns-then-turns-clause-told
 returns-then-turns-clause-told c =
-    subst (λ lists. Turns c.args.rules lists c.args.pair c.in-Some.path.items c.in-Some.is_dir) c.samples.invariant.same
-    (subst (λ bytes. Turns c.args.rules (seen c.samples.lists) c.args.pair bytes c.in-Some.is_dir) c.deref-then-take.ensures.value (c.turns.ensures.told c.if-turns.true))
+    subst (λ lists. Turns c.args.rules lists c.args.pair c.in-Some.sample.path.items c.in-Some.sample.is_dir) c.samples.invariant.same
+    (subst (λ bytes. Turns c.args.rules (seen c.samples.lists) c.args.pair bytes c.in-Some.sample.is_dir) c.deref-then-take.ensures.value (c.turns.ensures.told c.if-turns.true))
