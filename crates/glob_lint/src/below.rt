@@ -45,7 +45,10 @@ pub(crate) fn ignored_folder_of(
 }
 
 /// How the paths begin that a line matches.
-fn beginning_of(alloc: Global, line: &Line<'_>) -> Result<Vec<u8>, AllocError>
+///
+/// # Errors
+/// Only where memory was refused.
+pub(crate) fn beginning_of(alloc: Global, line: &Line<'_>) -> Result<Vec<u8>, AllocError>
     ensures { IfOk result (λ bytes. bytes.items ≡ beginning_of line.now) }
 {
     let mut bytes = Vec::from_slice(alloc, base_of(line))?;

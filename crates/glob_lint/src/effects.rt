@@ -1,5 +1,5 @@
 //! What a line does: a path about which it changes the answer, or why it makes no difference.
-ghost use Rattle.std.specs.Prelude.{◌≡◌, IfOk, IfSome};
+ghost use Rattle.std.specs.Prelude.{◌≡◌, ◌<◌, IfOk, IfSome, length};
 ghost use Rattle.glob_lists.specs.Deciding.{BasesAreFolders, HasEntryAt};
 ghost use Rattle.glob_lint.specs.Effects.{Turns};
 ghost use Rattle.glob_lint.specs.Seen.{seen};
@@ -7,11 +7,12 @@ ghost use Rattle.glob_lint.specs.Private.Reasons.{IsFound};
 
 use crate::pairs::samples_at;
 use crate::samples::Sample;
+use crate::shared::shared_samples;
 use crate::trying::turns;
 use crate::why::{Why, reason_of};
 use gix_glob::search::pattern::List;
 use glob_lines::GitIgnoreLines;
-use glob_lists::Rules;
+use glob_lists::{ListStack, Rules};
 use std::alloc::{AllocError, Global};
 
 /// About how many matches are asked for at most: each is one of a line with a path or with another line. What is left then isn't looked at.
@@ -97,10 +98,77 @@ pub(crate) fn effect_of(
     if !means.take(QUESTIONS_OF_A_REASON) {
         return Ok(Effect::Unknown);
     }
-    match reason_of(means.alloc, lists, pair, rules)? {
-        Some(why) => Ok(Effect::Idle(why)),
+    if let Some(why) = reason_of(means.alloc, lists, pair, rules)? {
+        return Ok(Effect::Idle(why));
+    }
+    match shared_change(means, lists, pair, rules)? {
+        Some(sample) => Ok(Effect::Changes {
+            path: sample.path,
+            is_dir: sample.is_dir,
+        }),
         None => Ok(Effect::Unknown),
     }
+}
+
+/// The first path that the line at a pair of places shares with a line of the other sign about which it changes the answer.
+fn shared_change(
+    means: &mut Means,
+    lists: &mut [List<GitIgnoreLines>],
+    pair: (usize, usize),
+    rules: Rules,
+) -> Result<Option<Sample>, AllocError>
+    requires folders { BasesAreFolders (seen lists.old) }
+    requires there { HasEntryAt (seen lists.old) pair }
+    ensures told { IfOk result (λ sample. IfSome sample (λ sample. Turns rules (seen lists.old) pair sample.path.items sample.is_dir)) }
+    ensures same { seen lists.new ≡ seen lists.old }
+{
+    'lists: for at in 0..lists.len() {
+        if let Some(sample) = shared_change_in(means, lists, at, pair, rules)? {
+            return Ok(Some(sample));
+        }
+    }
+    Ok(None)
+}
+
+/// The first such path shared with a line of the list at a place.
+fn shared_change_in(
+    means: &mut Means,
+    lists: &mut [List<GitIgnoreLines>],
+    at: usize,
+    pair: (usize, usize),
+    rules: Rules,
+) -> Result<Option<Sample>, AllocError>
+    requires folders { BasesAreFolders (seen lists.old) }
+    requires there { HasEntryAt (seen lists.old) pair }
+    requires inside { at < length lists.old }
+    ensures told { IfOk result (λ sample. IfSome sample (λ sample. Turns rules (seen lists.old) pair sample.path.items sample.is_dir)) }
+    ensures same { seen lists.new ≡ seen lists.old }
+{
+    let count = lists[at].patterns.len();
+    'lines: for place in 0..count {
+        let samples = other_samples(means.alloc, lists, pair, (at, place), rules)?;
+        if let Some(sample) = change_by(means, lists, pair, samples, rules) {
+            return Ok(Some(sample));
+        }
+    }
+    Ok(None)
+}
+
+/// Paths that two lines of different sign may share; none where they have one sign.
+fn other_samples(
+    alloc: Global,
+    lists: &[List<GitIgnoreLines>],
+    pair: (usize, usize),
+    other: (usize, usize),
+    rules: Rules,
+) -> Result<Vec<Sample>, AllocError>
+    requires here { HasEntryAt (seen lists.now) pair }
+    requires there { HasEntryAt (seen lists.now) other }
+{
+    if lists.is_negative(pair) == lists.is_negative(other) {
+        return Ok(Vec::new(alloc));
+    }
+    shared_samples(alloc, lists, pair, other, rules)
 }
 
 /// The first of these paths about which the line at a pair of places changes the answer.

@@ -14,6 +14,7 @@ mod removable;
 mod report;
 mod running;
 mod samples;
+mod shared;
 mod tokens;
 mod trying;
 mod why;
