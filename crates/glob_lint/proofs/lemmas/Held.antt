@@ -7,16 +7,16 @@ use Rattle.std.proofs.lemmas.Option.{same_Some}
 use Rattle.gix_glob.specs.Entries.{Entry, entry_of}
 use Rattle.gix_glob.specs.EntryLists.{EntryList, entry_list_of}
 use Rattle.gix_glob.specs.Patterns.{is_negative}
-use Rattle.gix_glob.specs.Stripping.{RestOf}
 use Rattle.gix_glob.specs.declared.search.pattern.list.List as patterns
 use Rattle.gix_glob.specs.declared.search.pattern.mapping.Mapping.{Mapping}
 use Rattle.gix_glob.proofs.lemmas.Elements.{slice_get-map_at, slice_get-map_within}
 use Rattle.glob_lists.specs.declared.rules.Rules.{Rules}
-use Rattle.glob_lists.specs.Deciding.{AnswersFor, HasEntryAt, IsEntryAt, PairAnswers}
+use Rattle.glob_lists.specs.Deciding.{HasEntryAt, IsEntryAt, PairAnswers}
 use Rattle.glob_trees.specs.Trees.{IsPositiveAt}
 use Rattle.glob_lint.specs.Lines.{LineParts, Meets}
 use Rattle.glob_lint.specs.Seen.{seen}
 use Rattle.glob_lint.specs.Private.Pairs.{IsLineAt}
+use Rattle.glob_lint.proofs.lemmas.Pairs.{meets_pair, pair_meets}
 use Rattle.glob_lint.proofs.lemmas.Left.{entry_of_positive, positive_by_entry}
 
 some_at : {X : Type 0} (xs : List X) (i : ℕ) → i < length xs → (x : X) × (slice_get xs i ≡ Some x)
@@ -58,33 +58,10 @@ module _ {T X : Type 0} where
 -- a path that a line matches, by its parts
 module _ {V : Type 0} (lists : List (EntryList V)) (pair : ℕ × ℕ) (parts : LineParts) (line : IsLineAt lists pair parts) (rules : Rules) (path : List ℕ) (is_dir : Bool) where
   pub meets_here : PairAnswers lists path is_dir rules pair.0 pair.1 → Meets rules parts path is_dir
-  meets_here h =
-      let list_is : h.list ≡ line.at.list = same_Some h.list line.at.list (sym h.there ∙ line.at.of_lists) in
-      let found = h.answers in
-      let entry_is : found.entry ≡ line.entry =
-      same_Some found.entry line.entry (sym found.there ∙ ap (λ (l : EntryList V). slice_get l.entries pair.1) list_is ∙ line.at.of_list) in
-      let a = found.answers in
-      record {
-        rest = a.rest;
-        left = subst (λ b. RestOf rules.case b path a.rest) (ap (λ (l : EntryList V). l.base) list_is ∙ sym line.base) a.left;
-        answers = subst (λ m. AnswersFor parts.text m a.rest is_dir rules) (ap (λ (e : Entry V). e.mode) entry_is ∙ sym line.mode)
-            (subst (λ t. AnswersFor t found.entry.mode a.rest is_dir rules) (ap (λ (e : Entry V). e.text) entry_is ∙ sym line.text) a.answers);
-      }
+  meets_here h = subst (λ p. Meets rules p path is_dir) (sym line.is) (pair_meets lists pair line.entry line.at rules path is_dir h)
 
   pub matches_here : Meets rules parts path is_dir → PairAnswers lists path is_dir rules pair.0 pair.1
-  matches_here m = record {
-    list = line.at.list;
-    there = line.at.of_lists;
-    answers = record {
-      entry = line.entry;
-      there = line.at.of_list;
-      answers = record {
-        rest = m.rest;
-        left = subst (λ b. RestOf rules.case b path m.rest) line.base m.left;
-        answers = subst (λ k. AnswersFor line.entry.text k m.rest is_dir rules) line.mode (subst (λ t. AnswersFor t parts.mode m.rest is_dir rules) line.text m.answers);
-      };
-    };
-  }
+  matches_here m = meets_pair lists pair line.entry line.at rules path is_dir (subst (λ p. Meets rules p path is_dir) line.is m)
 
 -- the sign of a line
 not_true : (b : Bool) → IsTrue (not b) ↔ (b ≡ false)

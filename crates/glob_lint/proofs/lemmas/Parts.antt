@@ -1,6 +1,7 @@
 -- Parts that no path of a work tree has, and how a row of tokens comes to them.
-use Rattle.std.proofs.Common.{◌≡◌, ◌⊎◌, inl, inr, ℕ, ◌≤◌, Bool, true, false, ◌&&◌, ◌==◌, cond, if◌then◌else◌, List, [], ◌∷◌, ◌++◌, length, refl, sym, ap, subst, ◌∙◌, append_assoc, append-nil, arith}
+use Rattle.std.proofs.Common.{◌≡◌, ◌⊎◌, inl, inr, ℕ, ◌≤◌, Bool, true, false, ◌&&◌, ◌==◌, cond, if◌then◌else◌, List, [], ◌∷◌, ◌++◌, length, refl, sym, ap, subst, ◌∙◌, append_assoc, append-nil, arith, ◌<◌, ◌+◌, get_or, length-append}
 use Rattle.std.specs.Prelude.{codes}
+use Rattle.std.proofs.Math.ListN.{get_or-append}
 use Rattle.std.specs.Char.{to_ascii_lowercase}
 use Rattle.std.specs.List.{list_all, onto_first}
 use Rattle.std.proofs.lemmas.List.Splits.{length-slice_split}
@@ -17,7 +18,7 @@ use Rattle.glob_matcher.proofs.lemmas.reading.TokenKinds.{token_is}
 use Rattle.gix_glob.specs.Paths.{pieces}
 use Rattle.glob_lint.specs.declared.nothing.Part.{Part}
 use Rattle.glob_lint.specs.declared.nothing.Part.TheVariants.{Dot, Empty, Other, TwoDots}
-use Rattle.glob_lint.specs.Lines.{is_part}
+use Rattle.glob_lint.specs.Lines.{IsReal, is_part}
 use Rattle.glob_lint.specs.Private.Parts.{MatchesNoPath, StandsAt, StandsBehind}
 use Rattle.glob_lint.specs.Private.Rows.{IsEnd, IsNext, Row}
 use Rattle.glob_lint.specs.Private.Running.{Reaches}
@@ -60,6 +61,16 @@ rest_parts : (front rest : List ℕ) → (front ≡ []) ⊎ EndsInSlash front �
 rest_parts front rest (inl none) all = subst AreParts (ap (λ (xs : List ℕ). xs ++ rest) none) all
 rest_parts front rest (inr ends) all =
     (both_parts ends.front rest (subst AreParts (ap (λ (xs : List ℕ). xs ++ rest) ends.joined ∙ append_assoc ends.front (slash ∷ []) rest) all)).1
+
+-- a folder above a path that a work tree can have is one
+pub folder_is_real : (folder below path : List ℕ) → path ≡ folder ++ slash ∷ below → IsReal path → IsReal folder
+folder_is_real folder below path joined real =
+    let long : length path ≡ length folder + length (slash ∷ below) = ap (λ (xs : List ℕ). length xs) joined ∙ length-append folder (slash ∷ below) in
+    record {
+      bytes = λ k d inside. subst (λ (b : ℕ). b < 256) (ap (λ (xs : List ℕ). get_or xs k d) joined ∙ get_or-append folder (slash ∷ below) d k inside)
+          (real.bytes k d (omega arith));
+      parts = (both_parts folder below (subst AreParts joined real.parts)).0;
+    }
 
 -- a byte whose lowercase form is a dot is one
 dot_of_lowercase : (b : ℕ) → to_ascii_lowercase b ≡ 46 → b ≡ 46

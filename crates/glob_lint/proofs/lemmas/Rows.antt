@@ -87,56 +87,50 @@ module _ (way : Way) where
 
   -- ---- the same of a row in two parts, as the code has it
 
-  -- a row of this kind's token, where kind and row behind it are told by equations
-  told : {row : Row} {kind kind2 : TokenKind} {after after2 : Row} → IsNext way row kind after → kind2 ≡ kind → after2 ≡ after → IsNext way row kind2 after2
-  told {row} {kind} {kind2} {after} {after2} x same same_row =
-      subst (λ (k : TokenKind). IsNext way row k after2) (sym same) (subst (λ (a : Row). IsNext way row kind a) (sym same_row) x)
-
   -- all but the first byte
-  behind_first : (b : ℕ) (bytes : List ℕ) → take (length (b ∷ bytes) - 1) (drop 1 (b ∷ bytes)) ≡ bytes
-  behind_first b bytes = take_all (length (b ∷ bytes) - 1) bytes (omega arith)
+  behind_first : (b : ℕ) (bytes : List ℕ) → bytes ≡ take (length (b ∷ bytes) - 1) (drop 1 (b ∷ bytes))
+  behind_first b bytes = sym (take_all (length (b ∷ bytes) - 1) bytes (omega arith))
 
-  pub next_of_base : (base front : List ℕ) (any_folder : Bool) (text : List ℕ) (place : ℕ) (kind : TokenKind) (after : Row)
-      → 1 ≤ length base → kind ≡ kind_of (Byte (get_or base 0 0))
-      → after ≡ record { bytes = take (length base - 1) (drop 1 base) ++ front; any_folder = any_folder; text = text; place = place }
-      → IsNext way (record { bytes = base ++ front; any_folder = any_folder; text = text; place = place }) kind after
-  next_of_base [] front any_folder text place kind after some same same_row = absurd (omega arith)
-  next_of_base (b ∷ bytes) front any_folder text place kind after some same same_row =
-      told (byte_next b (bytes ++ front) any_folder text place) same
-      (same_row ∙ ap (λ (xs : List ℕ). record { bytes = xs ++ front; any_folder = any_folder; text = text; place = place }) (behind_first b bytes))
+  -- a row in two parts
+  abbrev pub parted_row : List ℕ → List ℕ → Bool → List ℕ → ℕ → Row
+  parted_row base front any_folder text place = record { bytes = base ++ front; any_folder = any_folder; text = text; place = place }
 
-  pub next_of_front : (base front : List ℕ) (any_folder : Bool) (text : List ℕ) (place : ℕ) (kind : TokenKind) (after : Row)
-      → length base < 1 → 1 ≤ length front → kind ≡ kind_of (Byte (get_or front 0 0))
-      → after ≡ record { bytes = base ++ take (length front - 1) (drop 1 front); any_folder = any_folder; text = text; place = place }
-      → IsNext way (record { bytes = base ++ front; any_folder = any_folder; text = text; place = place }) kind after
-  next_of_front (b ∷ base) front any_folder text place kind after none some same same_row = absurd (omega arith)
-  next_of_front [] [] any_folder text place kind after none some same same_row = absurd (omega arith)
-  next_of_front [] (b ∷ bytes) any_folder text place kind after none some same same_row =
-      told (byte_next b bytes any_folder text place) same
-      (same_row ∙ ap (λ (xs : List ℕ). record { bytes = xs; any_folder = any_folder; text = text; place = place }) (behind_first b bytes))
+  pub next_of_base : (base front : List ℕ) (any_folder : Bool) (text : List ℕ) (place : ℕ) → 1 ≤ length base
+      → IsNext way (parted_row base front any_folder text place) (kind_of (Byte (get_or base 0 0)))
+      (parted_row (take (length base - 1) (drop 1 base)) front any_folder text place)
+  next_of_base [] front any_folder text place some = absurd (omega arith)
+  next_of_base (b ∷ bytes) front any_folder text place some =
+      subst (λ (xs : List ℕ). IsNext way (parted_row (b ∷ bytes) front any_folder text place) (kind_of (Byte b)) (parted_row xs front any_folder text place))
+      (behind_first b bytes) (byte_next b (bytes ++ front) any_folder text place)
 
-  pub next_of_folders : (base front : List ℕ) (any_folder : Bool) (text : List ℕ) (place : ℕ) (kind : TokenKind) (after : Row)
-      → length base < 1 → length front < 1 → any_folder ≡ true → kind ≡ kind_of Dirs
-      → after ≡ record { bytes = base ++ front; any_folder = false; text = text; place = place }
-      → IsNext way (record { bytes = base ++ front; any_folder = any_folder; text = text; place = place }) kind after
-  next_of_folders (b ∷ base) front any_folder text place kind after none none_too is same same_row = absurd (omega arith)
-  next_of_folders [] (b ∷ front) any_folder text place kind after none none_too is same same_row = absurd (omega arith)
-  next_of_folders [] [] true text place kind after none none_too is same same_row = told (folders_next text place) same same_row
-  next_of_folders [] [] false text place kind after none none_too is same same_row = absurd (cc)
+  pub next_of_front : (base front : List ℕ) (any_folder : Bool) (text : List ℕ) (place : ℕ) → length base < 1 → 1 ≤ length front
+      → IsNext way (parted_row base front any_folder text place) (kind_of (Byte (get_or front 0 0)))
+      (parted_row base (take (length front - 1) (drop 1 front)) any_folder text place)
+  next_of_front (b ∷ base) front any_folder text place none some = absurd (omega arith)
+  next_of_front [] [] any_folder text place none some = absurd (omega arith)
+  next_of_front [] (b ∷ bytes) any_folder text place none some =
+      subst (λ (xs : List ℕ). IsNext way (parted_row [] (b ∷ bytes) any_folder text place) (kind_of (Byte b)) (parted_row [] xs any_folder text place))
+      (behind_first b bytes) (byte_next b bytes any_folder text place)
 
-  pub next_of_text : (base front : List ℕ) (any_folder : Bool) (text : List ℕ) (place end : ℕ) (read kind : TokenKind) (after : Row)
-      → length base < 1 → length front < 1 → any_folder ≡ false → IsToken way text place read end → kind ≡ read
-      → after ≡ record { bytes = base ++ front; any_folder = any_folder; text = text; place = end }
-      → IsNext way (record { bytes = base ++ front; any_folder = any_folder; text = text; place = place }) kind after
-  next_of_text (b ∷ base) front any_folder text place end read kind after none none_too is token same same_row = absurd (omega arith)
-  next_of_text [] (b ∷ front) any_folder text place end read kind after none none_too is token same same_row = absurd (omega arith)
-  next_of_text [] [] true text place end read kind after none none_too is token same same_row = absurd (cc)
-  next_of_text [] [] false text place end read kind after none none_too is token same same_row = told (text_next text place read end token) same same_row
+  -- behind the bytes
+  module _ (text : List ℕ) (place : ℕ) where
+    pub next_of_folders : (base front : List ℕ) (any_folder : Bool) → length base < 1 → length front < 1 → any_folder ≡ true
+        → IsNext way (parted_row base front any_folder text place) (kind_of Dirs) (parted_row base front false text place)
+    next_of_folders (b ∷ base) front any_folder none none_too is = absurd (omega arith)
+    next_of_folders [] (b ∷ front) any_folder none none_too is = absurd (omega arith)
+    next_of_folders [] [] true none none_too is = folders_next text place
+    next_of_folders [] [] false none none_too is = absurd (cc)
 
-  pub ends_in_parts : (base front : List ℕ) (any_folder : Bool) (text : List ℕ) (place : ℕ)
-      → length base < 1 → length front < 1 → any_folder ≡ false → place ≡ length text
-      → IsEnd way (record { bytes = base ++ front; any_folder = any_folder; text = text; place = place })
-  ends_in_parts (b ∷ base) front any_folder text place none none_too is at_end = absurd (omega arith)
-  ends_in_parts [] (b ∷ front) any_folder text place none none_too is at_end = absurd (omega arith)
-  ends_in_parts [] [] true text place none none_too is at_end = absurd (cc)
-  ends_in_parts [] [] false text place none none_too is at_end = row_ends text place at_end
+    pub next_of_text : (base front : List ℕ) (any_folder : Bool) (end : ℕ) (read : TokenKind) → length base < 1 → length front < 1 → any_folder ≡ false
+        → IsToken way text place read end → IsNext way (parted_row base front any_folder text place) read (parted_row base front any_folder text end)
+    next_of_text (b ∷ base) front any_folder end read none none_too is token = absurd (omega arith)
+    next_of_text [] (b ∷ front) any_folder end read none none_too is token = absurd (omega arith)
+    next_of_text [] [] true end read none none_too is token = absurd (cc)
+    next_of_text [] [] false end read none none_too is token = text_next text place read end token
+
+    pub ends_in_parts : (base front : List ℕ) (any_folder : Bool) → length base < 1 → length front < 1 → any_folder ≡ false → place ≡ length text
+        → IsEnd way (parted_row base front any_folder text place)
+    ends_in_parts (b ∷ base) front any_folder none none_too is at_end = absurd (omega arith)
+    ends_in_parts [] (b ∷ front) any_folder none none_too is at_end = absurd (omega arith)
+    ends_in_parts [] [] true none none_too is at_end = absurd (cc)
+    ends_in_parts [] [] false none none_too is at_end = row_ends text place at_end

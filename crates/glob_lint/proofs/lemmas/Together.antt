@@ -16,7 +16,7 @@ use Rattle.glob_lint.specs.Without.{is_among, lists_but}
 use Rattle.glob_lint.proofs.lemmas.Finding.{something_decides}
 use Rattle.glob_lint.proofs.lemmas.Left.{IsLeft, match_stays, match_stood, sign_stays}
 use Rattle.glob_lint.proofs.lemmas.Ranks.{rank, rank_grows, rank_rises}
-use Rattle.glob_lint.proofs.lemmas.RealPaths.{folder_is_real}
+use Rattle.glob_lint.proofs.lemmas.Parts.{folder_is_real}
 
 -- of two pairs of places the one comes before the other, or they are one, or the other way round
 pub in_order : (a b : ℕ × ℕ) → Before a b ⊎ ((a ≡ b) ⊎ Before b a)
@@ -179,13 +179,13 @@ module _ {V : Type 0} (lists : List (EntryList V)) (gone : List (ℕ × ℕ)) (r
     )
     alike path is_dir was is real (inl x) (inr y) =
         let folder = x.1.folder in
-        let folder_real = folder_is_real folder path x.1.above real in
+        let folder_real = folder_is_real folder x.1.above.0 path x.1.above.1 real in
         absurd (something_decides but folder true rules (λ d.
         let same = alike_here folder true folder_real x.1.topmost (Some x.0) d.0 x.1.ignored.0 d.1 in
         not_ignoring but folder rules d.0 d.1 (λ pair. y.0 folder pair x.1.above) (same.0 x.1.ignored.1)))
     alike path is_dir was is real (inr x) (inl y) =
         let folder = y.1.folder in
-        let folder_real = folder_is_real folder path y.1.above real in
+        let folder_real = folder_is_real folder y.1.above.0 path y.1.above.1 real in
         let none : HasNoneIgnored lists rules folder = λ top by higher. x.0 top by (above_above top folder path higher y.1.above) in
         absurd (something_decides lists folder true rules (λ d.
         let same = alike_here folder true folder_real none d.0 (Some y.0) d.1 y.1.ignored.0 in
