@@ -8,7 +8,10 @@ ghost use Rattle.glob_lint.specs.Seen.{seen};
 ghost use Rattle.glob_lint.specs.Private.Reasons.{AlikeAt, AlikeFrom, IsReason};
 
 use crate::below::ignored_folder_of;
-use crate::pairs::{are_apart_at, comes_before, covers_at, matches_nothing_at};
+use crate::pairs::{
+    are_apart_at, comes_before, covers_at, is_matched_at, matches_nothing_at, samples_at,
+};
+use crate::samples::Sample;
 use gix_glob::search::pattern::List;
 use glob_lines::GitIgnoreLines;
 use glob_lists::{ListStack, Rules};
@@ -44,7 +47,7 @@ pub(crate) fn reason_of(
     if matches_nothing_at(lists, pair, rules) {
         return Ok(Some(Why::MatchesNothing));
     }
-    if let Some(by) = cover_of(lists, pair, rules) {
+    if let Some(by) = cover_of(alloc, lists, pair, rules)? {
         return Ok(Some(Why::Covered(by)));
     }
     if let Some(by) = ignored_folder_of(alloc, lists, pair, rules)? {
@@ -56,21 +59,27 @@ pub(crate) fn reason_of(
     Ok(None)
 }
 
-/// The first line that matches all that the line at a pair of places does, so that this one makes no difference.
+/// The first line that matches all that the line at a pair of places does, so that this one makes no difference. Only lines that match a
+/// sample of it are asked.
 fn cover_of(
+    alloc: Global,
     lists: &[List<GitIgnoreLines>],
     pair: (usize, usize),
     rules: Rules,
-) -> Option<(usize, usize)>
+) -> Result<Option<(usize, usize)>, AllocError>
     requires { HasEntryAt (seen lists.now) pair }
-    ensures { IfSome result (λ by. IsReason rules (seen lists.now) pair (Covered by)) }
+    ensures { IfOk result (λ by. IfSome by (λ by. IsReason rules (seen lists.now) pair (Covered by))) }
 {
+    let samples = samples_at(alloc, lists, pair, rules)?;
+    let Some(sample) = samples.first() else {
+        return Ok(None);
+    };
     'lists: for at in 0..lists.len() {
-        if let Some(by) = cover_in(lists, at, pair, rules) {
-            return Some(by);
+        if let Some(by) = cover_in(lists, at, pair, sample, rules) {
+            return Ok(Some(by));
         }
     }
-    None
+    Ok(None)
 }
 
 /// The first such line of the list at a place.
@@ -78,6 +87,7 @@ fn cover_in(
     lists: &[List<GitIgnoreLines>],
     at: usize,
     pair: (usize, usize),
+    sample: &Sample,
     rules: Rules,
 ) -> Option<(usize, usize)>
     requires there { HasEntryAt (seen lists.now) pair }
@@ -86,8 +96,9 @@ fn cover_in(
 {
     let patterns = lists[at].patterns.as_slice();
     'lines: for place in 0..patterns.len() {
-        if is_covered(lists, pair, (at, place), rules) {
-            return Some((at, place));
+        let by = (at, place);
+        if is_matched_at(lists, by, sample, rules) && is_covered(lists, pair, by, rules) {
+            return Some(by);
         }
     }
     None
