@@ -1,5 +1,5 @@
 -- What is said of a line of ignore lists: why it makes no difference, or a path about which it does.
-use Rattle.std.specs.Prelude.{◌↔◌, ℕ, Bool, List, [], ◌∷◌, Vec, Option, Some}
+use Rattle.std.specs.Prelude.{◌↔◌, ℕ, Bool, List, [], ◌∷◌, Option, Some}
 use Rattle.glob_lists.specs.declared.rules.Rules.{Rules}
 use Rattle.gix_glob.specs.EntryLists.{EntryList}
 use Rattle.glob_lists.specs.Deciding.{PairAnswers}

@@ -1,5 +1,5 @@
 -- How the paths begin that a line matches, and what lies below a folder there.
-use Rattle.std.proofs.Common.{◌≡◌, ⊎_elim, ℕ, ◌<◌, ◌≤◌, Bool, true, false, not, List, [], ◌∷◌, ◌++◌, length, map, take, Option, None, Some, refl, sym, ap, subst, ◌∙◌, append_assoc, take_all, arith}
+use Rattle.std.proofs.Common.{◌≡◌, ⊎_elim, ℕ, ◌≤◌, Bool, true, false, not, List, [], ◌∷◌, ◌++◌, length, map, take, Option, None, Some, refl, sym, ap, subst, ◌∙◌, append_assoc, take_all, arith}
 use Rattle.std.specs.Prelude.{if◌then◌else◌, IsTrue, nat_lt, unwrap_or}
 use Rattle.std.specs.List.{position_or_len}
 use Rattle.std.proofs.lemmas.Bool.{cases_Bool, ltb-false, ltb-true}
@@ -13,7 +13,6 @@ use Rattle.gix_glob.specs.Stripping.{RestOf, folding_by}
 use Rattle.gix_glob.specs.declared.pattern.Case.{Case}
 use Rattle.gix_glob.specs.declared.pattern.Case.TheVariants.{Sensitive, Fold}
 use Rattle.glob_lists.specs.declared.rules.Rules.{Rules}
-use Rattle.glob_lists.specs.declared.rules.Reading.{Reading}
 use Rattle.glob_lists.specs.declared.rules.Reading.TheVariants.{Git}
 use Rattle.glob_lists.specs.Rules.{AnswersAs}
 use Rattle.glob_trees.specs.Trees.{Ignores, IsAbove}

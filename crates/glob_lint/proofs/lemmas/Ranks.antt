@@ -1,5 +1,5 @@
 -- Where an entry stands once some of a list are gone.
-use Rattle.std.proofs.Common.{◌≡◌, ℕ, zero, suc, ◌+◌, ◌<◌, ◌≤◌, Bool, true, false, List, [], ◌∷◌, Some, refl, sym, ap, subst, ◌∙◌, arith, add-zero}
+use Rattle.std.proofs.Common.{◌≡◌, ℕ, zero, suc, ◌+◌, ◌<◌, ◌≤◌, Bool, true, false, List, [], ◌∷◌, Some, refl, sym, ap, subst, arith, add-zero}
 use Rattle.std.specs.Prelude.{if◌then◌else◌, slice_get}
 use Rattle.gix_glob.specs.Entries.{Entry}
 use Rattle.glob_lint.specs.Without.{entries_but}

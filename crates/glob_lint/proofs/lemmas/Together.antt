@@ -4,8 +4,8 @@ use Rattle.std.specs.Prelude.{◌↔◌}
 use Rattle.std.proofs.lemmas.Bool.{cases_lt, false≢true}
 use Rattle.glob_lists.specs.declared.rules.Rules.{Rules}
 use Rattle.gix_glob.specs.EntryLists.{EntryList}
-use Rattle.glob_lists.specs.Deciding.{Decides, IsLastAnswer, PairAnswers}
-use Rattle.glob_trees.specs.Trees.{DecidesInTree, HasNoneIgnored, Ignores, IsAbove, IsBelowIgnored, IsPositiveAt}
+use Rattle.glob_lists.specs.Deciding.{Decides, IsLastAnswer}
+use Rattle.glob_trees.specs.Trees.{HasNoneIgnored, Ignores, IsPositiveAt}
 use Rattle.glob_trees.proofs.lemmas.Folders.{above_above}
 use Rattle.glob_lint.specs.Ignoring.{IgnoreAlike, Ignoring}
 use Rattle.glob_lint.specs.Lines.{IsReal}

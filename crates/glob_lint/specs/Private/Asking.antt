@@ -1,5 +1,5 @@
 -- What is asked of lists about a path.
-use Rattle.std.specs.Prelude.{◌↔◌, ℕ, Bool, IsTrue, List, Option, Some}
+use Rattle.std.specs.Prelude.{◌↔◌, ℕ, Bool, IsTrue, List, Option}
 use Rattle.glob_lists.specs.declared.rules.Rules.{Rules}
 use Rattle.gix_glob.specs.EntryLists.{EntryList}
 use Rattle.glob_lists.specs.Paths.{Path}

@@ -1,10 +1,10 @@
 -- How the paths begin that a line matches.
-use Rattle.std.specs.Prelude.{◌≡◌, if◌then◌else◌, ℕ, Bool, List, [], ◌++◌, unwrap_or}
+use Rattle.std.specs.Prelude.{◌≡◌, if◌then◌else◌, ℕ, List, [], ◌++◌, unwrap_or}
 use Rattle.gix_glob.specs.GitPaths.{front_of}
 use Rattle.gix_glob.specs.Patterns.{looks_at_name}
 use Rattle.gix_glob.specs.Stripping.{folding_by}
 use Rattle.glob_lists.specs.declared.rules.Rules.{Rules}
-use Rattle.glob_lint.specs.Lines.{LineParts, Meets}
+use Rattle.glob_lint.specs.Lines.{LineParts}
 
 -- by the literal front of its text, unless it looks at names alone
 abbrev pub front_of_line : LineParts → List ℕ

@@ -1,7 +1,6 @@
 -- Each line of the list stands in it.
-use Rattle.std.proofs.Common.{◌≡◌, ◌<◌, length, get_or, sym, subst, ◌∙◌}
-use Rattle.glob_lists.specs.Deciding.{BasesAreFolders, HasEntryAt}
-use Rattle.glob_lint.specs.Seen.{seen}
+use Rattle.std.proofs.Common.{◌<◌, get_or, sym, subst, ◌∙◌}
+use Rattle.glob_lists.specs.Deciding.{HasEntryAt}
 use Rattle.glob_lint.proofs.lemmas.Held.{has_entry}
 use Rattle.glob_lint.proofs.effects.shared_change_in.Goals as goal
 

@@ -1,6 +1,5 @@
 -- Each finding is true.
-use Rattle.std.proofs.Common.{◌≡◌, ◌-◌, ◌<◌, length, sym, subst, arith}
-use Rattle.glob_lint.specs.declared.report.Finding.{Finding}
+use Rattle.std.proofs.Common.{◌-◌, ◌<◌, length, sym, subst, arith}
 use Rattle.glob_lint.specs.Private.Findings.{IsTold}
 use Rattle.glob_lint.proofs.removable.removable_of.Goals as goal
 

@@ -1,5 +1,5 @@
 -- The lines of one list more are named.
-use Rattle.std.proofs.Common.{◌≡◌, ℕ, List, subst, ◌∙◌}
+use Rattle.std.proofs.Common.{◌≡◌, List, subst, ◌∙◌}
 use Rattle.gix_glob.specs.EntryLists.{EntryList}
 use Rattle.glob_lists.specs.Deciding.{HasEntryAt}
 use Rattle.glob_lint.specs.Private.Findings.{AddsFindings}

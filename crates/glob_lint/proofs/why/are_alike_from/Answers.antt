@@ -1,5 +1,5 @@
 -- Each line that matches stands in one of the lists.
-use Rattle.std.proofs.Common.{◌≡◌, ◌<◌, ℕ, length, below_more, rules, arith}
+use Rattle.std.proofs.Common.{◌<◌, ℕ, length, below_more, rules, arith}
 use borrow.Author.Tests.{tests}
 use Rattle.glob_lists.specs.Deciding.{HasEntryAt}
 use Rattle.glob_lint.specs.Seen.{seen}

@@ -1,7 +1,6 @@
 -- Each line of the list stands in it, and was tested.
-use Rattle.std.proofs.Common.{◌≡◌, ◌<◌, ℕ, length, below_more, sym, subst, rules, arith}
+use Rattle.std.proofs.Common.{◌<◌, length, below_more, sym, subst, rules, arith}
 use borrow.Author.Tests.{tests}
-use Rattle.glob_lists.specs.Deciding.{HasEntryAt}
 use Rattle.glob_lint.specs.Seen.{seen}
 use Rattle.glob_lint.specs.Private.Reasons.{AlikeAt}
 use Rattle.glob_lint.proofs.lemmas.Held.{has_entry}
