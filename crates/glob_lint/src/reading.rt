@@ -23,7 +23,7 @@ pub(crate) fn way_of(case: Case) -> Way
 
 impl<'a> Line<'a> {
     /// The bytes of the base; none where there is no base.
-    fn base_bytes(&self) -> &'a [u8]
+    pub(crate) fn base_bytes(&self) -> &'a [u8]
         ensures { IsBytesOf self.now.base result.now }
     {
         match self.base {

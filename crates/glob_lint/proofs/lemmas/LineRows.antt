@@ -35,7 +35,7 @@ way_is_path : (case : Case) → IsTrue (is_path (git_way case))
 way_is_path Sensitive = refl
 way_is_path Fold = refl
 
-no_slash_at : (text : List ℕ) → has_slash text ≡ false → (i : ℕ) → HasByte text i slash → ⊥
+pub no_slash_at : (text : List ℕ) → has_slash text ≡ false → (i : ℕ) → HasByte text i slash → ⊥
 no_slash_at text bare i h = false≢true (sym bare ∙ list_any_at (λ b. b == slash) text i 0 h.inside (eq-eqb _ _ h.is))
 
 one_no_slash : (b : ℕ) → (b ≡ slash → ⊥) → NoSlash (b ∷ []) 0 1
@@ -72,13 +72,13 @@ module _ (way : Way) (path : IsTrue (is_path way)) (text : List ℕ) (name : IsN
 -- ---- what the base leaves
 
 -- the path is bytes that are alike to the base, and the rest
-record BaseCut (case : Case) (bytes path rest : List ℕ) : Type 0 where
-  front : List ℕ
-  joined : path ≡ front ++ rest
-  alike : folding_of (git_way case) front ≡ folding_of (git_way case) bytes
+pub record BaseCut (case : Case) (bytes path rest : List ℕ) : Type 0 where
+  pub front : List ℕ
+  pub joined : path ≡ front ++ rest
+  pub alike : folding_of (git_way case) front ≡ folding_of (git_way case) bytes
 
 module _ (case : Case) where
-  base_cut : (base : Option (List ℕ)) (bytes path rest : List ℕ) → IsBytesOf base bytes → RestOf case base path rest → BaseCut case bytes path rest
+  pub base_cut : (base : Option (List ℕ)) (bytes path rest : List ℕ) → IsBytesOf base bytes → RestOf case base path rest → BaseCut case bytes path rest
   base_cut None bytes path rest is left = record { front = []; joined = sym left; alike = ap (folding_of (git_way case)) (sym is) }
   base_cut (Some base) bytes path rest is left = record {
     front = left.front;

@@ -1,5 +1,5 @@
 -- The next token of a row, and what it takes of a value.
-use Rattle.std.proofs.Common.{◌≡◌, inl, inr, ℕ, ◌+◌, ◌-◌, ◌<◌, ◌≤◌, Bool, true, false, List, [], ◌∷◌, ◌++◌, length, get_or, take, drop, take_all, refl, sym, ap, subst, ◌∙◌, arith}
+use Rattle.std.proofs.Common.{◌≡◌, inl, inr, ℕ, ◌+◌, ◌-◌, ◌<◌, ◌≤◌, Bool, true, false, List, [], ◌∷◌, ◌++◌, length, get_or, take, drop, take_all, refl, sym, subst, ◌∙◌, arith}
 use Rattle.glob_matcher.specs.declared.wildmatch.tokens.TokenKind.{TokenKind}
 use Rattle.glob_matcher.specs.declared.wildmatch.tokens.TokenKind.TheVariants as kind
 use Rattle.glob_matcher.specs.declared.wildmatch.way.Way.{Way}
@@ -97,7 +97,7 @@ module _ (way : Way) where
 
   pub next_of_base : (base front : List ℕ) (any_folder : Bool) (text : List ℕ) (place : ℕ) → 1 ≤ length base
       → IsNext way (parted_row base front any_folder text place) (kind_of (Byte (get_or base 0 0)))
-          (parted_row (take (length base - 1) (drop 1 base)) front any_folder text place)
+      (parted_row (take (length base - 1) (drop 1 base)) front any_folder text place)
   next_of_base [] front any_folder text place some = absurd (omega arith)
   next_of_base (b ∷ bytes) front any_folder text place some =
       subst (λ (xs : List ℕ). IsNext way (parted_row (b ∷ bytes) front any_folder text place) (kind_of (Byte b)) (parted_row xs front any_folder text place))
@@ -105,7 +105,7 @@ module _ (way : Way) where
 
   pub next_of_front : (base front : List ℕ) (any_folder : Bool) (text : List ℕ) (place : ℕ) → length base < 1 → 1 ≤ length front
       → IsNext way (parted_row base front any_folder text place) (kind_of (Byte (get_or front 0 0)))
-          (parted_row base (take (length front - 1) (drop 1 front)) any_folder text place)
+      (parted_row base (take (length front - 1) (drop 1 front)) any_folder text place)
   next_of_front (b ∷ base) front any_folder text place none some = absurd (omega arith)
   next_of_front [] [] any_folder text place none some = absurd (omega arith)
   next_of_front [] (b ∷ bytes) any_folder text place none some =
