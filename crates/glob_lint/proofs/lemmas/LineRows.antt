@@ -55,10 +55,15 @@ module _ (way : Way) (path : IsTrue (is_path way)) (text : List ℕ) (name : IsN
   piece_no_slash (OneOf set) i j piece here takes =
       subst (λ (xs : List ℕ). NoSlash xs 0 (length xs)) (sym takes.1)
       (one_no_slash takes.0 (λ same. no_slash_in_set way set path (subst (Fits way (OneOf set)) same takes.2)))
-  piece_no_slash Free i j piece here takes = elim (here.1 path).0.before [
-    | inl first ↦ (let many = (here.1 path).0.many in absurd (name.few (here.0.stars 0 (omega arith) (omega arith), here.0.stars 1 (omega arith) (omega arith))))
-    | inr h ↦ absurd (no_slash_at text name.bare (i - 1) h)
-  ]
+  piece_no_slash Free i j piece here takes =
+      let bounded = (here.1 path).0 in
+      absurd (elim bounded.before [
+        | inr h ↦ no_slash_at text name.bare (i - 1) h
+        | inl first ↦ elim bounded.after [
+          | inr slashes ↦ elim slashes [ inl h ↦ no_slash_at text name.bare j h | inr h ↦ no_slash_at text name.bare (j + 1) h.byte ]
+          | inl last ↦ name.few (omega (arith, bounded.many), λ m inside. (here.0.stars m (omega arith) (omega arith)).is)
+        ]
+      ])
   piece_no_slash Local i j piece here takes = takes
   piece_no_slash Dirs i j piece here takes = absurd (no_slash_at text name.bare here.run_end here.slash)
   piece_no_slash Nothing i j piece here takes = absurd takes
