@@ -9,6 +9,8 @@ mod reading;
 mod real;
 mod running;
 mod samples;
+#[cfg(test)]
+mod tests;
 mod tokens;
 
 pub use apart::are_apart;
