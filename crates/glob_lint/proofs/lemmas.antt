@@ -3,6 +3,7 @@ pub mod Coverings
 pub mod Ends
 pub mod LineRows
 pub mod Literals
+pub mod OtherLiterals
 pub mod Pairs
 pub mod Parts
 pub mod Rows

@@ -15,6 +15,8 @@ mod report;
 mod running;
 mod samples;
 mod shared;
+#[cfg(test)]
+mod tests;
 mod tokens;
 mod trying;
 mod why;

@@ -1,6 +1,6 @@
 //! Lines read as rows of tokens, as Git reads them.
-ghost use Rattle.std.specs.Prelude.{◌≡◌, IfSome, IsTrue};
-ghost use Rattle.gix_glob.specs.Bytes.{HasByte, has_slash, star};
+ghost use Rattle.std.specs.Prelude.{◌≡◌, ◌↔◌, EachIndex, slice_index, IfSome, IsTrue};
+ghost use Rattle.gix_glob.specs.Bytes.{has_slash, star};
 ghost use Rattle.gix_glob.specs.GitPaths.{git_way};
 ghost use Rattle.glob_patterns.specs.declared.pattern.case.Case.{Case};
 ghost use Rattle.glob_lint.specs.Private.LineRows.{IsBytesOf, IsNameText, IsRowOf};
@@ -23,7 +23,7 @@ pub(crate) fn way_of(case: Case) -> Way
 
 impl<'a> Line<'a> {
     /// The bytes of the base; none where there is no base.
-    fn base_bytes(&self) -> &'a [u8]
+    pub(crate) fn base_bytes(&self) -> &'a [u8]
         ensures { IsBytesOf self.now.base result.now }
     {
         match self.base {
@@ -32,7 +32,7 @@ impl<'a> Line<'a> {
         }
     }
 
-    /// The tokens of the line; `None` of a name that has a slash or begins with two stars, which no row of tokens is alike to.
+    /// The tokens of the line; `None` of a name that has a slash or is two stars or more, which no row of tokens is alike to.
     pub(crate) fn tokens(&self) -> Option<LineTokens<'a>>
         ensures { IfSome result (λ tokens. (case : Case) → IsRowOf case self.now (row_of tokens)) }
     {
@@ -65,7 +65,7 @@ impl<'a> Line<'a> {
 fn is_name_text(text: &[u8]) -> bool
     ensures { IsTrue result → IsNameText text.now }
 {
-    !has_slash(text) && !begins_with_two_stars(text)
+    !has_slash(text) && (text.len() < 2 || !is_all_stars(text))
 }
 
 /// Whether a text has a slash.
@@ -75,9 +75,9 @@ fn has_slash(text: &[u8]) -> bool
     text.iter().any(|byte| *byte == b'/')
 }
 
-/// Whether a text begins with two stars.
-fn begins_with_two_stars(text: &[u8]) -> bool
-    ensures { HasByte text.now 0 star → HasByte text.now 1 star → IsTrue result }
+/// Whether a text has stars alone.
+fn is_all_stars(text: &[u8]) -> bool
+    ensures { IsTrue result ↔ EachIndex text.now (λ m. slice_index text.now m ≡ star) }
 {
-    matches!(text, [b'*', b'*', ..])
+    text.iter().all(|byte| *byte == b'*')
 }

@@ -35,7 +35,7 @@ way_is_path : (case : Case) → IsTrue (is_path (git_way case))
 way_is_path Sensitive = refl
 way_is_path Fold = refl
 
-no_slash_at : (text : List ℕ) → has_slash text ≡ false → (i : ℕ) → HasByte text i slash → ⊥
+pub no_slash_at : (text : List ℕ) → has_slash text ≡ false → (i : ℕ) → HasByte text i slash → ⊥
 no_slash_at text bare i h = false≢true (sym bare ∙ list_any_at (λ b. b == slash) text i 0 h.inside (eq-eqb _ _ h.is))
 
 one_no_slash : (b : ℕ) → (b ≡ slash → ⊥) → NoSlash (b ∷ []) 0 1
@@ -55,10 +55,15 @@ module _ (way : Way) (path : IsTrue (is_path way)) (text : List ℕ) (name : IsN
   piece_no_slash (OneOf set) i j piece here takes =
       subst (λ (xs : List ℕ). NoSlash xs 0 (length xs)) (sym takes.1)
       (one_no_slash takes.0 (λ same. no_slash_in_set way set path (subst (Fits way (OneOf set)) same takes.2)))
-  piece_no_slash Free i j piece here takes = elim (here.1 path).0.before [
-    | inl first ↦ (let many = (here.1 path).0.many in absurd (name.few (here.0.stars 0 (omega arith) (omega arith), here.0.stars 1 (omega arith) (omega arith))))
-    | inr h ↦ absurd (no_slash_at text name.bare (i - 1) h)
-  ]
+  piece_no_slash Free i j piece here takes =
+      let bounded = (here.1 path).0 in
+      absurd (elim bounded.before [
+        | inr h ↦ no_slash_at text name.bare (i - 1) h
+        | inl first ↦ elim bounded.after [
+          | inr slashes ↦ elim slashes [ inl h ↦ no_slash_at text name.bare j h | inr h ↦ no_slash_at text name.bare (j + 1) h.byte ]
+          | inl last ↦ name.few (omega (arith, bounded.many), λ m inside. (here.0.stars m (omega arith) (omega arith)).is)
+        ]
+      ])
   piece_no_slash Local i j piece here takes = takes
   piece_no_slash Dirs i j piece here takes = absurd (no_slash_at text name.bare here.run_end here.slash)
   piece_no_slash Nothing i j piece here takes = absurd takes
@@ -72,13 +77,13 @@ module _ (way : Way) (path : IsTrue (is_path way)) (text : List ℕ) (name : IsN
 -- ---- what the base leaves
 
 -- the path is bytes that are alike to the base, and the rest
-record BaseCut (case : Case) (bytes path rest : List ℕ) : Type 0 where
-  front : List ℕ
-  joined : path ≡ front ++ rest
-  alike : folding_of (git_way case) front ≡ folding_of (git_way case) bytes
+pub record BaseCut (case : Case) (bytes path rest : List ℕ) : Type 0 where
+  pub front : List ℕ
+  pub joined : path ≡ front ++ rest
+  pub alike : folding_of (git_way case) front ≡ folding_of (git_way case) bytes
 
 module _ (case : Case) where
-  base_cut : (base : Option (List ℕ)) (bytes path rest : List ℕ) → IsBytesOf base bytes → RestOf case base path rest → BaseCut case bytes path rest
+  pub base_cut : (base : Option (List ℕ)) (bytes path rest : List ℕ) → IsBytesOf base bytes → RestOf case base path rest → BaseCut case bytes path rest
   base_cut None bytes path rest is left = record { front = []; joined = sym left; alike = ap (folding_of (git_way case)) (sym is) }
   base_cut (Some base) bytes path rest is left = record {
     front = left.front;

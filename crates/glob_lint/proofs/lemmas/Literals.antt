@@ -45,7 +45,7 @@ module _ (way : Way) (tokens : List Token) where
 
 -- ---- a base, up to case
 
-unfolded : (xs : List ℕ) → folding_of way.Path xs ≡ xs
+pub unfolded : (xs : List ℕ) → folding_of way.Path xs ≡ xs
 unfolded [] = refl
 unfolded (x ∷ xs) = ap (λ (ys : List ℕ). x ∷ ys) (unfolded xs)
 

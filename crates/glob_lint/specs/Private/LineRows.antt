@@ -1,6 +1,6 @@
 -- A line's row of tokens matches the paths that the line does.
-use Rattle.std.specs.Prelude.{◌≡◌, ℕ, Bool, true, false, IsTrue, List, [], Option, MatchOption}
-use Rattle.glob_matcher.specs.Bytes.{HasByte, has_slash, star}
+use Rattle.std.specs.Prelude.{◌≡◌, ℕ, Bool, true, false, IsTrue, List, [], Option, MatchOption, ◌≤◌, length, slice_index, EachIndex}
+use Rattle.glob_matcher.specs.Bytes.{has_slash, star}
 use Rattle.glob_patterns.specs.declared.pattern.case.Case.{Case}
 use Rattle.glob_patterns.specs.GitPaths.{git_way}
 use Rattle.glob_patterns.specs.Patterns.{is_for_directories}
@@ -14,10 +14,10 @@ pub record IsRowOf (case : Case) (line : LineParts) (row : Row) : Type 0 where
   pub back : (path : List ℕ) (is_dir : Bool) → (IsTrue (is_for_directories line.mode) → is_dir ≡ true) → IsCutBy (git_way case) row path
       → Meets (by_git case) line path is_dir
 
--- the text matches names alone: it has no slash, and doesn't begin with two stars
+-- the text matches names alone: it has no slash, and isn't two stars or more
 pub record IsNameText (text : List ℕ) : Type 0 where
   pub bare : has_slash text ≡ false
-  pub few : ¬ (HasByte text 0 star × HasByte text 1 star)
+  pub few : ¬ (2 ≤ length text × EachIndex text (λ m. slice_index text m ≡ star))
 
 -- the bytes of a base, and none where there is no base
 abbrev pub IsBytesOf : Option (List ℕ) → List ℕ → Type 0
