@@ -1,0 +1,10 @@
+-- What the one line matches, by its parts, the other one does.
+use Rattle.glob_lint.specs.Seen.{seen}
+use Rattle.glob_lint.proofs.lemmas.Held.{matches_here, meets_here}
+use Rattle.glob_lint.proofs.pairs.covers_at.Goals as goal
+
+pub returns : goal.returns
+returns c = λ yes path is_dir real h.
+    let lists = seen c.args.lists.now in
+    matches_here lists c.args.by c.line_at-2.result c.line_at-2.ensures c.args.rules path is_dir
+    (c.covers.ensures yes path is_dir real (meets_here lists c.args.pair c.line_at.result c.line_at.ensures c.args.rules path is_dir h))

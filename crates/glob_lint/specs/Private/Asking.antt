@@ -1,0 +1,17 @@
+-- What is asked of lists about a path.
+use Rattle.std.specs.Prelude.{◌↔◌, ℕ, Bool, IsTrue, List, Option}
+use Rattle.glob_lists.specs.declared.rules.Rules.{Rules}
+use Rattle.gix_glob.specs.EntryLists.{EntryList}
+use Rattle.glob_lists.specs.Paths.{Path}
+use Rattle.glob_trees.specs.Trees.{DecidesInTree}
+use Rattle.glob_lint.specs.Ignoring.{Ignoring}
+
+module _ {V : Type 0} (lists : List (EntryList V)) (rules : Rules) (path : Path) where
+  -- this pair of places, or none, decides about the path, and ignores it or not
+  pub record DecidesSo (pair : Option (ℕ × ℕ)) (ignored : Bool) : Type 0 where
+    pub decides : DecidesInTree lists path.bytes path.is_dir rules pair
+    pub sign : IsTrue ignored ↔ Ignoring lists pair
+
+  -- whether the path is ignored
+  abbrev pub IsIgnored : Bool → Type 0
+  IsIgnored ignored = (pair : Option (ℕ × ℕ)) × DecidesSo pair ignored

@@ -1,0 +1,32 @@
+//! Which lines of ignore files do nothing, and why; and for the others a path about which they change what Git says.
+#![tactic(auto)]
+
+mod apart;
+mod below;
+mod covering;
+mod effects;
+mod line;
+mod nothing;
+mod pairs;
+mod reading;
+mod real;
+mod removable;
+mod report;
+mod running;
+mod samples;
+mod shared;
+#[cfg(test)]
+mod tests;
+mod tokens;
+mod trying;
+mod why;
+
+pub use apart::are_apart;
+pub use covering::covers;
+pub use effects::{Effect, MOST_MATCHES};
+pub use line::Line;
+pub use nothing::matches_nothing;
+pub use real::is_real;
+pub use report::{Finding, Report, report_on};
+pub use samples::{Sample, samples_of};
+pub use why::Why;
