@@ -23,9 +23,9 @@ BEHIND = [[], [], ["-v"], ["--", "a"]]
 # words for where Git's own folder is the current one
 WITHIN_GIT = ["a", "-v -n -- HEAD ../a", "-q .", "--stdin", "-z --stdin"]
 NO_TEXT, NOT_THERE = b"no UTF-8 text", (b": no folder", b": No such file", b": Not a directory")
-PATTERN, COLON = b"may be a pattern of paths", b"has a colon in front"
+WARNING = b"warning: could not open directory "
 # kinds of differences, which count as such where "From Git" in docs/DIFFERENCES.md names them
-UNLISTED, MESSAGES, PATTERNS = "what can't be listed", "messages", "patterns as DIR"
+UNLISTED, MESSAGES = "what can't be listed", "messages"
 NAMED = kinds_in("From Git")
 DOTTED = [b".", b"./", b".//", b"./.", b"..", b"../", b"../..", b"../.", b".././", b"x/..", b"x/../", b"x/../.", b"./x/y/../.."]
 ESCAPES = {7: "a", 8: "b", 9: "t", 10: "n", 11: "v", 12: "f", 13: "r", 34: '"', 92: "\\"}
@@ -81,7 +81,7 @@ class Pair:
         return self.run([GLOBTREE, *self.leading_to(folder), *self.globtree_options(), *options, command, *words], given)
 
     def globtree_files(self, folder, words, top=None):
-        return self.globtree(folder, words, b"", ["--top", top] if top else [], "files")
+        return self.globtree(folder, words, b"", ["--literal-pathspecs", *(["--top", top] if top else [])], "files")
 
     def run(self, command, given):
         run = subprocess.run(command, input=given, stdout=subprocess.PIPE, stderr=subprocess.PIPE, env=self.environment)
@@ -233,14 +233,6 @@ class Comparison:
         path = os.path.relpath(os.path.join(folder, *told), self.pair.top) + b"/"
         return any(path.startswith(repository) for repository in self.repositories)
 
-    def is_refused(self, folder, words, errors):
-        """Whether the path among the words may be a pattern to Git, and the errors say so."""
-        told = [word for word in words if isinstance(word, bytes)]
-        if COLON in errors:
-            return told[0].startswith(b":")
-        path = os.path.relpath(os.path.join(folder, *told), self.pair.top)
-        return PATTERN in errors and any(byte in path for byte in b"*?[\\")
-
     def list_files(self, folder, words, named_top=None):
         expected = self.pair.git_files(folder, words, named_top)
         end = b"\0" if "-z" in words else b"\n"
@@ -258,9 +250,9 @@ class Comparison:
         elif UNLISTED in NAMED and found.status == 1 and expected.status == 0 and any(it in found.errors for it in NOT_THERE):
             self.named[UNLISTED] += 1
             expected = expected._replace(status=1, errors=found.errors)
-        elif PATTERNS in NAMED and found.status == 128 and self.is_refused(folder, words, found.errors):
-            self.named[PATTERNS] += 1
-            expected = Told(128, b"", found.errors)
+        elif MESSAGES in NAMED and expected.errors.startswith(WARNING):
+            self.named[MESSAGES] += not found.errors
+            expected = expected._replace(errors=found.errors)
         elif MESSAGES in NAMED and expected.errors and self.is_in_repository(folder, words):
             self.named[MESSAGES] += not found.errors
             expected = expected._replace(errors=found.errors)
