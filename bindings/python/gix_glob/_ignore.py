@@ -74,7 +74,7 @@ class IgnoreFile(_Ignoring):
     r"""The lines of an ignore file, of which the last one that matches a path decides about it.
 
     A line that begins with `#` is a comment, one that begins with `!` keeps what it matches, one that ends in a slash is for
-    directories only. `docs/LINES.md` and `docs/PATTERNS.md` of the library have all rules.
+    directories only. `docs/PATTERNS.md` of the library has all rules.
 
     >>> rules = IgnoreFile.from_lines(["# logs", "*.log", "!keep.log"])
     >>> rules.decide("debug.log").line

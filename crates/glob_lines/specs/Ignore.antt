@@ -1,5 +1,5 @@
 -- What the parser of ignore lines means: the readings of an ignore file's lines, by Git's rules but for the three departures that
--- docs/LINES.md names.
+-- docs/PATTERNS.md names.
 use Rattle.std.specs.Prelude.{◌≡◌, ◌≢◌, ◌⊎◌, ℕ, Bool, ◌==◌, true, false, nat_eq, if◌then◌else◌, List, [], ◌∷◌, ◌++◌, drop, Option, MatchOption, codes}
 use Rattle.std.specs.List.{AllByRecursion, concat, ends_with, starts_with}
 use Rattle.gix_glob.specs.Bytes.{backslash}

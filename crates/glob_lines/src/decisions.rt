@@ -32,7 +32,7 @@ use std::io::{Read, Write};
 /// The lists have to meet [`bases_are_folders`](crate::bases_are_folders). No call on the reader or the writer may have
 /// failed before. All input is read before anything is written: `EngineFault::Memory` and `EngineFault::Read` leave the
 /// output as it was, and after `EngineFault::Write` a beginning of the text was written. Lines and texts are told in
-/// `docs/LINES.md`.
+/// `docs/PATTERNS.md`.
 pub fn run_ignore<R: Read, W: Write>(
     alloc: Global,
     lists: &[List<IgnoreLines>],

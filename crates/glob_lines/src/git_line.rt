@@ -13,7 +13,7 @@ use memchr::memchr;
 /// A line ends at a line feed or at the end of the bytes. One without bytes, and one that begins with `#`, gives no text. Of another the
 /// text is what is left, which may be no bytes: one carriage return at its end is taken off, then what follows the first byte 0, then the
 /// spaces at the end, but for one that a backslash escapes. Its pattern is what `Pattern::from_git_line` or `PatternView::from_git_line`
-/// reads from the text. A caller that numbers the lines counts each of them. The rules are in `docs/LINES.md`.
+/// reads from the text. A caller that numbers the lines counts each of them. The rules are in `docs/PATTERNS.md`.
 pub fn next_git_line(bytes: &[u8]) -> Option<IgnoreLine<'_>>
     ensures line { MatchOption result (bytes.entry.now ≡ []) (λ line. BeginsWithGitLine bytes.entry.now (option_copied line.text) line.rest.now) }
     ensures place { IfSome result (λ line. end_of line.rest ≡ end_of bytes.entry) }

@@ -10,7 +10,7 @@ use std::alloc::{AllocError, Global};
 /// Reads the lines of an ignore file, by Git's rules but for three departures, and numbers them from 1.
 ///
 /// A byte order mark at the front of the bytes is passed over. Each line is taken as [`next_ignore_line`] gives it, and read by
-/// `Pattern::from_bytes`. A comment, and a line that is no pattern, is skipped, but counted. The rules are in `docs/LINES.md`.
+/// `Pattern::from_bytes`. A comment, and a line that is no pattern, is skipped, but counted. The rules are in `docs/PATTERNS.md`.
 #[derive(Clone, Copy, PartialEq, Eq, Debug, Hash, PartialOrd, Ord, Default)]
 pub struct IgnoreLines;
 
@@ -44,7 +44,7 @@ impl search::Pattern for IgnoreLines {
 /// Reads the lines of an ignore file as Git does, and numbers them from 1.
 ///
 /// A byte order mark at the front of the bytes is passed over. Each line is taken as [`next_git_line`] gives it, and read by
-/// `Pattern::from_git_line`. A comment, and a line without bytes, is skipped, but counted. The rules are in `docs/LINES.md`.
+/// `Pattern::from_git_line`. A comment, and a line without bytes, is skipped, but counted. The rules are in `docs/PATTERNS.md`.
 #[derive(Clone, Copy, PartialEq, Eq, Debug, Hash, PartialOrd, Ord, Default)]
 pub struct GitIgnoreLines;
 

@@ -37,7 +37,7 @@ pub fn without_byte_order_mark(bytes: &[u8]) -> &[u8]
 /// A line ends at a line feed or at the end of the bytes. A carriage return directly before the line feed is not part of
 /// the line, and neither is a space at its end unless a backslash stands before it. A line that begins with `#` is a
 /// comment. The pattern of another line is what `Pattern::from_bytes` or `PatternView::from_bytes` reads from its text,
-/// if it reads one. A caller that numbers the lines counts each of them. The rules are in `docs/LINES.md`.
+/// if it reads one. A caller that numbers the lines counts each of them. The rules are in `docs/PATTERNS.md`.
 pub fn next_ignore_line(bytes: &[u8]) -> Option<IgnoreLine<'_>>
     ensures line { MatchOption result (bytes.entry.now ≡ []) (λ line. BeginsWithLine bytes.entry.now (option_copied line.text) line.rest.now) }
     ensures place { IfSome result (λ line. end_of line.rest ≡ end_of bytes.entry) }

@@ -37,7 +37,7 @@ use std::slice;
 /// With a root some part of the source must be able to name a file, which `has_file_part` of `gix_glob` tells. No call on
 /// a reader or the writer may have failed before. All input is read before anything is written: `EngineFault::Memory` and
 /// `EngineFault::Read` leave the output as it was, and after `EngineFault::Write` a beginning of the text was written.
-/// Lines and texts are told in `docs/LINES.md`.
+/// Lines and texts are told in `docs/PATTERNS.md`.
 pub fn run_list<P: Read, Q: Read, W: Write>(
     alloc: Global,
     patterns: &mut Watched<P>,

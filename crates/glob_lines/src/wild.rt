@@ -20,7 +20,7 @@ use std::io::{Read, Write};
 ///
 /// No call on the reader or the writer may have failed before. All input is read before anything is written:
 /// `EngineFault::Memory` and `EngineFault::Read` leave the output as it was, and after `EngineFault::Write` a beginning of
-/// the text was written. Lines and texts are told in `docs/LINES.md`.
+/// the text was written. Lines and texts are told in `docs/PATTERNS.md`.
 pub fn run_wild<R: Read, W: Write>(
     alloc: Global,
     pattern: &[u8],

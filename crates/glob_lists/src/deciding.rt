@@ -29,7 +29,7 @@ use std::sync::ledger::{Blank, Ledger};
 /// and the place of the mapping in it, both from 0, or `None` where no pattern matches.
 ///
 /// Whether the path is then kept or left out, [`Pattern::is_negative`](gix_glob::Pattern::is_negative) of that pattern tells. The
-/// lists have to meet [`bases_are_folders`]. No memory is taken. The rule is in `docs/LINES.md`, "Which line decides".
+/// lists have to meet [`bases_are_folders`]. No memory is taken. The rule is in `docs/PATTERNS.md`, "Which line decides".
 pub fn decide<T: search::Pattern>(
     lists: &[List<T>],
     path: &RepositoryPath<'_>,

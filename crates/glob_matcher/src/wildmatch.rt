@@ -51,7 +51,7 @@ pub use way::{Folding, Way};
 /// Whether `pattern` matches the whole of `value`, both as bytes of any kind, in `mode`.
 ///
 /// It says yes exactly if the value is a concatenation of pieces, one from the language of each token of the pattern. It
-/// takes no memory. The rules are in `docs/MATCHING.md`.
+/// takes no memory. The rules are in `docs/PATTERNS.md`.
 pub fn wildmatch(pattern: &[u8], value: &[u8], mode: Mode) -> bool
     ensures { IsTrue result ↔ Splits value.now pattern.now mode }
 {

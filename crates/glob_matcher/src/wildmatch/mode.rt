@@ -6,7 +6,7 @@ use bitflags::{Flag, Flags, bitflag_items};
 
 /// The match mode, a set of two named bits; any other bit is kept and changes no answer.
 ///
-/// The rules are in `docs/MATCHING.md`.
+/// The rules are in `docs/PATTERNS.md`.
 #[derive(Debug, Copy, Clone, Eq, PartialEq)]
 pub struct Mode(u8);
 

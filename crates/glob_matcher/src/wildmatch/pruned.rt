@@ -20,7 +20,7 @@ const MAX_DEPTH: usize = 64;
 ///
 /// [`Answer::Match`] always means what it says. The others do where there is room: where the depth of the attempt and the
 /// star tokens from its place of the pattern on make at most 63. What an abort says of later places it says only where no
-/// star token starts at the attempt's place of the pattern. Both conditions are told in `docs/ENGINES.md`, "What an
+/// star token starts at the attempt's place of the pattern. Both conditions are told in `docs/ARCHITECTURE.md`, "What an
 /// answer means".
 #[derive(Debug, Copy, Clone, Eq, PartialEq)]
 pub enum Answer {
@@ -272,7 +272,7 @@ impl<'a> Level<'a> {
 /// Places are counted in bytes from 0. `from` is one where [`is_start`] answers true, `at` is inside the value or its end,
 /// and `depth`, the number of star tokens that the attempt stands below, is at most 64. Where `depth` and the star tokens
 /// from `from` on make at most 63, each answer means what [`Answer`] says, and an abort comes where one must; with more,
-/// only a [`Answer::Match`] says anything. It takes no memory. The rules are in `docs/ENGINES.md`, "The pruned recursive
+/// only a [`Answer::Match`] says anything. It takes no memory. The rules are in `docs/ARCHITECTURE.md`, "The pruned recursive
 /// engine".
 pub fn attempt(
     pattern: &[u8],
@@ -301,7 +301,7 @@ pub fn attempt(
 ///
 /// A yes says that the value is a concatenation of pieces, one from the language of each token of the pattern. A no says
 /// that it is not, where the pattern has at most 63 star tokens; with more, a no says nothing. `wildmatch` has no such
-/// limit. It takes no memory. The rules are in `docs/ENGINES.md`, "The pruned recursive engine".
+/// limit. It takes no memory. The rules are in `docs/ARCHITECTURE.md`, "The pruned recursive engine".
 pub fn recursive(pattern: &[u8], value: &[u8], mode: Mode) -> bool
     ensures { Holds result (Splits value.now pattern.now mode) pattern.now }
 {

@@ -10,7 +10,8 @@ use std::sync::ledger::{Blank, Book, Ledger, Share};
 ///
 /// A step is one token, or the pattern's end, tested at one place of the value, also where the value has ended, and where the
 /// token matches nothing; one mark set; or one mark moved by one byte or found unable to move. A look reads at most one byte of
-/// the pattern or of the value: it is counted also where the value has none there. The bounds are in `docs/ENGINES.md`.
+/// the pattern or of the value: it is counted also where the value has none there. The bounds are in
+/// `docs/PROOFS.md`.
 #[derive(Drop)]
 pub struct Steps<L: Ledger> {
     book: Book<L>,

@@ -25,7 +25,7 @@ use std::sync::ledger::Ledger;
 ///
 /// The count of steps rises by at most `2 * (p + 1) * (v + 1)` in both modes, `p` and `v` being the lengths in bytes of pattern
 /// and value, and the count of looks by at most `8 * (p + 1) * (v + 1)`. It takes no memory, and no recursion. The rules are
-/// in `docs/MATCHING.md`.
+/// in `docs/PATTERNS.md`.
 #[inline(always)]
 pub fn marked<L: Ledger>(pattern: &[u8], value: &[u8], mode: Mode, steps: &mut Steps<L>) -> bool
     ensures exact { IsTrue result ↔ Splits value.now pattern.now mode }
