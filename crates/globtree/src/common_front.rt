@@ -4,9 +4,10 @@ ghost use Rattle.std.specs.Prelude.{◌≡◌};
 use pathspecs::{Element, PathspecList};
 
 /// What all paths begin with that a list may match: the path of a folder, with a slash at its end, or no bytes. It has none where an exclude
-/// has a pattern or case doesn't count, since these may take what lies in a folder away by its path.
+/// has a pattern or case doesn't count, since these may take what lies in a folder away by its path; nor, as in Git, where the first word is
+/// an exclude.
 pub(crate) fn common_front(list: &PathspecList) -> &[u8] {
-    if !list.elements().iter().all(keeps_front) {
+    if begins_with_exclude(list) || !list.elements().iter().all(keeps_front) {
         return b"";
     }
     let mut front = None;
@@ -16,6 +17,14 @@ pub(crate) fn common_front(list: &PathspecList) -> &[u8] {
         }
     }
     up_to_slash(front.unwrap_or(b""))
+}
+
+/// Whether the first word is an exclude.
+fn begins_with_exclude(list: &PathspecList) -> bool {
+    match list.elements().first() {
+        Some(element) => element.magic().exclude,
+        None => false,
+    }
 }
 
 /// Whether a listing may begin below the top, by an element.

@@ -1,9 +1,13 @@
+pub mod AboveLemmas
 pub mod CutLemmas
 pub mod KeptLemmas
 pub mod LosingLemmas
 pub mod MeetingLemmas
+pub mod PartingLemmas
 pub mod PassingLemmas
+pub mod PlainLemmas
 pub mod ReadLemmas
 pub mod SlashLemmas
+pub mod TextLemmas
 pub mod WhichLemmas
 pub mod WordLemmas

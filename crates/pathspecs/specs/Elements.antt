@@ -1,5 +1,5 @@
 -- What a word becomes when it is read, and which paths it meets. A path is told from the top, and a folder's has a slash at its end.
-use Rattle.std.specs.Prelude.{◌≡◌, ◌≢◌, ◌⊎◌, ℕ, ◌+◌, ◌==◌, Bool, true, IsTrue, ◌||◌, nat_eq, if◌then◌else◌, List, [], ◌++◌, drop, length, map, take, codes}
+use Rattle.std.specs.Prelude.{◌≡◌, ◌≢◌, ◌⊎◌, ℕ, ◌==◌, Bool, true, IsTrue, ◌||◌, nat_eq, if◌then◌else◌, List, [], ◌++◌, drop, length, map, max, take, codes}
 use Rattle.std.specs.Char.{to_ascii_lowercase}
 use Rattle.std.specs.List.{ends_with, position, starts_with}
 use Rattle.std.specs.Option.{option_map_or}
@@ -12,7 +12,7 @@ use Rattle.pathspecs.specs.declared.manner.Manner.{Manner}
 use Rattle.pathspecs.specs.declared.manner.Manner.TheVariants as manner
 
 -- An element: its marks, and a text. So many bytes of the text are those of the current folder, in which case is never folded; and so many
--- stand in front of its pattern, each for itself.
+-- stand in front of its pattern, each for itself: those before its first special byte, wherever that stands, and at least those of the folder.
 pub record PathspecItem : Type 0 where
   pub magic : Magic
   pub text : List ℕ
@@ -20,7 +20,7 @@ pub record PathspecItem : Type 0 where
   pub front : ℕ
 
 abbrev pub item_of_text : Magic → List ℕ → ℕ → PathspecItem
-item_of_text magic text kept = record { magic = magic; text = text; literal_front = kept; front = if magic.literal then length text else option_map_or (λ place. kept + place) (position is_special (drop kept text)) (length text) }
+item_of_text magic text kept = record { magic = magic; text = text; literal_front = kept; front = if magic.literal then length text else option_map_or (λ place. max place kept) (position is_special text) (length text) }
 
 abbrev pub kept_of : PathspecItem → List ℕ
 kept_of item = take item.literal_front item.text

@@ -23,7 +23,7 @@ pub struct Element {
     text: Vec<u8>,
     /// How many bytes of the text are the current folder's path.
     literal_front: usize,
-    /// How many bytes of the text stand in front of its first special byte.
+    /// How many bytes of the text stand in front of its pattern: those before its first special byte, and those of the current folder's path.
     front: usize,
 }
 
@@ -201,7 +201,8 @@ fn has_bytes(text: &[u8]) -> bool
     !text.is_empty()
 }
 
-/// How many bytes of a text stand for themselves, of which so many are the current folder's path.
+/// How many bytes of a text stand in front of its pattern, of which so many are the current folder's path: those before its first special
+/// byte, wherever that stands, and at least these. So in a folder with a special byte in its name, each word is a pattern, as in Git.
 fn front_len(magic: Magic, text: &[u8], literal_front: usize) -> usize
     requires { literal_front ≤ length text.now }
     ensures len { result ≡ (item_of_text magic text.now literal_front).front }
@@ -210,8 +211,8 @@ fn front_len(magic: Magic, text: &[u8], literal_front: usize) -> usize
     if magic.literal {
         return text.len();
     }
-    match special_place(&text[literal_front..]) {
-        Some(place) => literal_front + place,
+    match special_place(text) {
+        Some(place) => place.max(literal_front),
         None => text.len(),
     }
 }

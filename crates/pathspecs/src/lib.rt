@@ -1,6 +1,7 @@
 //! Git's pathspecs: what words spell, where that leads, and which paths a list of them is about.
 #![tactic(auto)]
 
+mod asked;
 mod elements;
 mod faults;
 mod heads;
@@ -11,6 +12,7 @@ mod manner;
 mod reading;
 mod settings;
 mod spelling;
+mod texts;
 
 pub use elements::Element;
 pub use faults::{ReadFault, WordFault};

@@ -31,22 +31,36 @@ impl PathspecList {
         ensures read { IfOk result (λ list. AreRead standpoint.now (counted settings (length words.now)) (map (λ word. word.now) words.now) list) }
         ensures fault { IfErr result (IsFault standpoint.now (counted settings (length words.now)) (map (λ word. word.now) words.now)) }
     {
-        let settings = if words.is_empty() {
-            Settings::default()
-        } else {
-            settings
-        };
-        let mut elements = read_words(alloc, standpoint, settings, words)?;
-        if !elements.iter().all(|element| element.magic().exclude) {
-            return Ok(PathspecList::new(elements));
-        }
-        let place = words.len();
-        match read_word(alloc, standpoint, settings, b".")? {
-            Ok(here) => push(&mut elements, here)?,
-            Err(fault) => return Err(ReadFault::Word { place, fault }),
-        }
-        Ok(PathspecList::new(elements))
+        let elements = read_elements(alloc, standpoint, settings, words)?;
+        Ok(PathspecList::new(alloc, elements)?)
     }
+}
+
+/// The elements of words, and that of the current folder where it follows.
+fn read_elements(
+    alloc: Global,
+    standpoint: &Standpoint,
+    settings: Settings,
+    words: &[&[u8]],
+) -> Result<Vec<Element>, ReadFault>
+    ensures read { IfOk result (λ elements. AreRead standpoint.now (counted settings (length words.now)) (map (λ word. word.now) words.now) elements.items) }
+    ensures fault { IfErr result (IsFault standpoint.now (counted settings (length words.now)) (map (λ word. word.now) words.now)) }
+{
+    let settings = if words.is_empty() {
+        Settings::default()
+    } else {
+        settings
+    };
+    let mut elements = read_words(alloc, standpoint, settings, words)?;
+    if !elements.iter().all(|element| element.magic().exclude) {
+        return Ok(elements);
+    }
+    let place = words.len();
+    match read_word(alloc, standpoint, settings, b".")? {
+        Ok(here) => push(&mut elements, here)?,
+        Err(fault) => return Err(ReadFault::Word { place, fault }),
+    }
+    Ok(elements)
 }
 
 /// The elements of words.

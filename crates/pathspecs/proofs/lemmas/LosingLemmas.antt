@@ -128,7 +128,7 @@ or_second : (a b c : Bool) → b ≡ true → ((a || b) || c) ≡ true
 or_second true b c second = refl
 or_second false b c second = ap (λ w. w || c) second
 
-below_end : (text rest : List ℕ) → ends_with nat_eq text (codes "/") ≡ true → IsTrue (is_below text rest)
+pub below_end : (text rest : List ℕ) → ends_with nat_eq text (codes "/") ≡ true → IsTrue (is_below text rest)
 below_end text rest ends = or_second (length text == 0) (ends_with nat_eq text (codes "/")) (starts_with nat_eq rest (codes "/")) ends
 
 module _ (item : PathspecItem) (folder rest : List ℕ) (ends : EndsInSlash folder) (none : pattern_of item ≡ []) where
@@ -151,7 +151,7 @@ module _ (item : PathspecItem) (folder rest : List ℕ) (ends : EndsInSlash fold
 
 -- ---- lists
 
-nothing_or_some : (xs : List ℕ) → (xs ≡ []) ⊎ (xs ≢ [])
+pub nothing_or_some : (xs : List ℕ) → (xs ≡ []) ⊎ (xs ≢ [])
 nothing_or_some [] = inl refl
 nothing_or_some (x ∷ xs) = inr (λ none. absurd (let e = ap length none in omega (arith, e)))
 

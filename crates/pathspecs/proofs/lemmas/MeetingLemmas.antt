@@ -19,7 +19,7 @@ begins_by icase path front (Some rest) r is cut = (λ so. (rest.now, cut.0), λ 
 
 -- ---- bytes
 
-no_bytes : (xs : List ℕ) → length xs ≡ 0 → xs ≡ []
+pub no_bytes : (xs : List ℕ) → length xs ≡ 0 → xs ≡ []
 no_bytes [] none = refl
 no_bytes (x ∷ xs) none = absurd (omega (arith, none))
 
