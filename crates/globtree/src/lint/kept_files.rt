@@ -1,4 +1,7 @@
 //! The ignore files of a work tree, kept as a listing reads them.
+ghost use Rattle.std.specs.Prelude.{◌≡◌, IfOk, option_map};
+ghost use Rattle.std.specs.Vec.{vec_items};
+ghost use Rattle.glob_trees.specs.Ways.{base_of_folder};
 
 use crate::fault::Result;
 use crate::lint::place::Place;
@@ -86,33 +89,36 @@ pub(crate) fn keep_files<R: Files + Env + Clock + Eprint + AllocGlobal + Clone +
     Ok(source.kept)
 }
 
-impl<'a, R: Files + Clock + Eprint> FolderSource<'a, R> {
-    /// Keeps the file of a list.
-    fn keep(
-        &mut self,
-        list: List<GitIgnoreLines>,
-        path: Vec<u8>,
-        bytes: Vec<u8>,
-        unread: Option<&'static str>,
-    ) -> Result<(), AllocError> {
-        self.kept.lists.push(list)?;
-        self.kept.files.push(IgnoreFile {
-            path,
-            bytes,
-            unread,
-        })?;
+impl KeptFiles {
+    /// Keeps a file with its list.
+    fn keep(&mut self, list: List<GitIgnoreLines>, file: IgnoreFile) -> Result<(), AllocError> {
+        self.lists.push(list)?;
+        self.files.push(file)?;
         Ok(())
     }
+}
 
-    /// Keeps that something else stands in the place of a folder's file.
+impl<'a, R: Files + Clock + Eprint> FolderSource<'a, R> {
+    /// The list of a folder without patterns.
+    fn no_list(&self, folder: &[u8]) -> Result<List<GitIgnoreLines>, AllocError>
+        ensures based { IfOk result (λ list. option_map vec_items list.base ≡ base_of_folder folder.now) }
+    {
+        list_in_folder(self.alloc, List::empty(self.alloc), folder)
+    }
+
+    /// Keeps what stands in the place of a folder's file, which isn't read.
     fn keep_unread(
         &mut self,
         folder: &[u8],
         path: Vec<u8>,
         what: &'static str,
     ) -> Result<(), AllocError> {
-        let list = list_in_folder(self.alloc, List::empty(self.alloc), folder)?;
-        self.keep(list, path, Vec::new(self.alloc), Some(what))
+        let file = IgnoreFile {
+            path,
+            bytes: Vec::new(self.alloc),
+            unread: Some(what),
+        };
+        self.kept.keep(self.no_list(folder)?, file)
     }
 
     /// Keeps the file of a list, where it was read.
@@ -120,8 +126,12 @@ impl<'a, R: Files + Clock + Eprint> FolderSource<'a, R> {
         if list.source.is_none() {
             return Ok(());
         }
-        let bytes = Vec::from_slice(self.alloc, self.source.last_bytes())?;
-        self.keep(list.clone()?, path, bytes, None)
+        let file = IgnoreFile {
+            path,
+            bytes: Vec::from_slice(self.alloc, self.source.last_bytes())?,
+            unread: None,
+        };
+        self.kept.keep(list.clone()?, file)
     }
 }
 
@@ -153,7 +163,7 @@ impl<'a, R: Files + Clock + Eprint> FileSource for FolderSource<'a, R> {
         let name = path_text(self.alloc, &path)?;
         if let Some(what) = what_is_unread(self.rt, name.as_str()) {
             self.keep_unread(folder, path, what)?;
-            return Ok(list_in_folder(self.alloc, List::empty(self.alloc), folder)?);
+            return Ok(self.no_list(folder)?);
         }
         let list = self.source.list_of(folder)?;
         self.keep_read(&list, path)?;

@@ -1,108 +1,94 @@
 //! How a finding is told: in a line as compilers write it, and below it the line of the file, with what is meant underlined, and what to do.
 
-use git_paths::{Quoting, Standpoint, append_quoted};
+use crate::fronts::Fronts;
+use git_paths::append_quoted;
 use glob_lint::{Looked, Message, shown_line};
 use std::alloc::{AllocError, Global};
 use tree_files::append_shown;
 
-/// What stands in front of a line that is shown.
-const INDENT: &str = "    ";
-
-/// What tells findings.
-#[derive(Drop)]
+/// What tells findings of files that were looked at.
+#[derive(Clone, Copy)]
 pub(crate) struct Teller<'t> {
     pub(crate) alloc: Global,
-    /// From where files are told.
-    pub(crate) standpoint: &'t Standpoint,
-    pub(crate) quoting: Quoting,
+    /// From where files are told, and how.
+    pub(crate) fronts: &'t Fronts,
     pub(crate) looked: &'t Looked<'t>,
-    pub(crate) text: Vec<u8>,
 }
 
 impl<'t> Teller<'t> {
+    /// The name of a file, as it is seen from the current folder.
+    pub(crate) fn name_of(&self, file: usize) -> Result<Vec<u8>, AllocError> {
+        let mut seen = Vec::new(self.alloc);
+        if let Some(file) = self.looked.files.get(file) {
+            self.fronts.standpoint.append_seen(&mut seen, &file.path)?;
+        }
+        Ok(seen)
+    }
+
+    /// A line of a file.
+    pub(crate) fn line_of(&self, file: usize, line: usize) -> &'t [u8] {
+        match self.looked.files.get(file) {
+            Some(file) => shown_line(&file.bytes, line),
+            None => b"",
+        }
+    }
+
     /// Tells a finding.
-    pub(crate) fn tell(&mut self, message: &Message) -> Result<(), AllocError> {
-        let (line, from) = (message.line, message.from.saturating_add(1));
-        let level = message.level.as_str();
-        let name = message.lint.as_str();
-        self.file(message.file)?;
-        let head = format!(in self.alloc; ":{line}:{from}: {level}: {} [{name}]\n", message.text)?;
-        self.append(&head)?;
+    pub(crate) fn tell(&self, text: &mut Vec<u8>, message: &Message) -> Result<(), AllocError> {
+        let (line, column) = (message.line, message.from.saturating_add(1));
+        let (level, name) = (message.level.as_str(), message.lint.as_str());
+        append_quoted(text, &self.name_of(message.file)?, self.fronts.quoting)?;
+        let head = format!(in self.alloc;
+            ":{line}:{column}: {level}: {} [{name}]\n",
+            message.text
+        )?;
+        text.extend_from_slice(head.as_str().as_bytes())?;
         if message.length > 0 {
-            self.show_line(message)?;
+            self.show_line(text, message)?;
         }
         if let Some((file, line)) = message.because {
-            self.tell_because(file, line)?;
+            text.extend_from_slice(b"  because of ")?;
+            append_quoted(text, &self.name_of(file)?, self.fronts.quoting)?;
+            let number = format!(in self.alloc; ":{line}: ")?;
+            text.extend_from_slice(number.as_str().as_bytes())?;
+            self.show(text, self.line_of(file, line))?;
+            text.push(b'\n')?;
         }
         if let Some(advice) = &message.advice {
-            self.append("  try ")?;
-            self.show(advice)?;
-            self.append("\n")?;
+            text.extend_from_slice(b"  try ")?;
+            self.show(text, advice)?;
+            text.push(b'\n')?;
         }
         Ok(())
     }
 
     /// Shows the line that a finding is of, and underlines what is meant.
-    fn show_line(&mut self, message: &Message) -> Result<(), AllocError> {
-        let line = shown_line(self.bytes_of(message.file), message.line);
-        let (front, rest) = parted(line, message.from);
+    fn show_line(&self, text: &mut Vec<u8>, message: &Message) -> Result<(), AllocError> {
+        let (front, rest) = parted(self.line_of(message.file, message.line), message.from);
         let (meant, behind) = parted(rest, message.length);
-        self.append(INDENT)?;
-        let front = self.show(front)?;
-        let meant = self.show(meant)?;
-        self.show(behind)?;
-        self.append("\n")?;
-        self.append(INDENT)?;
+        text.extend_from_slice(b"    ")?;
+        let front = self.show(text, front)?;
+        let meant = self.show(text, meant)?;
+        self.show(text, behind)?;
+        text.extend_from_slice(b"\n    ")?;
         'front: for c in front.as_str().chars() {
-            // (a tab stays one, so that what is meant stands below itself)
-            self.append(if c == '\t' { "\t" } else { " " })?;
+            // (a tab stays one, so that what is meant is underlined where it stands)
+            text.push(if c == '\t' { b'\t' } else { b' ' })?;
         }
         'meant: for _ in meant.as_str().chars() {
-            self.append("^")?;
+            text.push(b'^')?;
         }
-        self.append("\n")
-    }
-
-    /// Tells the line of a file that a finding is because of.
-    fn tell_because(&mut self, file: usize, line: usize) -> Result<(), AllocError> {
-        self.append("  because of ")?;
-        self.file(file)?;
-        let number = format!(in self.alloc; ":{line}: ")?;
-        self.append(&number)?;
-        self.show(shown_line(self.bytes_of(file), line))?;
-        self.append("\n")
-    }
-
-    /// The bytes of a file that was looked at.
-    fn bytes_of(&self, file: usize) -> &'t [u8] {
-        match self.looked.files.get(file) {
-            Some(file) => &file.bytes,
-            None => b"",
-        }
-    }
-
-    /// Tells the name of a file.
-    fn file(&mut self, file: usize) -> Result<(), AllocError> {
-        let Some(file) = self.looked.files.get(file) else {
-            return Ok(());
-        };
-        let mut seen = Vec::new(self.alloc);
-        self.standpoint.append_seen(&mut seen, &file.path)?;
-        append_quoted(&mut self.text, &seen, self.quoting)
+        text.push(b'\n')?;
+        Ok(())
     }
 
     /// Shows bytes as text, and answers it.
-    fn show(&mut self, bytes: &[u8]) -> Result<String, AllocError> {
+    fn show(&self, text: &mut Vec<u8>, bytes: &[u8]) -> Result<String, AllocError> {
         let told = String::from_utf8_lossy(self.alloc, bytes)?;
         let mut shown = String::new(self.alloc);
         append_shown(&mut shown, &told)?;
-        self.append(&shown)?;
+        text.extend_from_slice(shown.as_str().as_bytes())?;
         Ok(shown)
-    }
-
-    /// Appends a text.
-    fn append(&mut self, text: &str) -> Result<(), AllocError> {
-        self.text.extend_from_slice(text.as_bytes())
     }
 }
 
