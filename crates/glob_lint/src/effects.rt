@@ -43,6 +43,8 @@ pub(crate) struct Means {
     pub(crate) alloc: Global,
     /// How many matches may still be asked for.
     left: usize,
+    /// Whether more were asked for than were left.
+    is_cut: bool,
     /// How many lines there are: each question is one match of each of them.
     lines: usize,
 }
@@ -57,8 +59,14 @@ impl Means {
         Means {
             alloc,
             left: MOST_MATCHES,
+            is_cut: false,
             lines,
         }
+    }
+
+    /// Whether more was asked for than was left.
+    pub(crate) fn is_cut(&self) -> bool {
+        self.is_cut
     }
 
     /// Takes the matches of some questions; whether so many were left.
@@ -68,7 +76,10 @@ impl Means {
                 self.left -= matches;
                 true
             }
-            _ => false,
+            _ => {
+                self.is_cut = true;
+                false
+            }
         }
     }
 }

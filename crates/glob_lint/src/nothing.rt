@@ -1,5 +1,5 @@
 //! Lines that match no path: nothing can match them, or a part of each path would be empty, `.` or `..`.
-ghost use Rattle.std.specs.Prelude.{◌≡◌, ◌↔◌, IsTrue, MatchOption};
+ghost use Rattle.std.specs.Prelude.{◌≡◌, ◌↔◌, IsSome, IsTrue, MatchOption};
 ghost use Rattle.glob_matcher.specs.declared.wildmatch.tokens.TokenKind.TheVariants as kind;
 ghost use Rattle.glob_matcher.specs.declared.wildmatch.way.Way.{Way};
 ghost use Rattle.glob_lint.specs.Lines.{MeetsNothing};
@@ -25,34 +25,66 @@ pub(crate) enum Part {
     Other,
 }
 
+/// Why a line matches nothing.
+#[derive(Clone, Copy)]
+pub(crate) enum Fault {
+    /// A bracket isn't closed, or names no class.
+    Bracket,
+    /// The last backslash escapes nothing.
+    Backslash,
+    /// Each path would have this part.
+    Part(Part),
+}
+
 /// Whether a line matches no path that a work tree can have, by Git's rules: a bracket isn't closed, a backslash escapes nothing, or
 /// a part of each path would be empty, `.` or `..`. A yes is right for all paths; a no says nothing.
 pub fn matches_nothing(line: &Line<'_>, rules: Rules) -> bool
     ensures { IsTrue result → MeetsNothing rules line.now }
 {
+    fault_of(line, rules).is_some()
+}
+
+/// Why a line matches no path that a work tree can have, by Git's rules; `None` where that isn't seen.
+pub(crate) fn fault_of(line: &Line<'_>, rules: Rules) -> Option<Fault>
+    ensures { IsSome result → MeetsNothing rules line.now }
+{
     let Reading::Git = rules.reading else {
-        return false;
+        return None;
     };
     match line.tokens() {
-        Some(tokens) => match_no_path(tokens, way_of(rules.case)),
-        None => false,
+        Some(tokens) => fault_in(tokens, way_of(rules.case)),
+        None => None,
     }
 }
 
-/// Whether tokens match no path that a work tree can have.
-fn match_no_path(tokens: LineTokens<'_>, way: Way) -> bool
-    ensures { IsTrue result → MatchesNoPath way (row_of tokens.entry) }
+/// Why tokens match no path that a work tree can have.
+fn fault_in(tokens: LineTokens<'_>, way: Way) -> Option<Fault>
+    ensures { IsSome result → MatchesNoPath way (row_of tokens.entry) }
 {
     let mut left = tokens;
     let mut part = Part::Empty;
     'tokens: while let Some(next) = left.next(way) {
         match part.behind(next.kind) {
             Some(behind) => part = behind,
-            None => return true,
+            None => return Some(left.fault(next.kind, part)),
         }
         left = next.after;
     }
-    !part.may_end()
+    if part.may_end() {
+        return None;
+    }
+    Some(Fault::Part(part))
+}
+
+impl<'a> LineTokens<'a> {
+    /// Why no path goes on with the next token, of this kind, behind this part.
+    fn fault(&self, kind: TokenKind, part: Part) -> Fault {
+        match kind {
+            TokenKind::Nothing if self.text[self.place..].starts_with(b"\\") => Fault::Backslash,
+            TokenKind::Nothing => Fault::Bracket,
+            _ => Fault::Part(part),
+        }
+    }
 }
 
 impl Part {

@@ -30,6 +30,8 @@ pub struct Report {
     /// The lines that may be taken out, the last first: all of them together, or some. Of lines that cover one another the first isn't among
     /// them.
     pub removable: Vec<(usize, usize)>,
+    /// Whether the work had reached its limit before all lines were looked at.
+    pub is_cut: bool,
 }
 
 /// What each line of lists does, and which lines may be taken out together without a change of any answer. The lists are those of a work
@@ -51,17 +53,19 @@ pub fn report_on(
     ensures together { IfOk result (λ report. AreRemovable rules (seen lists.old) report.removable.items) }
     ensures same { seen lists.new ≡ seen lists.old }
 {
-    let findings = findings_of(alloc, lists, rules)?;
+    let mut means = Means::new(alloc, lists);
+    let findings = findings_of(&mut means, lists, rules)?;
     let removable = removable_of(alloc, &findings)?;
     Ok(Report {
         findings,
         removable,
+        is_cut: means.is_cut(),
     })
 }
 
 /// What each line does, in order.
 fn findings_of(
-    alloc: Global,
+    means: &mut Means,
     lists: &mut [List<GitIgnoreLines>],
     rules: Rules,
 ) -> Result<Vec<Finding>, AllocError>
@@ -69,10 +73,9 @@ fn findings_of(
     ensures found { IfOk result (λ findings. AreFindings rules (seen lists.old) (length lists.old) findings.items) }
     ensures same { seen lists.new ≡ seen lists.old }
 {
-    let mut means = Means::new(alloc, lists);
-    let mut findings: Vec<Finding> = Vec::new(alloc);
+    let mut findings: Vec<Finding> = Vec::new(means.alloc);
     'lists: for at in 0..lists.len() {
-        add_list(&mut means, lists, at, rules, &mut findings)?;
+        add_list(means, lists, at, rules, &mut findings)?;
     }
     Ok(findings)
 }

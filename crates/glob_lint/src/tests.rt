@@ -1,5 +1,5 @@
-//! Pairs of lines, and what is said of them.
-use crate::{Line, are_apart, covers, matches_nothing, samples_of};
+//! Lines and pairs of lines, and what is said of them.
+use crate::{Line, Lint, are_apart, covers, guesses_at, matches_nothing, samples_of};
 use gix_glob::pattern::Case;
 use gix_glob::search::pattern::List;
 use glob_lines::GitIgnoreLines;
@@ -94,6 +94,64 @@ fn lines_alone(rt: HostRuntime) -> Result<(), Fail> {
         let line = Line::at(&list, 0);
         assert_eq!(rt; matches_nothing(&line, rules), nothing);
         assert_eq!(rt; samples_of(alloc, &line, rules)?.len(), samples);
+    }
+    Ok(())
+}
+
+/// A line, the one guess at it with its place and length, and the line that is told as advice.
+type GuessRow = (&'static str, Option<(Lint, usize, usize)>, &'static str);
+
+const GUESSES: [GuessRow; 26] = [
+    ("*.o", None, ""),
+    ("# \"a\"", None, ""),
+    ("foo.txt ", None, ""),
+    ("baz.txt\t", Some((Lint::TabAtEnd, 7, 1)), "baz.txt"),
+    ("!a\t\t", Some((Lint::TabAtEnd, 2, 2)), "!a"),
+    ("a\\\t", None, ""),
+    ("\t", None, ""),
+    (" a", Some((Lint::BlankInFront, 0, 1)), "a"),
+    ("!  a", Some((Lint::BlankInFront, 1, 2)), "!a"),
+    ("\\ a", None, ""),
+    ("  # a", Some((Lint::BlankInFront, 0, 2)), "# a"),
+    (
+        "*.pyc # bytecode",
+        Some((Lint::CommentBehind, 5, 11)),
+        "*.pyc",
+    ),
+    ("!a \t#b", Some((Lint::CommentBehind, 2, 4)), "!a"),
+    ("a\\ #b", None, ""),
+    (".#*", None, ""),
+    ("*.{o,a}", Some((Lint::Braces, 2, 5)), ""),
+    ("{o}", None, ""),
+    ("[{,}]", None, ""),
+    ("\"a b\"", Some((Lint::Quotes, 0, 5)), "a b"),
+    ("!'a'", Some((Lint::Quotes, 1, 3)), "!a"),
+    ("'a", None, ""),
+    (
+        "build\\output",
+        Some((Lint::Backslash, 5, 1)),
+        "build/output",
+    ),
+    ("[\\a]\\[", None, ""),
+    ("a\\b\\*", Some((Lint::Backslash, 1, 1)), ""),
+    ("^build$", Some((Lint::Regex, 0, 1)), "/build"),
+    ("!^a.*", Some((Lint::Regex, 1, 1)), ""),
+];
+
+#[test]
+fn guesses(rt: HostRuntime) -> Result<(), Fail> {
+    let alloc = rt.alloc();
+    for (line, wanted, advice) in GUESSES {
+        let told = guesses_at(alloc, line.as_bytes())?;
+        let first = told.first();
+        let place = first.map(|guess| (guess.lint, guess.from, guess.length));
+        assert_eq!(rt; place, wanted, "{line}");
+        let tried = match first.map(|guess| &guess.advice) {
+            Some(Some(tried)) => tried.as_slice(),
+            _ => b"",
+        };
+        assert_eq!(rt; tried, advice.as_bytes(), "{line}");
+        assert!(rt; told.len() < 2, "{line}");
     }
     Ok(())
 }

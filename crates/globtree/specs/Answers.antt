@@ -124,5 +124,6 @@ AnswersCommand options (command.Write text) status left rest old new = Appends o
 AnswersCommand options (command.Config asked) status left rest old new = Unit {0}
 AnswersCommand options (command.Explain asked) status left rest old new = Unit {0}
 AnswersCommand options (command.Files asked) status left rest old new = Unit {0}
+AnswersCommand options (command.Lint asked) status left rest old new = Unit {0}
 AnswersCommand options (command.MatchPathspec asked) status left rest old new = AnswersMatch asked status left rest old new
 AnswersCommand options (command.Status asked) status left rest old new = Unit {0}

@@ -10,6 +10,7 @@ mod explain;
 mod fault;
 mod fronts;
 mod index_use;
+mod lint;
 mod list_files;
 mod list_tracked;
 mod listed_path;
@@ -30,6 +31,7 @@ mod show_status;
 mod told_name;
 mod told_pathspecs;
 mod tracked;
+mod unread_file;
 mod words;
 mod work_tree;
 

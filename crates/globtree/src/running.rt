@@ -9,6 +9,7 @@ use crate::check_attr::check_attr;
 use crate::check_ignore::check_ignore;
 use crate::explain::explain;
 use crate::fault::{Fault, Result};
+use crate::lint::lint;
 use crate::list_files::list_files;
 use crate::match_pathspec::match_pathspec;
 use crate::outcomes::ANSWERED;
@@ -78,6 +79,7 @@ fn answer_command<R: Files + Env + Clock + Eprint + AllocGlobal + Clone + Drop, 
         Command::Config(asked) => show_config(rt, alloc, options, asked, output),
         Command::Explain(asked) => explain(rt, alloc, options, asked, input, output),
         Command::Files(asked) => list_files(rt, alloc, options, asked, shows_progress, output),
+        Command::Lint(asked) => lint(rt, alloc, options, asked, shows_progress, output),
         Command::MatchPathspec(asked) => match_pathspec(rt, alloc, asked, input, output),
         Command::Status(asked) => show_status(rt, alloc, options, asked, shows_progress, output),
     }
@@ -94,18 +96,41 @@ pub(crate) fn without_words<R: Eprint>(rt: &R, refused: ErrorKind) -> u8
     }
 }
 
-/// Tells a fault.
+/// Tells a fault, but for one: who no longer reads the answers is told nothing, as in Git.
 fn tell_fault<R: Eprint>(rt: &R, alloc: Global, fault: Fault) -> u8
     ensures { result ≡ 128 }
 {
+    if is_closed_pipe(&fault) {
+        return FAULT;
+    }
     match tell_whole(rt, alloc, &fault) {
         Ok(()) => FAULT,
         Err(_refused) => tell_want_of_memory(rt),
     }
 }
 
+/// Whether the answers went to a pipe that nobody reads any more.
+fn is_closed_pipe(fault: &Fault) -> bool {
+    match fault {
+        Fault::Write(error) => error.kind() == ErrorKind::BrokenPipe,
+        _ => false,
+    }
+}
+
+/// Whether the input is a folder. Where standard input is closed, one stands in for it.
+fn is_folder_read(fault: &Fault) -> bool {
+    match fault {
+        Fault::Read(error) => error.kind() == ErrorKind::IsADirectory,
+        _ => false,
+    }
+}
+
 /// Tells a fault in one line, and in more what to do about it.
 fn tell_whole<R: Eprint>(rt: &R, alloc: Global, fault: &Fault) -> Result<(), AllocError> {
+    if is_folder_read(fault) {
+        let line = format_args!("fatal: standard input is closed, or a folder");
+        return tell_line(rt, alloc, line);
+    }
     tell_line(rt, alloc, format_args!("fatal: {fault}"))?;
     match fault {
         Fault::Open(OpenFault::Find(fault)) => tell_more(rt, alloc, fault),

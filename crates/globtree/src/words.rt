@@ -8,6 +8,7 @@ pub(crate) mod config;
 pub(crate) mod explain;
 pub(crate) mod fault;
 pub(crate) mod files;
+pub(crate) mod lint;
 pub(crate) mod match_pathspec;
 mod meant;
 mod option_words;
@@ -24,6 +25,7 @@ use crate::words::config::ShowConfig;
 use crate::words::explain::Explain;
 use crate::words::fault::WordFault;
 use crate::words::files::ListFiles;
+use crate::words::lint::LintFiles;
 use crate::words::match_pathspec::MatchPathspec;
 pub(crate) use crate::words::options::Options;
 use crate::words::options::{Asked, Front, front_of};
@@ -46,6 +48,8 @@ pub(crate) enum Command<'a> {
     Explain(Explain<'a>),
     /// List files.
     Files(ListFiles<'a>),
+    /// Tell which lines of ignore files do nothing.
+    Lint(LintFiles<'a>),
     /// Tell which paths pathspecs match.
     MatchPathspec(MatchPathspec<'a>),
     /// Tell which files aren't tracked, and which are ignored.
@@ -93,6 +97,7 @@ fn command_of(alloc: Global, words: &[String]) -> Result<Command<'_>, WordFault<
         CommandName::Config => Ok(Command::Config(ShowConfig::read(alloc, rest)?)),
         CommandName::Explain => Ok(Command::Explain(Explain::read(alloc, rest)?)),
         CommandName::Files => Ok(Command::Files(ListFiles::read(alloc, rest)?)),
+        CommandName::Lint => Ok(Command::Lint(LintFiles::read(alloc, rest)?)),
         CommandName::MatchPathspec => Ok(Command::MatchPathspec(MatchPathspec::read(alloc, rest)?)),
         CommandName::Status => Ok(Command::Status(ShowStatus::read(alloc, rest)?)),
     }

@@ -67,6 +67,15 @@ impl<'a, R: Files + Clock + Eprint> TreeFiles<'a, R> {
         })
     }
 
+    /// The bytes of the ignore file that was read last. The list of a file that was read names it as its source.
+    pub fn last_bytes(&self) -> &[u8] {
+        if self.has_begun {
+            &self.bytes
+        } else {
+            self.above.last_bytes()
+        }
+    }
+
     /// Takes away what was told of the progress, and says whether something couldn't be read.
     pub fn end(&self) -> bool
         ensures { result ≡ self.now.is_short }

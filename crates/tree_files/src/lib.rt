@@ -28,5 +28,5 @@ pub use nested::NestedRepositories;
 pub use seen_files::{file_list, named_list};
 pub use sources::FolderFiles;
 pub use standing::path_text;
-pub use telling::tell_line;
+pub use telling::{append_shown, tell_line};
 pub use tracked_folders::TrackedFolders;

@@ -61,6 +61,11 @@ impl<'a, R: Files + Eprint> FolderFiles<'a, R> {
         self.indexed.has(folder)
     }
 
+    /// The bytes of the file that was read last.
+    pub(crate) fn last_bytes(&self) -> &[u8] {
+        &self.bytes
+    }
+
     /// Refuses a folder whose file the index alone has.
     pub(crate) fn check_indexed(&self, folder: &[u8]) -> Result<(), CheckFault> {
         self.indexed.check(self.rt, folder, IGNORE_FILE, u64::MAX)

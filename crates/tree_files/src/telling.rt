@@ -18,8 +18,11 @@ pub fn tell_line<R: Eprint, D: Display + Drop>(
     Ok(())
 }
 
-/// Appends each character of a line as it is shown.
-fn append_shown(text: &mut String, told: &str) -> Result<(), AllocError>
+/// Appends each character of a line as it is shown: as itself, or as a question mark where no line shows it.
+///
+/// # Errors
+/// Only where memory was refused.
+pub fn append_shown(text: &mut String, told: &str) -> Result<(), AllocError>
     ensures { OnOk result (string_bytes text.new ≡ string_bytes text.old ++ shown_text told.now) }
 {
     for c in told.chars() {

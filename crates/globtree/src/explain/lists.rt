@@ -2,11 +2,11 @@
 
 use crate::fault::Result;
 use crate::fronts::Fronts;
+use crate::unread_file::what_is_unread;
 use gix_glob::search::pattern::List;
 use glob_lines::GitIgnoreLines;
 use glob_trees::{FolderLists, list_in_folder};
 use std::alloc::Global;
-use std::fs;
 use std::rt::Files;
 use tree_commands::check_ignore::PathKinds;
 use tree_files::{FileKinds, FolderFiles, path_text};
@@ -63,7 +63,7 @@ impl<'a, R: Files + Eprint> ListsOnWay<'a, R> {
         let name = path_text(self.alloc, folder)?;
         let slash = if folder.is_empty() { "" } else { "/" };
         let file = format!(in self.alloc; "{name}{slash}.gitignore")?;
-        let list = match self.why_unread(file.as_str()) {
+        let list = match what_is_unread(self.rt, file.as_str()) {
             Some(why) => {
                 self.unread.push((file, why))?;
                 list_in_folder(self.alloc, List::empty(self.alloc), folder)?
@@ -72,14 +72,5 @@ impl<'a, R: Files + Eprint> ListsOnWay<'a, R> {
         };
         self.lists.push(list)?;
         Ok(())
-    }
-
-    /// What stands in the place of an ignore file that isn't read.
-    fn why_unread(&self, file: &str) -> Option<&'static str> {
-        match fs::symlink_metadata(self.rt, file) {
-            Ok(found) if found.is_symlink() => Some("a link"),
-            Ok(found) if found.is_dir() => Some("a folder"),
-            _ => None,
-        }
     }
 }

@@ -3,12 +3,13 @@
 use crate::words::texts;
 
 /// The names of the commands.
-pub(crate) const COMMANDS: [&str; 7] = [
+pub(crate) const COMMANDS: [&str; 8] = [
     "check-ignore",
     "check-attr",
     "config",
     "explain",
     "files",
+    "lint",
     "match-pathspec",
     "status",
 ];
@@ -26,6 +27,8 @@ pub(crate) enum CommandName {
     Explain,
     /// `files`
     Files,
+    /// `lint`
+    Lint,
     /// `match-pathspec`
     MatchPathspec,
     /// `status`
@@ -41,6 +44,7 @@ impl CommandName {
             "config" => Some(CommandName::Config),
             "explain" => Some(CommandName::Explain),
             "files" => Some(CommandName::Files),
+            "lint" => Some(CommandName::Lint),
             "match-pathspec" => Some(CommandName::MatchPathspec),
             "status" => Some(CommandName::Status),
             _ => None,
@@ -55,6 +59,7 @@ impl CommandName {
             CommandName::Config => "config",
             CommandName::Explain => "explain",
             CommandName::Files => "files",
+            CommandName::Lint => "lint",
             CommandName::MatchPathspec => "match-pathspec",
             CommandName::Status => "status",
         }
@@ -73,6 +78,7 @@ impl CommandName {
             CommandName::Config => texts::config::HELP,
             CommandName::Explain => texts::explain::HELP,
             CommandName::Files => texts::files::HELP,
+            CommandName::Lint => texts::lint::HELP,
             CommandName::MatchPathspec => texts::match_pathspec::HELP,
             CommandName::Status => texts::status::HELP,
         }

@@ -5,6 +5,7 @@ pub(crate) mod check_ignore;
 pub(crate) mod config;
 pub(crate) mod explain;
 pub(crate) mod files;
+pub(crate) mod lint;
 pub(crate) mod match_pathspec;
 pub(crate) mod program;
 pub(crate) mod status;

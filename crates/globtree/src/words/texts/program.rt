@@ -11,6 +11,7 @@ commands:
   check-attr         which states attributes have for paths
   explain            why a path is ignored or not, and what to write
   files              the files that aren't ignored, or are tracked
+  lint               which lines of .gitignore files do nothing, and why
   status             which files aren't tracked, and which are ignored
   match-pathspec     which of the paths that are read pathspecs match
   config             what was read of Git's configuration, and from where
