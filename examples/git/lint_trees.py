@@ -58,9 +58,9 @@ class LintTree:
             text = self.pattern()
         if self.is_folding and self.chance(0.4):
             text = text.swapcase()
-        if self.chance(0.06):
+        if self.chance(0.03):
             text = self.random.choice(SLIPS) + text
-        if self.chance(0.06):
+        if self.chance(0.05):
             text += self.random.choice(ENDS)
         return b"!" + text if self.chance(0.35) else text or b"*"
 
@@ -68,10 +68,11 @@ class LintTree:
         one, two = (literal(self.random.choice(self.names)) for _ in range(2))
         first, last, some = one[:1].replace(b"\\", b"?"), one[-1:].replace(b"\\", b"?"), self.random.choice(SETS)
         shapes = [one, one, b"/" + one, one + b"/", one + b"/" + two, b"/" + one + b"/" + two, one + b"/" + two + b"/", one + b"/*", b"/" + one + b"/*"]
-        shapes += [b"*", b"/*", b"*/", b"/*/", b"*/" + one, b"**/" + one, one + b"/**", one + b"/*/" + two, one + b"/**/" + two, b"**/" + one + b"/*"]
+        shapes += [b"*/" + one, b"**/" + one, one + b"/**", one + b"/*/" + two, one + b"/**/" + two, b"**/" + one + b"/*"]
         shapes += [first + b"*", b"*" + last, b"?" + one[1:], b"*.o", b"*.*", b"*" + last + b"/", some + one[1:], some + b"*", b"*" + some]
-        shapes += [first + b"**", first + b"**/" + two, b"**" + last, b"*/*", b"/*/" + one, one + b"/" + some + b"*", b"**", b"/**/" + one]
-        return self.random.choice(shapes)
+        shapes += [first + b"**", first + b"**/" + two, b"**" + last, b"/*/" + one, one + b"/" + some + b"*", b"/**/" + one]
+        # (behind one of these little makes a difference)
+        return self.random.choice([b"*", b"/*", b"*/", b"/*/", b"*/*", b"**"] if self.chance(0.06) else shapes)
 
     def distant_paths(self, count):
         """Paths of more names, on more levels."""

@@ -29,12 +29,10 @@ class Comparison:
 
     def tree(self, seed, room):
         self.seed, self.tree_of_seed, self.top = seed, LintTree(seed), os.path.join(room, b"top")
-        home = os.path.join(room, b"home")
-        kept = {name: value for name, value in os.environ.items() if not name.startswith("GIT_")}
-        self.environment = {**kept, **ALONE, "HOME": home, "XDG_CONFIG_HOME": home, "LC_ALL": "C"}
+        self.environment = environment_in(room)
         self.tree_of_seed.make(self.top)
         if self.tree_of_seed.tracked:
-            self.run(["git", "-C", self.top, "--literal-pathspecs", "add", "-f", "--", *self.tree_of_seed.tracked])
+            run(["git", "-C", self.top, "--literal-pathspecs", "add", "-f", "--", *self.tree_of_seed.tracked], self.environment)
         os.mkdir(os.path.join(room, b"asked"))
         self.asker = Asker(os.path.join(room, b"asked"), self.environment, self.tree_of_seed.is_folding)
         self.stack = self.stack_read()
@@ -70,20 +68,15 @@ class Comparison:
 
     # ---- what runs
 
-    def run(self, command):
-        return subprocess.run(command, stdin=subprocess.DEVNULL, stdout=subprocess.PIPE, stderr=subprocess.PIPE, env=self.environment, check=False)
-
     def globtree(self, words):
         options = ["--ignore-case"] if self.tree_of_seed.is_folding else []
-        return self.run([GLOBTREE, "-C", self.top, *options, "lint", *words])
+        return run([GLOBTREE, "-C", self.top, *options, "lint", *words], self.environment)
 
     def linted(self, words):
         """The findings, and how many lines got no verdict."""
-        ran = self.globtree([*words, "--json"])
-        findings = [json.loads(line) for line in ran.stdout.splitlines()]
-        unknown = NO_VERDICT.fullmatch(ran.stderr)
-        self.judge("runs", ran.returncode == (1 if findings else 0) and (unknown or not ran.stderr), ran.stderr)
-        return findings, int(unknown[1]) if unknown else 0
+        findings, unknown, fault = linted(self.globtree([*words, "--json"]))
+        self.judge("runs", not fault, fault)
+        return findings, unknown
 
     def judge(self, what, is_right, *told):
         if is_right:
@@ -191,6 +184,29 @@ class Comparison:
         self.right["lines that change an answer"] += len(places) - len(idle)
         self.counts["lines without a verdict"] += unknown
         self.judge("numbers of lines without a verdict", len(idle) <= unknown, unknown, *(b"%s:%d: %s" % (*place, self.stack.line(place)) for place in idle))
+
+
+# ---- runs, for of_packages, too
+
+def environment_in(room):
+    """The variables of a run that sees nothing of the machine's settings."""
+    home = os.path.join(room, b"home")
+    kept = {name: value for name, value in os.environ.items() if not name.startswith("GIT_")}
+    return {**kept, **ALONE, "HOME": home, "XDG_CONFIG_HOME": home, "LC_ALL": "C"}
+
+
+def run(command, environment):
+    return subprocess.run(command, stdin=subprocess.DEVNULL, stdout=subprocess.PIPE, stderr=subprocess.PIPE, env=environment, check=False)
+
+
+def linted(ran):
+    """The findings of a run with --json, how many lines got no verdict, and what was reported beside that, or a status that doesn't fit."""
+    findings = [json.loads(line) for line in ran.stdout.splitlines()]
+    unknown = NO_VERDICT.fullmatch(ran.stderr)
+    fault = b"" if unknown else ran.stderr
+    if ran.returncode != (1 if findings else 0):
+        fault += b"status %d" % ran.returncode
+    return findings, int(unknown[1]) if unknown else 0, fault
 
 
 def place_of(finding):
