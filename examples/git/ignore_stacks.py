@@ -131,29 +131,25 @@ def differ(left, right):
 def filled(pattern, name, folder):
     """A path that a pattern may match, in which stars stand for a name, and folders of any name for a folder."""
     path, at = b"", 0
+    # (a run of stars directly behind the literal front is as one at the beginning)
+    front = re.match(rb"[^*?[\\]*", pattern).end()
     while at < len(pattern):
-        rest = pattern[at:]
-        token = re.match(rb"\\(.)|(?:(?<=/)|^)\*\*+(?:/|$)|\*+|\?|\[[!^]?\]?(?:\[:\w+:\]|\\.|[^]\\])*\]|.", rest, re.S)
-        bounded = rest.startswith(b"**") and (at == 0 or pattern[at - 1:at] == b"/") and re.match(rb"\*\*+/", rest)
-        text = bounded[0] if bounded else token[0]
-        at += len(text)
-        if bounded:
-            path += folder
-        elif text.startswith(b"*"):
-            path += name
+        is_bounded = at in (0, front) or pattern[at - 1:at] == b"/"
+        token = re.compile(rb"\*\*+/|" * is_bounded + rb"\\(.)|\*+|\?|\[[!^]?\]?(?:\[:\w+:\]|\\.|[^]\\])*\]|.", re.S).match(pattern, at)
+        text, at = token[0], token.end()
+        if text.startswith(b"*"):
+            path += folder if text.endswith(b"/") else name
         elif text == b"?":
             path += b"x"
-        elif text.startswith(b"[") and len(text) > 2:
-            path += of_set(text)
         else:
-            path += token[1] or text
+            path += of_set(text) if text.startswith(b"[") and len(text) > 2 else token[1] or text
     return path
 
 
 def of_set(text):
     """A byte that a set of this kind may hold."""
     try:
-        held = re.compile(text.replace(b"[!", b"[^", 1).replace(b"[:alpha:]", b"a-zA-Z"))
+        held = re.compile(b"[" + re.sub(rb"^!", b"^", text[1:]).replace(b"[:alpha:]", b"a-zA-Z").replace(b"[", b"\\["))
     except re.error:
         return b"a"
     return next((bytes([byte]) for byte in b"abcdefghijklmnopqrstuvwxyzABC019-_." if held.match(bytes([byte]))), b"a")

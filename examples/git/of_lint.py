@@ -55,10 +55,11 @@ class Comparison:
         return stack.within(lambda folder: not folder or not answers[folder[:-1], True][1])
 
     def all_questions(self):
-        """Each path of three names on three levels, samples of the lines, and some more paths, as a file and as a folder."""
+        """Each path of three names on three levels below each file, samples of the lines, and some more, as a file and as a folder."""
         tree, (samples, joined) = self.tree_of_seed, shared_samples(self.stack)
         some = tree.random.sample(sorted(joined), min(len(joined), 60))
-        paths = filter(self.is_clear, {*tree.paths, *samples, *some, *tree.distant_paths(40)})
+        below = {folder + path for folder in self.stack.files for path in tree.paths}
+        paths = filter(self.is_clear, {*below, *samples, *some, *tree.distant_paths(40)})
         return [(path, is_dir) for path in sorted(paths) for is_dir in (False, True)]
 
     def is_clear(self, path):
