@@ -147,9 +147,9 @@ def filled(pattern, name, folder):
 
 
 def of_set(text):
-    """A byte that a set of this kind may hold."""
+    """A byte that a set of this kind may hold, where case is folded, too."""
     try:
-        held = re.compile(b"[" + re.sub(rb"^!", b"^", text[1:]).replace(b"[:alpha:]", b"a-zA-Z").replace(b"[", b"\\["))
+        held = re.compile(b"[" + re.sub(rb"^!", b"^", text[1:]).replace(b"[:alpha:]", b"a-zA-Z").replace(b"[", b"\\["), re.I)
     except re.error:
         return b"a"
     return next((bytes([byte]) for byte in b"abcdefghijklmnopqrstuvwxyzABC019-_." if held.match(bytes([byte]))), b"a")

@@ -59,8 +59,10 @@ class Comparison:
         tree, (samples, joined) = self.tree_of_seed, shared_samples(self.stack)
         some = tree.random.sample(sorted(joined), min(len(joined), 60))
         below = {folder + path for folder in self.stack.files for path in tree.paths}
-        paths = filter(self.is_clear, {*below, *samples, *some, *tree.distant_paths(40)})
-        return [(path, is_dir) for path in sorted(paths) for is_dir in (False, True)]
+        return self.questions_about({*below, *samples, *some, *tree.distant_paths(40)})
+
+    def questions_about(self, paths):
+        return [(path, is_dir) for path in sorted(filter(self.is_clear, paths)) for is_dir in (False, True)]
 
     def is_clear(self, path):
         """Whether it lies below no folder whose name differs in case alone from one that has a file: where case is folded, they are one."""
@@ -165,6 +167,13 @@ class Comparison:
         self.asker.answer()
         self.judge("sets of fixed files", not differ(self.before, after), *differ(self.before, after)[:1])
 
+    def without_effect(self, places, questions):
+        """The lines at these places without which no answer to the questions is another one."""
+        left = self.asker.ask(self.stack, questions)
+        without = {place: self.asker.ask(self.stack.without([place]), questions) for place in places}
+        self.asker.answer()
+        return [place for place in places if not differ(left, without[place])]
+
     def rounds(self, findings):
         """Takes out what may go until there is nothing. Then a path shows of each line that it changes an answer, or so many got no verdict."""
         unknown = 0
@@ -176,12 +185,13 @@ class Comparison:
             findings, unknown = self.linted(["--all"])
             if not idle_places(findings):
                 break
-        places = self.stack.places()
         left = self.asker.ask(self.stack, self.questions)
-        without = {place: self.asker.ask(self.stack.without([place]), self.questions) for place in places}
         self.asker.answer()
         self.judge("rounds", not idle_places(findings) and not differ(self.before, left), *differ(self.before, left)[:1])
-        idle = [place for place in places if not differ(left, without[place])]
+        places = self.stack.places()
+        idle = self.without_effect(places, self.questions)
+        if len(idle) > unknown:
+            idle = self.without_effect(idle, self.questions_about(shared_samples(self.stack)[1]))
         self.right["lines that change an answer"] += len(places) - len(idle)
         self.counts["lines without a verdict"] += unknown
         self.judge("numbers of lines without a verdict", len(idle) <= unknown, unknown, *(b"%s:%d: %s" % (*place, self.stack.line(place)) for place in idle))
