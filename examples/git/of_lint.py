@@ -43,6 +43,7 @@ class Comparison:
         self.tracked(findings)
         self.fixed(["--all"], findings)
         self.fixed([], self.linted([])[0])
+        self.below_a_folder()
         self.rounds(findings)
 
     # ---- what is asked
@@ -133,6 +134,16 @@ class Comparison:
 
     def order(self, place):
         return list(self.stack.files).index(place[0]), place[1]
+
+    def below_a_folder(self):
+        """What is found where one of the folders is asked about: of its files and those below alone, and all these lines may go, too."""
+        folders = [folder for folder in self.stack.files if folder]
+        for folder in folders and self.tree_of_seed.random.sample(folders, 1):
+            findings, _ = self.linted(["--all", folder])
+            after = self.asker.ask(self.stack.without(idle_places(findings)), self.questions)
+            self.asker.answer()
+            is_below = all(place_of(it)[0].startswith(folder) for it in findings)
+            self.judge("folders", is_below and not differ(self.before, after), folder, *differ(self.before, after)[:1])
 
     # ---- tracked files
 
