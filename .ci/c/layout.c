@@ -42,4 +42,4 @@ _Static_assert(sizeof(struct gix_glob_text) == 16, "the size of a text");
 _Static_assert(offsetof(struct gix_glob_text, len) == 8, "len");
 _Static_assert(sizeof(struct gix_glob_state) == 24, "the size of a state");
 _Static_assert(offsetof(struct gix_glob_state, kind) == 16, "kind");
-_Static_assert(GIX_GLOB_VERSION == 300, "the version");
+_Static_assert(GIX_GLOB_VERSION == 400, "the version");

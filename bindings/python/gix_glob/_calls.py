@@ -10,7 +10,7 @@ import ctypes
 from typing import Any, Tuple
 
 #: The version of the header that is declared here, and of this package.
-VERSION = "0.3.0"
+VERSION = "0.4.0"
 #: GIX_GLOB_NONE: no place, and no index.
 NONE = ctypes.c_size_t(-1).value
 #: GIX_GLOB_NEGATIVE: the bit of a pattern's mode.

@@ -13,7 +13,7 @@ const ARCHIVE: &str = "libgix_glob_c.a";
 const SUMS: &str = "SHA256SUMS";
 
 /// The package and the version that `pkg-config` is asked for.
-const PACKAGE: &str = "gix_glob >= 0.3.0";
+const PACKAGE: &str = "gix_glob >= 0.4.0";
 
 /// What pkg-config answers, or why it doesn't.
 fn pkg_config(question: &str) -> Result<String, String> {
@@ -31,7 +31,7 @@ fn pkg_config(question: &str) -> Result<String, String> {
     }
     // (of a package that is missing or too old most say nothing)
     let why = text(&said.stderr);
-    Err(format!("{name} {}", if why.is_empty() { "finds no gix_glob of version 0.3.0 or later" } else { &why }))
+    Err(format!("{name} {}", if why.is_empty() { "finds no gix_glob of version 0.4.0 or later" } else { &why }))
 }
 
 /// The folder of an installed library: its `libdir`, or else the first that a linker is told.

@@ -44,7 +44,7 @@
 
 /* The version of this header, as major * 10000 + minor * 100 + patch. */
 #define GIX_GLOB_VERSION_MAJOR 0
-#define GIX_GLOB_VERSION_MINOR 3
+#define GIX_GLOB_VERSION_MINOR 4
 #define GIX_GLOB_VERSION_PATCH 0
 #define GIX_GLOB_VERSION (GIX_GLOB_VERSION_MAJOR * 10000 + GIX_GLOB_VERSION_MINOR * 100 + GIX_GLOB_VERSION_PATCH)
 

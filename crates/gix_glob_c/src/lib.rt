@@ -37,9 +37,9 @@ pub struct GlobMatchMode {
 /// `GIX_GLOB_VERSION` of the header that the library was built with: major * 10000 + minor * 100 + patch.
 #[unsafe(no_mangle)]
 pub extern "C" fn gix_glob_version() -> u32
-    ensures { result ≡ 300 }
+    ensures { result ≡ 400 }
 {
-    300
+    400
 }
 
 /// Whether the pattern matches the whole of the value.

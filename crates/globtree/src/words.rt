@@ -56,7 +56,7 @@ pub(crate) enum Command<'a> {
     Status(ShowStatus),
 }
 
-const VERSION: &str = "globtree 0.3.0\n";
+const VERSION: &str = "globtree 0.4.0\n";
 
 /// The options and the command of the words.
 ///
