@@ -65,6 +65,9 @@ impl<'a> ListedPath<'a> {
     pub(crate) fn is_matched(&self, list: &PathspecList) -> bool
         ensures { IsTrue result ↔ MatchesListed list.now (seen_listed self.now) }
     {
+        if self.folder.is_none() {
+            return list.matches(self.path);
+        }
         self.is_met_by(list.elements(), false) && !self.is_met_by(list.elements(), true)
     }
 

@@ -46,7 +46,6 @@ pub(crate) fn run_narrowed<
     let folded = folded_by(alloc, listing.case, &fronts.tracked)?;
     let asked = AskedPaths {
         list: &told.list,
-        alone: &told.alone,
         tracked: TrackedFolders::new(&fronts.tracked, &folded),
     };
     let source = source_of(rt, alloc, fronts, shows_progress)?;

@@ -1,7 +1,7 @@
 //! The pathspecs that `files` is told.
 
 use crate::check_ignore::bytes_of;
-use crate::fault::{Fault, Result};
+use crate::fault::Result;
 use crate::match_pathspec::fault_of;
 use git_paths::Standpoint;
 use pathspecs::{Element, PathspecList, Settings};
@@ -14,8 +14,6 @@ pub(crate) struct ToldPathspecs<'a> {
     pub(crate) words: &'a [&'a str],
     /// The elements that they are.
     pub(crate) list: PathspecList,
-    /// Those of each word that is no exclude, by itself; that of the current folder where each is one.
-    pub(crate) alone: Vec<PathspecList>,
 }
 
 impl<'a> ToldPathspecs<'a> {
@@ -26,17 +24,11 @@ impl<'a> ToldPathspecs<'a> {
         settings: Settings,
         words: &'a [&'a str],
     ) -> Result<ToldPathspecs<'a>> {
-        let list = list_of(alloc, standpoint, settings, words)?;
-        let mut alone = Vec::with_capacity(alloc, words.len())?;
-        'words: for (place, word) in words.iter().enumerate() {
-            if is_positive(&list, place) {
-                alone.push(list_of(alloc, standpoint, settings, &[*word])?)?;
-            }
+        let bytes = bytes_of(alloc, words)?;
+        match PathspecList::read(alloc, standpoint, settings, &bytes) {
+            Ok(list) => Ok(ToldPathspecs { words, list }),
+            Err(fault) => Err(fault_of(alloc, words, fault)),
         }
-        if alone.is_empty() {
-            alone.push(list_of(alloc, standpoint, settings, &["."])?)?;
-        }
-        Ok(ToldPathspecs { words, list, alone })
     }
 
     /// The word that the element at a place is. Where none is, the element is that of the current folder: behind excludes it is told as `.`,
@@ -57,27 +49,5 @@ impl<'a> ToldPathspecs<'a> {
     /// Whether an element is of no word, and of the top: then nothing was asked for but all.
     pub(crate) fn is_of_all(&self, element: &Element) -> bool {
         self.words.is_empty() && element.text().is_empty()
-    }
-}
-
-/// The list of words.
-fn list_of(
-    alloc: Global,
-    standpoint: &Standpoint,
-    settings: Settings,
-    words: &[&str],
-) -> Result<PathspecList> {
-    let bytes = bytes_of(alloc, words)?;
-    match PathspecList::read(alloc, standpoint, settings, &bytes) {
-        Ok(list) => Ok(list),
-        Err(fault) => Err(fault_of(alloc, words, fault)),
-    }
-}
-
-/// Whether the element at a place is no exclude.
-fn is_positive(list: &PathspecList, place: usize) -> bool {
-    match list.elements().get(place) {
-        Some(element) => !element.magic().exclude,
-        None => false,
     }
 }

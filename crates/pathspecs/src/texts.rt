@@ -100,5 +100,20 @@ fn first_behind(sorted: &[Vec<u8>], text: &[u8]) -> usize
     ensures before { AllWithin (λ each. is_gt (slice_cmp nat_cmp each.items text.now) ≡ false) sorted.now 0 result }
     ensures behind { AllWithin (λ each. is_gt (slice_cmp nat_cmp each.items text.now) ≡ true) sorted.now result (length sorted.now) }
 {
-    sorted.partition_point(|each| each.as_slice().cmp(&text).is_le())
+    sorted.partition_point(|each| !comes_behind(each, text))
+}
+
+/// Whether a text comes behind another. (Most texts are short, and differ early: byte by byte that is told soonest.)
+fn comes_behind(text: &[u8], other: &[u8]) -> bool
+    ensures { result ≡ is_gt (slice_cmp nat_cmp text.now other.now) }
+{
+    let mut place = 0;
+    'bytes: while place < text.len() && place < other.len() && text[place] == other[place] {
+        place += 1;
+    }
+    match (text.get(place), other.get(place)) {
+        (Some(byte), Some(least)) => byte > least,
+        (Some(_), None) => true,
+        (None, _) => false,
+    }
 }

@@ -1,19 +1,16 @@
 //! A work tree in which only what pathspecs ask for stands.
-ghost use Rattle.std.specs.Prelude.{◌≡◌, ◌≢◌, ◌↔◌, ◌⊎◌, IfOk, IsTrue, if◌then◌else◌, None, Some, false, true};
-ghost use Rattle.std.specs.List.{Any};
+ghost use Rattle.std.specs.Prelude.{◌≡◌, ◌↔◌, ◌⊎◌, IfOk, IsTrue, if◌then◌else◌, None, Some};
 ghost use Rattle.glob_trees.specs.Ways.{GivesOnly};
-ghost use Rattle.pathspecs.specs.declared.manner.Manner.TheVariants.{Below};
-ghost use Rattle.pathspecs.specs.Elements.{MeetsBy};
 ghost use Rattle.pathspecs.specs.Lists.{Matches, MayMatchIn};
 ghost use Rattle.tree_commands.specs.FileTrees.{FileTree, StaysKnown};
 ghost use Rattle.tree_commands.specs.Lookups.{HasEntryBelow};
-ghost use Rattle.tree_files.specs.Narrowing.{AsksFor, AsksRepository, IsMetItself, IsOpen, LeadsFurther, as_folder, asked_of};
+ghost use Rattle.tree_files.specs.Narrowing.{AsksFor, AsksRepository, IsOpen, as_folder, asked_of};
 
 use crate::fault::CheckFault;
 use crate::tracked_folders::TrackedFolders;
 use gix_glob::search::pattern::List;
 use glob_lines::GitIgnoreLines;
-use pathspecs::{Element, Manner, PathspecList};
+use pathspecs::PathspecList;
 use std::alloc::{AllocError, Global};
 use tree_commands::files::source::{EntryKind, FileSource, FolderNames};
 
@@ -22,109 +19,31 @@ use tree_commands::files::source::{EntryKind, FileSource, FolderNames};
 pub struct AskedPaths<'a> {
     /// The elements of all words.
     pub list: &'a PathspecList,
-    /// Those of each word that is no exclude, by itself; and that of the current folder, where it is added to excludes.
-    pub alone: &'a [PathspecList],
     /// In which folders tracked paths lie: these are gone into whatever excludes say.
     pub tracked: TrackedFolders<'a>,
 }
 
 impl<'a> AskedPaths<'a> {
-    /// Whether a file at a path is asked for, or a folder that is no repository, or in which something tracked lies.
-    fn have(&self, path: &[u8], folder: &[u8]) -> bool
-        ensures { IsTrue result ↔ (Matches self.now.list.now path.now ⊎ (MayMatchIn self.now.list.now folder.now ⊎ (HasEntryBelow (asked_of self.now).tracked path.now × IsOpen self.now.alone.now folder.now))) }
+    /// Whether a folder is asked for that is no repository, or in which something tracked lies.
+    fn have_folder(&self, path: &[u8], folder: &[u8]) -> bool
+        ensures { IsTrue result ↔ (MayMatchIn self.now.list.now folder.now ⊎ (HasEntryBelow (asked_of self.now).tracked path.now × IsOpen self.now.list.now folder.now)) }
     {
-        self.list.matches(path) || self.list.may_match_in(folder) || self.open_tracked(path, folder)
+        self.list.may_match_in(folder) || self.open_tracked(path, folder)
     }
 
     /// Whether something tracked lies in a folder, and a word may match in it.
     fn open_tracked(&self, path: &[u8], folder: &[u8]) -> bool
-        ensures { IsTrue result ↔ (HasEntryBelow (asked_of self.now).tracked path.now × IsOpen self.now.alone.now folder.now) }
+        ensures { IsTrue result ↔ (HasEntryBelow (asked_of self.now).tracked path.now × IsOpen self.now.list.now folder.now) }
     {
-        self.tracked.have(path) && are_open(self.alone, folder)
+        self.tracked.have(path) && self.list.may_enter(folder)
     }
 
     /// Whether the folder of a repository is asked for itself, and not only for what lies in it.
     fn asks_repository(&self, folder: &[u8]) -> bool
         ensures { IsTrue result ↔ AsksRepository (asked_of self.now) folder.now }
     {
-        is_met_itself(self.list.elements(), folder)
-            || self.list.matches(folder) && !lead_further(self.alone, folder)
+        self.list.names(folder) || self.list.matches(folder) && !self.list.goes_on_in(folder)
     }
-}
-
-/// Whether some element meets a folder by its text or its pattern.
-fn is_met_itself(elements: &[Element], folder: &[u8]) -> bool
-    ensures { IsTrue result ↔ IsMetItself elements.now folder.now }
-{
-    'elements: for element in elements {
-        if meets_itself(element, folder) {
-            return true;
-        }
-    }
-    false
-}
-
-/// Whether an element is no exclude, and meets a folder by its text or its pattern.
-fn meets_itself(element: &Element, folder: &[u8]) -> bool
-    ensures { IsTrue result ↔ (element.now.magic.exclude ≡ false) × ((way : Manner) × (way ≢ Below) × MeetsBy way element.now folder.now) }
-{
-    if element.magic().exclude {
-        return false;
-    }
-    match element.manner(folder) {
-        Some(Manner::Exact | Manner::Wild) => true,
-        Some(Manner::Below) | None => false,
-    }
-}
-
-/// Whether a word by itself may match in a folder, or its case isn't counted.
-fn are_open(alone: &[PathspecList], folder: &[u8]) -> bool
-    ensures { IsTrue result ↔ IsOpen alone.now folder.now }
-{
-    'lists: for list in alone {
-        if is_open(list, folder) {
-            return true;
-        }
-    }
-    false
-}
-
-/// Whether a list may match in a folder, or case isn't counted in it.
-fn is_open(list: &PathspecList, folder: &[u8]) -> bool
-    ensures { IsTrue result ↔ (MayMatchIn list.now folder.now ⊎ Any (λ item. item.magic.icase ≡ true) list.now) }
-{
-    list.may_match_in(folder) || folds_case(list.elements())
-}
-
-/// Whether case isn't counted by some element.
-fn folds_case(elements: &[Element]) -> bool
-    ensures { IsTrue result ↔ Any (λ item. item.magic.icase ≡ true) elements.now }
-{
-    'elements: for element in elements {
-        if element.magic().icase {
-            return true;
-        }
-    }
-    false
-}
-
-/// Whether a word that doesn't match a folder may match in it.
-fn lead_further(alone: &[PathspecList], folder: &[u8]) -> bool
-    ensures { IsTrue result ↔ LeadsFurther alone.now folder.now }
-{
-    'lists: for list in alone {
-        if leads_further(list, folder) {
-            return true;
-        }
-    }
-    false
-}
-
-/// Whether a list may match something in a folder, and not the folder.
-fn leads_further(list: &PathspecList, folder: &[u8]) -> bool
-    ensures { IsTrue result ↔ (MayMatchIn list.now folder.now × ¬ Matches list.now folder.now) }
-{
-    list.may_match_in(folder) && !list.matches(folder)
 }
 
 /// A source before which pathspecs stand: all names are given on, and nothing stands where they ask for nothing. What they don't ask for isn't
@@ -156,16 +75,23 @@ impl<'a, S: FileSource<Fault = CheckFault>> Narrowed<'a, S> {
         self.source
     }
 
-    /// Whether what stands at a path is asked for.
-    fn is_asked(&mut self, path: &[u8], folder: &[u8], kind: EntryKind) -> Result<bool, CheckFault>
-        requires { folder.now ≡ as_folder path.now }
+    /// Whether what stands at a path is asked for, where the list matches the path so.
+    fn is_asked(
+        &mut self,
+        is_matched: bool,
+        path: &[u8],
+        folder: &[u8],
+        kind: EntryKind,
+    ) -> Result<bool, CheckFault>
+        requires folder { folder.now ≡ as_folder path.now }
+        requires matched { IsTrue is_matched ↔ Matches self.old.asked.list.now path.now }
         ensures asked { IfOk result (λ is_asked. (whole : FileTree) → S.shows self.old.source whole → IsTrue is_asked ↔ AsksFor (asked_of self.old.asked) whole path.now kind) }
         ensures kept { self.new.asked ≡ self.old.asked }
         ensures stays { StaysKnown S.shows self.old.source self.new.source }
         ensures asks { GivesOnly (λ _. ⊥) (S.asked self.old.source) (S.asked self.new.source) }
     {
         match kind {
-            EntryKind::File => Ok(self.asked.list.matches(path)),
+            EntryKind::File => Ok(is_matched),
             EntryKind::Folder => self.is_folder_asked(path, folder),
         }
     }
@@ -230,13 +156,14 @@ impl<'a, S: FileSource<Fault = CheckFault>> FileSource for Narrowed<'a, S> {
 
     fn kind(&mut self, path: &[u8]) -> Result<Option<EntryKind>, CheckFault> {
         let folder = folder_path(self.alloc, path)?;
-        if !self.asked.have(path, &folder) {
+        let is_matched = self.asked.list.matches(path);
+        if !is_matched && !self.asked.have_folder(path, &folder) {
             return Ok(None);
         }
         let Some(kind) = self.source.kind(path)? else {
             return Ok(None);
         };
-        let is_asked = self.is_asked(path, &folder, kind)?;
+        let is_asked = self.is_asked(is_matched, path, &folder, kind)?;
         Ok(if_asked(is_asked, kind))
     }
 

@@ -1,10 +1,10 @@
 -- Texts in order: which stand before another, and which begin with it.
-use Rattle.std.proofs.Common.{◌≡◌, ◌≢◌, inl, inr, ℕ, ◌-◌, ◌<◌, ◌≤◌, true, false, leb, List, [], ◌∷◌, ◌++◌, Vec, length, get_or, map, refl, sym, ap, ◌∙◌, arith}
-use Rattle.std.specs.Prelude.{IsSorted}
+use Rattle.std.proofs.Common.{◌≡◌, ◌≢◌, inl, inr, ℕ, ◌-◌, ◌<◌, ◌≤◌, Bool, true, false, leb, List, [], ◌∷◌, ◌++◌, Vec, length, get_or, map, refl, sym, ap, ◌∙◌, arith}
+use Rattle.std.specs.Prelude.{IsSorted, not}
 use Rattle.std.specs.Cmp.Lexicographic.{slice_cmp}
 use Rattle.std.specs.List.{AllWithin, Contains}
 use Rattle.std.specs.List.Sorted.{IsPartitionedBy}
-use Rattle.std.specs.Ordering.{is_gt, is_le, is_lt, nat_cmp, ordering_index, ordering_reverse, ordering_then}
+use Rattle.std.specs.Ordering.{is_gt, is_lt, nat_cmp, ordering_index, ordering_reverse, ordering_then}
 use Rattle.std.specs.declared.cmp.Ordering.{Ordering}
 use Rattle.std.specs.declared.cmp.Ordering.TheVariants.{Less, Equal, Greater}
 use Rattle.std.specs.Vec.{vec_items}
@@ -15,24 +15,22 @@ use Rattle.std.proofs.lemmas.List.Sorted.{IsPartitionedBy-leb, ranks_by, searcha
 use Rattle.std.proofs.lemmas.Map.Lookups.{exact_bytes}
 use Rattle.pathspecs.specs.Private.Texts.{bytes_cmp}
 
-le_index : (order : Ordering) → is_le order ≡ leb (ordering_index order) 1
+le_index : (order : Ordering) → not (is_gt order) ≡ leb (ordering_index order) 1
 le_index Less = refl
 le_index Equal = refl
 le_index Greater = refl
 
-pub not_gt : (order : Ordering) → is_le order ≡ true → is_gt order ≡ false
-not_gt Less le = refl
-not_gt Equal le = refl
-not_gt Greater le = absurd (false≢true le)
+pub is_false : (b : Bool) → not b ≡ true → b ≡ false
+is_false true is = absurd (false≢true is)
+is_false false is = refl
 
-pub gt : (order : Ordering) → is_le order ≡ false → is_gt order ≡ true
-gt Less more = absurd (false≢true (sym more))
-gt Equal more = absurd (false≢true (sym more))
-gt Greater more = refl
+pub is_true : (b : Bool) → not b ≡ false → b ≡ true
+is_true true is = refl
+is_true false is = absurd (false≢true (sym is))
 
 module _ {Z : Type 0} (xs : List (Vec ℕ Z)) (ordered : IsSorted bytes_cmp xs) (text : List ℕ) where
   -- none that doesn't come behind a text stands behind one that does
-  pub parted : IsPartitionedBy (λ x. is_le (slice_cmp nat_cmp x.items text)) xs
+  pub parted : IsPartitionedBy (λ x. not (is_gt (slice_cmp nat_cmp x.items text))) xs
   parted i j d before inside le =
       let rising = searchable_from_sorted nat_list_cmp_total vec_items xs text ordered in
       le_index (slice_cmp nat_cmp (get_or xs i d).items text) ∙ IsPartitionedBy-leb (λ x. ordering_index (slice_cmp nat_cmp x.items text)) xs 1 rising i j d before inside (sym (le_index (slice_cmp nat_cmp (get_or xs j d).items text)) ∙ le)

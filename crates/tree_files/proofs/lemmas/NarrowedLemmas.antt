@@ -10,18 +10,6 @@ use Rattle.tree_commands.specs.FileTrees.{FileTree}
 use Rattle.tree_commands.specs.Lookups.{HasEntryBelow}
 use Rattle.tree_files.specs.Narrowing.{Asked, AsksFor, IsNarrowed, IsOpen, as_folder}
 
--- what was passed over stays so with one more
-pub pass_over : {X : Type 0} (P : X → Type 0) (xs : List X) (i : ℕ) (x : X) → i < length xs → x ≡ slice_index_or xs i x → (P x → ⊥)
-    → ((k : ℕ) (y : X) → k < i → slice_index_or xs k y ≡ y → P y → ⊥)
-    → (k : ℕ) (y : X) → k < i + 1 → slice_index_or xs k y ≡ y → P y → ⊥
-pass_over P xs i x low is other before k y less at has = elim (cases_lt k i) [
-  | inl earlier ↦ before k y earlier at has
-  | inr later ↦
-      let here : k ≡ i = omega (arith, less, later) in
-      let same : y ≡ x = sym at ∙ ap (λ n. slice_index_or xs n y) here ∙ get_or_default xs i y x low ∙ sym is in
-      other (subst P same has)
-]
-
 -- ---- a folder
 
 -- the first isn't so, and the second is
@@ -46,7 +34,7 @@ none_by (Some x) never = absurd (never x refl)
 
 -- nothing is asked for there
 abbrev pub AsksAny : Asked → List ℕ → Type 0
-AsksAny asked path = Matches asked.items path ⊎ (MayMatchIn asked.items (as_folder path) ⊎ (HasEntryBelow asked.tracked path × IsOpen asked.alone (as_folder path)))
+AsksAny asked path = Matches asked.items path ⊎ (MayMatchIn asked.items (as_folder path) ⊎ (HasEntryBelow asked.tracked path × IsOpen asked.items (as_folder path)))
 
 pub no_kind : (asked : Asked) (whole : FileTree) (path : List ℕ) → ¬ AsksAny asked path → (kind : EntryKind) → AsksFor asked whole path kind → ⊥
 no_kind asked whole path none File asks = none (inl asks)
