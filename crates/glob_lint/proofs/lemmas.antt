@@ -13,6 +13,7 @@ pub mod Left
 pub mod Finding
 pub mod Together
 pub mod Held
+pub mod LastLeft
 pub mod OneLess
 pub mod Going
 pub mod Named
