@@ -5,8 +5,8 @@ use Rattle.std.proofs.lemmas.Bool.{cases_lt, false≢true}
 use Rattle.std.proofs.lemmas.Option.{same_Some}
 use Rattle.glob_lists.specs.declared.rules.Rules.{Rules}
 use Rattle.gix_glob.specs.EntryLists.{EntryList}
-use Rattle.glob_lists.specs.Deciding.{Decides, IsLastAnswer}
-use Rattle.glob_lists.specs.Matches.{AreMatches, ComesBefore}
+use Rattle.glob_lists.specs.Deciding.{Decides}
+use Rattle.glob_lists.specs.Matches.{AreMatches}
 use Rattle.glob_lists.proofs.lemmas.Deciding.DecidesOnce.{decides_once}
 use Rattle.glob_trees.specs.Trees.{Ignores, IsPositiveAt}
 use Rattle.glob_lint.specs.Ignoring.{Ignoring}

@@ -1,5 +1,5 @@
 -- The slashes are gone through from the front.
-use Rattle.std.proofs.Common.{◌≡◌, ◌<◌, inl, inr, true, [], ◌∷◌, Some, length, slice_index, take, refl, sym, subst, ◌∙◌}
+use Rattle.std.proofs.Common.{◌≡◌, ◌<◌, inl, inr, [], ◌∷◌, Some, length, slice_index, take, refl, sym, subst, ◌∙◌}
 use Rattle.std.proofs.lemmas.Bool.{false≢true}
 use Rattle.std.proofs.lemmas.Result.{IfOk-weaker}
 use Rattle.gix_glob.specs.Bytes.{HasByte, slash}
