@@ -3,6 +3,7 @@
 
 mod apart;
 mod asked;
+mod beginnings;
 mod below;
 mod covering;
 mod effects;
