@@ -13,7 +13,7 @@ pub mod Left
 pub mod Finding
 pub mod Together
 pub mod Held
-pub mod OneLess
+pub mod LastLeft
 pub mod Going
 pub mod Named
 pub mod Beginning

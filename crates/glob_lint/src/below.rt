@@ -8,12 +8,11 @@ ghost use Rattle.glob_lint.specs.Effects.{IsWhy};
 ghost use Rattle.glob_lint.specs.Private.Beginnings.{beginning_of, front_of_line};
 ghost use Rattle.glob_lint.specs.Seen.{seen};
 
+use crate::asked::AskedLists;
 use crate::line::Line;
 use crate::pairs::line_at;
 use gix_glob::pattern::PatternView;
-use gix_glob::search::pattern::List;
-use glob_lines::GitIgnoreLines;
-use glob_lists::{Reading, RepositoryPath, Rules};
+use glob_lists::{Reading, RepositoryPath};
 use glob_trees::ignored_folder_by;
 use std::alloc::{AllocError, Global};
 
@@ -23,22 +22,21 @@ use std::alloc::{AllocError, Global};
 /// Only where memory was refused.
 pub(crate) fn ignored_folder_of(
     alloc: Global,
-    lists: &[List<GitIgnoreLines>],
+    asked: &AskedLists<'_>,
     pair: (usize, usize),
-    rules: Rules,
 ) -> Result<Option<(usize, usize)>, AllocError>
-    requires folders { BasesAreFolders (seen lists.now) }
-    requires there { HasEntryAt (seen lists.now) pair }
-    ensures { IfOk result (λ by. IfSome by (λ by. IsWhy rules (seen lists.now) pair (BelowIgnored by))) }
+    requires folders { BasesAreFolders (seen asked.now.lists.now) }
+    requires there { HasEntryAt (seen asked.now.lists.now) pair }
+    ensures { IfOk result (λ by. IfSome by (λ by. IsWhy asked.now.rules (seen asked.now.lists.now) pair (BelowIgnored by))) }
 {
-    let Reading::Git = rules.reading else {
+    let Reading::Git = asked.rules.reading else {
         return Ok(None);
     };
-    let beginning = beginning_of(alloc, &line_at(lists, pair))?;
+    let beginning = beginning_of(alloc, &line_at(asked.lists, pair))?;
     let Some(path) = RepositoryPath::new(&beginning, false) else {
         return Ok(None);
     };
-    match ignored_folder_by(&lists, &path, rules) {
+    match ignored_folder_by(asked, &path, asked.rules) {
         Some(folder) => Ok(Some(folder.pair)),
         None => Ok(None),
     }

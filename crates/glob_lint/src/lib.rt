@@ -2,6 +2,7 @@
 #![tactic(auto)]
 
 mod apart;
+mod asked;
 mod below;
 mod covering;
 mod effects;
@@ -9,6 +10,7 @@ mod file_lines;
 mod guesses;
 mod line;
 mod lints;
+mod means;
 mod messages;
 mod nothing;
 mod outside;
@@ -29,11 +31,12 @@ mod why;
 
 pub use apart::are_apart;
 pub use covering::covers;
-pub use effects::{Effect, MOST_MATCHES};
+pub use effects::Effect;
 pub use file_lines::shown_line;
 pub use guesses::{Guess, guesses_at};
 pub use line::Line;
 pub use lints::{Level, Lint};
+pub use means::MOST_MATCHES;
 pub use messages::{IgnoreFile, Looked, Message, TrackedFiles, messages_of, without_idle_lines};
 pub use nothing::matches_nothing;
 pub use real::is_real;

@@ -1,4 +1,5 @@
 //! Messages about ignore files: what was found of their lines, and guesses at what was meant.
+ghost use Rattle.std.specs.Prelude.{◌≤◌, length};
 
 use crate::effects::Effect;
 use crate::file_lines::{FileLines, allows};
@@ -136,7 +137,9 @@ pub fn without_idle_lines(
 }
 
 /// How many of the first findings are of the list at a place.
-fn count_of(findings: &[Finding], at: usize) -> usize {
+fn count_of(findings: &[Finding], at: usize) -> usize
+    ensures { result ≤ length findings.now }
+{
     findings
         .iter()
         .position(|finding| finding.pair.0 != at)

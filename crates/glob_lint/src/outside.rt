@@ -1,4 +1,5 @@
 //! The bytes of a line that stand outside of brackets.
+ghost use Rattle.std.specs.Prelude.{◌≤◌};
 
 /// The bytes of a line outside of brackets, each behind its place, from 0. A bracket's first byte is among them, and a byte that a backslash
 /// escapes isn't.
@@ -36,7 +37,9 @@ impl<'a> Iterator for OutsideBrackets<'a> {
 }
 
 /// The place behind a bracket, of which what follows its first byte begins at `inner`: all of the line, where it isn't closed.
-fn behind_bracket(text: &[u8], inner: usize) -> usize {
+fn behind_bracket(text: &[u8], inner: usize) -> usize
+    ensures { inner ≤ result }
+{
     let mut at = inner;
     if let Some(b'!' | b'^') = text.get(at) {
         at += 1;

@@ -13,7 +13,6 @@ use crate::covering::covers;
 use crate::line::Line;
 use crate::nothing::matches_nothing;
 use crate::samples::{Sample, samples_of};
-use crate::shared::is_matched;
 use gix_glob::search::pattern::List;
 use glob_lines::GitIgnoreLines;
 use glob_lists::Rules;
@@ -77,18 +76,6 @@ pub(crate) fn samples_at(
     requires { HasEntryAt (seen lists.now) pair }
 {
     samples_of(alloc, &line_at(lists, pair), rules)
-}
-
-/// Whether the line at a pair of places matches a sample, the case of letters in its base counting.
-pub(crate) fn is_matched_at(
-    lists: &[List<GitIgnoreLines>],
-    pair: (usize, usize),
-    sample: &Sample,
-    rules: Rules,
-) -> bool
-    requires { HasEntryAt (seen lists.now) pair }
-{
-    is_matched(&line_at(lists, pair), sample, rules)
 }
 
 /// Whether the one pair of places comes before the other: lists first.

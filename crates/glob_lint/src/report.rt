@@ -6,7 +6,9 @@ ghost use Rattle.glob_lint.specs.Ignoring.{AreRemovable};
 ghost use Rattle.glob_lint.specs.Private.Findings.{AddsFindings, AreFindings};
 ghost use Rattle.glob_lint.specs.Seen.{seen};
 
-use crate::effects::{Effect, Means, effect_of};
+use crate::asked::AskedLists;
+use crate::effects::{Effect, effect_of};
+use crate::means::Means;
 use crate::removable::removable_of;
 use gix_glob::search::pattern::List;
 use glob_lines::GitIgnoreLines;
@@ -53,8 +55,9 @@ pub fn report_on(
     ensures together { IfOk result (λ report. AreRemovable rules (seen lists.old) report.removable.items) }
     ensures same { seen lists.new ≡ seen lists.old }
 {
-    let mut means = Means::new(alloc, lists);
-    let findings = findings_of(&mut means, lists, rules)?;
+    let asked = AskedLists::new(alloc, lists, rules)?;
+    let mut means = Means::new(alloc);
+    let findings = findings_of(&mut means, &asked)?;
     let removable = removable_of(alloc, &findings)?;
     Ok(Report {
         findings,
@@ -64,18 +67,13 @@ pub fn report_on(
 }
 
 /// What each line does, in order.
-fn findings_of(
-    means: &mut Means,
-    lists: &mut [List<GitIgnoreLines>],
-    rules: Rules,
-) -> Result<Vec<Finding>, AllocError>
-    requires { BasesAreFolders (seen lists.old) }
-    ensures found { IfOk result (λ findings. AreFindings rules (seen lists.old) (length lists.old) findings.items) }
-    ensures same { seen lists.new ≡ seen lists.old }
+fn findings_of(means: &mut Means, asked: &AskedLists<'_>) -> Result<Vec<Finding>, AllocError>
+    requires folders { BasesAreFolders (seen asked.now.lists.now) }
+    ensures { IfOk result (λ findings. AreFindings asked.now.rules (seen asked.now.lists.now) (length asked.now.lists.now) findings.items) }
 {
     let mut findings: Vec<Finding> = Vec::new(means.alloc);
-    'lists: for at in 0..lists.len() {
-        add_list(means, lists, at, rules, &mut findings)?;
+    'lists: for at in 0..asked.lists.len() {
+        add_list(means, asked, at, &mut findings)?;
     }
     Ok(findings)
 }
@@ -83,19 +81,19 @@ fn findings_of(
 /// Adds what each line of the list at a place does.
 fn add_list(
     means: &mut Means,
-    lists: &mut [List<GitIgnoreLines>],
+    asked: &AskedLists<'_>,
     at: usize,
-    rules: Rules,
     findings: &mut Vec<Finding>,
 ) -> Result<(), AllocError>
-    requires folders { BasesAreFolders (seen lists.old) }
-    requires inside { at < length lists.old }
-    ensures added { OnOk result (AddsFindings rules (seen lists.old) (λ pair. HasEntryAt (seen lists.old) pair × (pair.0 ≡ at)) findings.old.items findings.new.items) }
-    ensures same { seen lists.new ≡ seen lists.old }
+    requires folders { BasesAreFolders (seen asked.now.lists.now) }
+    requires inside { at < length asked.now.lists.now }
+    ensures { OnOk result (AddsFindings asked.now.rules (seen asked.now.lists.now) (λ pair. HasEntryAt (seen asked.now.lists.now) pair × (pair.0 ≡ at)) findings.old.items findings.new.items) }
 {
-    let count = lists[at].patterns.len();
-    'lines: for place in 0..count {
-        let effect = effect_of(means, lists, (at, place), rules)?;
+    let list = &asked.lists[at];
+    means.enter(asked.lists, list);
+    let patterns = list.patterns.as_slice();
+    'lines: for place in 0..patterns.len() {
+        let effect = effect_of(means, asked, (at, place))?;
         findings.push(Finding {
             pair: (at, place),
             effect,

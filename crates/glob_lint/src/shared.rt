@@ -75,7 +75,7 @@ fn behind_slash(text: &[u8]) -> &[u8] {
 }
 
 /// Whether a line matches a sample, the case of letters in its base counting.
-pub(crate) fn is_matched(line: &Line<'_>, sample: &Sample, rules: Rules) -> bool {
+fn is_matched(line: &Line<'_>, sample: &Sample, rules: Rules) -> bool {
     let rest = match line.base {
         Some(base) => sample.path.strip_prefix(base),
         None => Some(sample.path.as_slice()),

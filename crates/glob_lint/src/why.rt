@@ -7,15 +7,14 @@ ghost use Rattle.glob_lint.specs.Effects.{Before, IsWhy};
 ghost use Rattle.glob_lint.specs.Seen.{seen};
 ghost use Rattle.glob_lint.specs.Private.Reasons.{AlikeAt, AlikeFrom, IsReason};
 
+use crate::asked::AskedLists;
 use crate::below::ignored_folder_of;
-use crate::pairs::{
-    are_apart_at, comes_before, covers_at, is_matched_at, matches_nothing_at, samples_at,
-};
-use crate::samples::Sample;
+use crate::means::Means;
+use crate::pairs::{are_apart_at, comes_before, covers_at, matches_nothing_at, samples_at};
 use gix_glob::search::pattern::List;
 use glob_lines::GitIgnoreLines;
-use glob_lists::{ListStack, Rules};
-use std::alloc::{AllocError, Global};
+use glob_lists::{ListStack, RepositoryPath, Rules};
+use std::alloc::AllocError;
 
 /// Why a line makes no difference. A pair has the places of a list and of a line in it, both from 0.
 #[derive(Clone, Copy, Debug, PartialEq, Eq)]
@@ -32,76 +31,100 @@ pub enum Why {
 
 /// Why the line at a pair of places makes no difference; `None` where no reason is found.
 ///
+/// A folder above that is ignored needs no other line to stay, so it is asked for before the lines that cover this one.
+///
 /// # Errors
 /// Only where memory was refused.
 pub(crate) fn reason_of(
-    alloc: Global,
-    lists: &[List<GitIgnoreLines>],
+    means: &mut Means,
+    asked: &AskedLists<'_>,
     pair: (usize, usize),
-    rules: Rules,
 ) -> Result<Option<Why>, AllocError>
-    requires folders { BasesAreFolders (seen lists.now) }
-    requires there { HasEntryAt (seen lists.now) pair }
-    ensures { IfOk result (λ why. IfSome why (IsReason rules (seen lists.now) pair)) }
+    requires folders { BasesAreFolders (seen asked.now.lists.now) }
+    requires there { HasEntryAt (seen asked.now.lists.now) pair }
+    ensures { IfOk result (λ why. IfSome why (IsReason asked.now.rules (seen asked.now.lists.now) pair)) }
 {
-    if matches_nothing_at(lists, pair, rules) {
+    if matches_nothing_at(asked.lists, pair, asked.rules) {
         return Ok(Some(Why::MatchesNothing));
     }
-    if let Some(by) = cover_of(alloc, lists, pair, rules)? {
-        return Ok(Some(Why::Covered(by)));
-    }
-    if let Some(by) = ignored_folder_of(alloc, lists, pair, rules)? {
+    if let Some(by) = ignored_folder_of(means.alloc, asked, pair)? {
         return Ok(Some(Why::BelowIgnored(by)));
     }
-    if takes_nothing_back(lists, pair, rules) {
+    if let Some(by) = cover_of(means, asked, pair)? {
+        return Ok(Some(Why::Covered(by)));
+    }
+    if takes_nothing_back(asked.lists, pair, asked.rules) {
         return Ok(Some(Why::TakesNothingBack));
     }
     Ok(None)
 }
 
-/// The first line that matches all that the line at a pair of places does, so that this one makes no difference. Only lines that match a
-/// sample of it are asked.
+/// A line that matches all that the line at a pair of places does, so that this one makes no difference. Only lines that match a sample of
+/// it are asked.
 fn cover_of(
-    alloc: Global,
-    lists: &[List<GitIgnoreLines>],
+    means: &mut Means,
+    asked: &AskedLists<'_>,
     pair: (usize, usize),
-    rules: Rules,
 ) -> Result<Option<(usize, usize)>, AllocError>
-    requires { HasEntryAt (seen lists.now) pair }
-    ensures { IfOk result (λ by. IfSome by (λ by. IsReason rules (seen lists.now) pair (Covered by))) }
+    requires { HasEntryAt (seen asked.now.lists.now) pair }
+    ensures { IfOk result (λ by. IfSome by (λ by. IsReason asked.now.rules (seen asked.now.lists.now) pair (Covered by))) }
 {
-    let samples = samples_at(alloc, lists, pair, rules)?;
+    let samples = samples_at(means.alloc, asked.lists, pair, asked.rules)?;
     let Some(sample) = samples.first() else {
         return Ok(None);
     };
-    'lists: for at in 0..lists.len() {
-        if let Some(by) = cover_in(lists, at, pair, sample, rules) {
-            return Ok(Some(by));
-        }
-    }
-    Ok(None)
+    let Some(path) = RepositoryPath::new(&sample.path, sample.is_dir) else {
+        return Ok(None);
+    };
+    asked.matches_into(&path, &mut means.found)?;
+    Ok(best_cover(asked.lists, pair, &means.found, asked.rules))
 }
 
-/// The first such line of the list at a place.
-fn cover_in(
+/// Of some lines, in order, the one that serves best as such a reason; of several the first.
+fn best_cover(
     lists: &[List<GitIgnoreLines>],
-    at: usize,
     pair: (usize, usize),
-    sample: &Sample,
+    candidates: &[(usize, usize)],
     rules: Rules,
 ) -> Option<(usize, usize)>
-    requires there { HasEntryAt (seen lists.now) pair }
-    requires inside { at < length lists.now }
+    requires here { HasEntryAt (seen lists.now) pair }
+    requires there { (x : ℕ) (by : ℕ × ℕ) → slice_get candidates.now x ≡ Some by → HasEntryAt (seen lists.now) by }
     ensures { IfSome result (λ by. IsReason rules (seen lists.now) pair (Covered by)) }
 {
-    let patterns = lists[at].patterns.as_slice();
-    'lines: for place in 0..patterns.len() {
-        let by = (at, place);
-        if is_matched_at(lists, by, sample, rules) && is_covered(lists, pair, by, rules) {
-            return Some(by);
+    let mut best: Option<((usize, usize), usize)> = None;
+    'candidates: for x in 0..candidates.len() {
+        let by = candidates[x];
+        let rank = rank_of(lists, pair, by);
+        if is_below(rank, best) && is_covered(lists, pair, by, rules) {
+            best = Some((by, rank));
         }
     }
-    None
+    match best {
+        Some((by, _rank)) => Some(by),
+        None => None,
+    }
+}
+
+/// How well a line serves as a reason, 0 the best: one of the other sign needs no line to stay, and one of the same list is told first.
+fn rank_of(lists: &[List<GitIgnoreLines>], pair: (usize, usize), by: (usize, usize)) -> usize
+    requires here { HasEntryAt (seen lists.now) pair }
+    requires there { HasEntryAt (seen lists.now) by }
+{
+    if lists.is_negative(pair) != lists.is_negative(by) {
+        0
+    } else if pair.0 == by.0 {
+        1
+    } else {
+        2
+    }
+}
+
+/// Whether a rank is lower than the best one so far.
+fn is_below(rank: usize, best: Option<((usize, usize), usize)>) -> bool {
+    match best {
+        Some((_by, lowest)) => rank < lowest,
+        None => true,
+    }
 }
 
 /// Whether a line makes no difference because the one at `by` matches all that it does: a later one, or an earlier one of its sign, where

@@ -48,7 +48,7 @@ among_more (x ∷ xs) y i m h =
     ] h
 
 -- what isn't among the one nor the last isn't among both
-none_more : (xs : List (ℕ × ℕ)) (y : ℕ × ℕ) (i m : ℕ) → is_among xs i m ≡ false → ¬ (y ≡ (i, m)) → is_among (xs ++ y ∷ []) i m ≡ false
+pub none_more : (xs : List (ℕ × ℕ)) (y : ℕ × ℕ) (i m : ℕ) → is_among xs i m ≡ false → ¬ (y ≡ (i, m)) → is_among (xs ++ y ∷ []) i m ≡ false
 none_more xs y i m none other = ⊎_elim
     (λ (h : is_among (xs ++ y ∷ []) i m ≡ false). h)
     (λ (h : is_among (xs ++ y ∷ []) i m ≡ true). absurd (⊎_elim

@@ -49,6 +49,9 @@ module _ {T X : Type 0} where
       pub mapping_held : (mapping : Mapping X) → mapping ≡ get_or held.patterns.items pair.1 mapping → entry_of (λ _. tt) mapping ≡ entry
       mapping_held mapping mapping_is = same_Some (entry_of (λ _. tt) mapping) entry (sym (slice_get-map_at (entry_of (λ _. tt)) held.patterns.items pair.1 mapping within_list mapping_is) ∙ entry_held)
 
+    pub inside : HasEntryAt (seen lists) pair → pair.1 < length (get_or lists pair.0 held).patterns.items
+    inside there = subst (λ (l : patterns.List T X). pair.1 < length l.patterns.items) is (within_list there.0 there.1)
+
     pub has_entry : pair.0 < length lists → pair.1 < length (get_or lists pair.0 held).patterns.items → HasEntryAt (seen lists) pair
     has_entry within read =
         let inside = subst (λ (l : patterns.List T X). pair.1 < length l.patterns.items) (sym is) read in

@@ -14,7 +14,7 @@ use Rattle.glob_lint.specs.declared.report.Finding.{Finding}
 use Rattle.glob_lint.specs.Private.Findings.{AddsFindings, AreFindings, IsNamed, IsTold}
 use Rattle.glob_lint.specs.Seen.{seen}
 use Rattle.glob_lint.proofs.lemmas.Going.{is_effect}
-use Rattle.glob_lint.proofs.lemmas.OneLess.{inside}
+use Rattle.glob_lint.proofs.lemmas.Held.{inside}
 
 named_left : (xs ys : List Finding) (pair : ℕ × ℕ) → IsNamed xs pair → IsNamed (xs ++ ys) pair
 named_left xs ys pair (k, finding, within, is, same) =

@@ -1,5 +1,5 @@
 -- What is asked of lists about a path.
-use Rattle.std.specs.Prelude.{◌↔◌, ℕ, Bool, IsTrue, List, Option}
+use Rattle.std.specs.Prelude.{◌≡◌, ◌↔◌, ◌<◌, ℕ, Bool, IsTrue, List, MatchOption, Option, Some, slice_get}
 use Rattle.glob_lists.specs.declared.rules.Rules.{Rules}
 use Rattle.gix_glob.specs.EntryLists.{EntryList}
 use Rattle.glob_lists.specs.Paths.{Path}
@@ -15,3 +15,13 @@ module _ {V : Type 0} (lists : List (EntryList V)) (rules : Rules) (path : Path)
   -- whether the path is ignored
   abbrev pub IsIgnored : Bool → Type 0
   IsIgnored ignored = (pair : Option (ℕ × ℕ)) × DecidesSo pair ignored
+
+-- It is the last of the pairs that isn't this one. Where there is none, each of them is this one.
+pub record IsLastOther (found : List (ℕ × ℕ)) (pair last : ℕ × ℕ) : Type 0 where
+  pub place : ℕ
+  pub at : slice_get found place ≡ Some last
+  pub other : ¬ (last ≡ pair)
+  pub behind : (x : ℕ) (by : ℕ × ℕ) → place < x → slice_get found x ≡ Some by → by ≡ pair
+
+abbrev pub IsLastBut : List (ℕ × ℕ) → ℕ × ℕ → Option (ℕ × ℕ) → Type 0
+IsLastBut found pair last = MatchOption last ((x : ℕ) (by : ℕ × ℕ) → slice_get found x ≡ Some by → by ≡ pair) (IsLastOther found pair)

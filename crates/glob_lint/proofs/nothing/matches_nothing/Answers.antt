@@ -1,8 +1,7 @@
--- The tokens of the line match no path.
-use Rattle.glob_lint.specs.Private.Rows.{row_of}
-use Rattle.glob_lint.proofs.lemmas.Coverings.{none_met}
+-- What is seen of the fault holds.
+use Rattle.std.proofs.Common.{rules}
+use borrow.Author.Tests.{tests}
 use Rattle.glob_lint.proofs.nothing.matches_nothing.Goals as goal
 
-pub returns-in-Some : goal.returns-in-Some
-returns-in-Some c = λ yes.
-    none_met c.args.line.now (row_of c.in-Some.tokens) c.args.rules c.in-Git.is c.in-Some.ensures c.way_of.result c.way_of.ensures (c.match_no_path.ensures yes)
+pub returns : goal.returns
+returns c = λ yes. c.fault_of.ensures (search (rules, tests))

@@ -1,58 +1,53 @@
--- The line is taken out, and put back in its place.
-use Rattle.std.proofs.Common.{◌≡◌, ◌+◌, ◌<◌, ◌≤◌, true, false, not, length, get_or, sym, ap, subst, ◌∙◌, arith, rules}
-use Rattle.std.specs.Prelude.{IsOk, is_ok}
+-- The slashes are gone through from the front.
+use Rattle.std.proofs.Common.{◌≡◌, ◌<◌, inl, inr, [], ◌∷◌, Some, length, slice_index, take, refl, sym, subst, ◌∙◌}
 use Rattle.std.proofs.lemmas.Bool.{false≢true}
-use Rattle.std.specs.Vec.{vec_capacity, vec_len}
-use Rattle.std.proofs.lemmas.List.{length-set}
+use Rattle.std.proofs.lemmas.Result.{IfOk-weaker}
+use Rattle.gix_glob.specs.Bytes.{HasByte, slash}
+use Rattle.glob_trees.proofs.lemmas.Topmost.{all_passed, passed_byte, passed_slash, topmost_here}
 use Rattle.glob_lint.specs.Private.Asking.{IsIgnored}
-use Rattle.glob_lint.proofs.lemmas.OneLess.{changed_back, folders_changed, held_changed, inside, seen_changed, within}
+use Rattle.glob_lint.specs.Seen.{seen}
+use Rattle.glob_lint.specs.Without.{lists_but}
+use Rattle.glob_lint.proofs.lemmas.LastLeft.{ignored_by, none_ignores}
 use Rattle.glob_lint.proofs.trying.is_ignored_without.Goals as goal
+use Rattle.glob_lint.proofs.trying.is_ignored_without.Goals.{After-folder_before-folder}
 
-pub is_ignored-ignored-requires : goal.is_ignored-ignored-requires
-is_ignored-ignored-requires c =
-    folders_changed c.args.lists.now c.args.pair c.index-lists-pair.result c.index-lists-pair.is c.requires.there c.remove-line.new.self c.remove-line.ensures.items c.requires.folders
+-- the byte at the place is a slash
+slash_here : (c : After-folder_before-folder) → HasByte c.args.path.now.bytes c.places.place slash
+slash_here c = record {
+  inside = subst (λ l. c.places.place < length l) c.bytes-bytes.ensures c.places-test.true;
+  is = subst (λ l. slice_index l c.places.place ≡ slash) c.bytes-bytes.ensures c.if-bytes-place-ne47.false;
+}
 
-pub offset_bounds-lists-pair-2 : goal.offset_bounds-lists-pair-2
-offset_bounds-lists-pair-2 c =
-    let here : c.args.pair.0 < length c.args.lists.now = within c.args.lists.now c.args.pair c.index-lists-pair.result c.index-lists-pair.is c.requires.there in
-    search rules
+pub returns-then-is_ignored : goal.returns-then-is_ignored
+returns-then-is_ignored c =
+    let but = lists_but (c.args.pair ∷ []) 0 (seen c.args.asked.now.lists.now) in
+    let rules = c.args.asked.now.rules in
+    let path = c.args.path.now in
+    let told = rw c.folder_before-folder.ensures at c.in_ok-is_ignored.ensures in
+    let by = ignored_by but rules (take c.places.place path.bytes) told.0 told.1 (told.2.0 c.if-is_ignored.true) in
+    let here = slash_here (goal.at.returns-then-is_ignored c).After-folder_before-folder in
+    let top = topmost_here but rules path.bytes c.places.place c.places.invariant by.0 here by.1 in
+    (Some by.0, record { decides = inl (by.0, top.0, refl); sign = (λ h. by.1.1, λ h. refl) })
 
-pub bounds-lists-pair-2 : goal.bounds-lists-pair-2
-bounds-lists-pair-2 c =
-    let here : c.args.pair.0 < length c.args.lists.now = within c.args.lists.now c.args.pair c.index-lists-pair.result c.index-lists-pair.is c.requires.there in
-    simp length-set here
+pub places-preserved : goal.places-preserved
+places-preserved c =
+    let but = lists_but (c.args.pair ∷ []) 0 (seen c.args.asked.now.lists.now) in
+    let rules = c.args.asked.now.rules in
+    let path = c.args.path.now in
+    let told = rw c.folder_before-folder.ensures at c.in_ok-is_ignored.ensures in
+    passed_slash but rules path.bytes c.places.place c.places.invariant
+    (none_ignores but rules (take c.places.place path.bytes) told.0 told.1 (λ h. false≢true (sym c.if-is_ignored.false ∙ told.2.1 h)))
 
-pub insert-requires : goal.insert-requires
-insert-requires c =
-    let old = (get_or c.args.lists.now c.args.pair.0 c.index-lists-pair.result).patterns in
-    let back = held_changed c.args.lists.now c.args.pair c.index-lists-pair.result c.index-lists-pair.is c.requires.there c.remove-line.new.self c.remove-line.ensures.items c.index-lists-pair-2.result in
-    let here : c.args.pair.1 < length old.items = inside c.args.lists.now c.args.pair c.index-lists-pair.result c.index-lists-pair.is c.requires.there in
-    let count : vec_len old ≡ length old.items = old.ok.0 in
-    let less : vec_len c.remove-line.new.self + 1 ≡ vec_len old = c.remove-line.ensures.len in
-    let short : c.args.pair.1 ≤ vec_len c.remove-line.new.self = omega arith in
-    simp back short
+pub places-preserved-then-bytes-place-ne47 : goal.places-preserved-then-bytes-place-ne47
+places-preserved-then-bytes-place-ne47 c =
+    let but = lists_but (c.args.pair ∷ []) 0 (seen c.args.asked.now.lists.now) in
+    passed_byte but c.args.asked.now.rules c.args.path.now.bytes c.places.place c.places.invariant
+    (λ here. c.if-bytes-place-ne47.true (subst (λ l. slice_index l c.places.place ≡ slash) (sym c.bytes-bytes.ensures) here.is))
 
-pub unreachable-requires : goal.unreachable-requires
-unreachable-requires c =
-    let old = (get_or c.args.lists.now c.args.pair.0 c.index-lists-pair.result).patterns in
-    let left = c.remove-line.new.self in
-    let back = held_changed c.args.lists.now c.args.pair c.index-lists-pair.result c.index-lists-pair.is c.requires.there left c.remove-line.ensures.items c.index-lists-pair-2.result in
-    let fits : vec_len old ≤ vec_capacity old = old.ok.1 in
-    let less : vec_len left + 1 ≡ vec_len old = c.remove-line.ensures.len in
-    let room : vec_capacity left ≡ vec_capacity old = c.remove-line.ensures.capacity in
-    let free : vec_len left < vec_capacity left = omega arith in
-    let succeeds : IsOk c.insert.result = c.insert.ensures.succeeds (simp back free) in
-    let failed : is_ok c.insert.result ≡ false = c.is_err.ensures.negation ∙ ap not c.if-is_err.true in
-    false≢true (sym failed ∙ succeeds)
-
-pub returns-clause-asked : goal.returns-clause-asked
-returns-clause-asked c =
-    subst (λ lists. IsIgnored lists c.args.rules c.args.path.now c.is_ignored-ignored.result)
-    (seen_changed c.args.lists.now c.args.pair c.index-lists-pair.result c.index-lists-pair.is c.requires.there c.remove-line.new.self c.remove-line.ensures.items)
-    c.is_ignored-ignored.ensures
-
-pub returns-clause-same : goal.returns-clause-same
-returns-clause-same c =
-    changed_back c.args.lists.now c.args.pair c.index-lists-pair.result c.index-lists-pair.is c.requires.there c.remove-line.new.self c.remove-line.ensures.items
-    c.index-lists-pair-2.result c.insert.new.self c.remove-line.result c.remove-line.ensures.value
-    (let ok : is_ok c.insert.result ≡ true = c.is_err.ensures.negation ∙ ap not c.if-is_err.false in rw ok at c.insert.ensures.items)
+pub returns : goal.returns
+returns c =
+    let but = lists_but (c.args.pair ∷ []) 0 (seen c.args.asked.now.lists.now) in
+    let rules = c.args.asked.now.rules in
+    let path = c.args.path.now in
+    let none = all_passed but rules path.bytes c.places.place c.places.invariant (let past = c.places-test.false in rw c.bytes-bytes.ensures at past) in
+    IfOk-weaker c.ignores_without-2.result _ (IsIgnored but rules path) (λ ignored told. (told.0, record { decides = inr (none, told.1); sign = told.2 })) c.ignores_without-2.ensures

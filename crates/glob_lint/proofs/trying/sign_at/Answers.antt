@@ -9,12 +9,12 @@ use Rattle.glob_lint.proofs.trying.sign_at.Goals as goal
 
 pub returns : goal.returns
 returns c =
-    let lists = seen c.args.lists.now in
+    let lists = seen c.args.asked.now.lists.now in
     let first : c.in_ok-by.by.0 ≡ c.args.pair.0 = search (rules, tests) in
     let second : c.in_ok-by.by.1 ≡ c.args.pair.1 = search (rules, tests) in
     let same : c.in_ok-by.by ≡ c.args.pair = same_pair c.in_ok-by.by c.args.pair first second in
     let there : HasEntryAt lists c.args.pair = subst (HasEntryAt lists) same c.in_ok-by.ensures.inside in
     record {
-      decides = subst (λ pair. DecidesInTree lists c.args.path.now.bytes c.args.path.now.is_dir c.args.rules (Some pair)) same (c.in_ok-by.ensures.exact tt);
+      decides = subst (λ pair. DecidesInTree lists c.args.path.now.bytes c.args.path.now.is_dir c.args.asked.now.rules (Some pair)) same (c.in_ok-by.ensures.exact tt);
       sign = sign_of lists c.args.pair there c.is_negative.result (c.is_negative.ensures there.0 there.1);
     }

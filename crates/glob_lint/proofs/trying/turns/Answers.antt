@@ -12,18 +12,19 @@ use Rattle.glob_lint.specs.Without.{lists_but}
 use Rattle.glob_lint.proofs.lemmas.Held.{differ}
 use Rattle.glob_lint.proofs.trying.turns.Goals as goal
 
-pub returns-clause-told : goal.returns-clause-told
-returns-clause-told c = λ yes.
-    let lists = seen c.args.lists.now in
+pub returns : goal.returns
+returns c = λ yes.
+    let lists = seen c.args.asked.now.lists.now in
+    let by = c.args.asked.now.rules in
     let but = lists_but (c.args.pair ∷ []) 0 lists in
     let with_line = c.in-Some-sign_at.ensures in
-    let without : IsIgnored but c.args.rules c.in-Some.path c.is_ignored_without.result = c.is_ignored_without.ensures.asked in
+    let without : IsIgnored but by c.in-Some.path c.in_ok-without.without = c.in_ok-without.ensures in
     let path_is : c.in-Some.path ≡ record { bytes = c.args.bytes.now; is_dir = c.args.is_dir } = c.in-Some.ensures.1 in
     let real : IsReal c.args.bytes.now = search (rules, tests) in
     record {
       real = real;
-      decides = subst (λ (p : Path). DecidesInTree lists p.bytes p.is_dir c.args.rules (Some c.args.pair)) path_is with_line.decides;
+      decides = subst (λ (p : Path). DecidesInTree lists p.bytes p.is_dir by (Some c.args.pair)) path_is with_line.decides;
       other = without.0;
-      without = subst (λ (p : Path). DecidesInTree but p.bytes p.is_dir c.args.rules without.0) path_is without.1.decides;
-      turned = differ c.in-Some-sign_at.ignored c.is_ignored_without.result (Ignoring lists (Some c.args.pair)) (Ignoring but without.0) with_line.sign without.1.sign yes;
+      without = subst (λ (p : Path). DecidesInTree but p.bytes p.is_dir by without.0) path_is without.1.decides;
+      turned = differ c.in-Some-sign_at.ignored c.in_ok-without.without (Ignoring lists (Some c.args.pair)) (Ignoring but without.0) with_line.sign without.1.sign yes;
     }

@@ -3,8 +3,7 @@ use Rattle.std.proofs.Common.{◌<◌, length, below_more, sym, subst, rules, ar
 use borrow.Author.Tests.{tests}
 use Rattle.glob_lint.specs.Seen.{seen}
 use Rattle.glob_lint.specs.Private.Reasons.{AlikeAt}
-use Rattle.glob_lint.proofs.lemmas.Held.{has_entry}
-use Rattle.glob_lint.proofs.lemmas.OneLess.{inside}
+use Rattle.glob_lint.proofs.lemmas.Held.{has_entry, inside}
 use Rattle.glob_lint.proofs.why.are_alike_in.Goals as goal
 
 pub is_alike-requires-clause-here : goal.is_alike-requires-clause-here
