@@ -7,7 +7,7 @@ use Rattle.gix_glob.specs.EntryLists.{EntryList}
 use Rattle.gix_glob.specs.declared.pattern.Case.{Case}
 use Rattle.gix_glob.specs.declared.pattern.Case.TheVariants.{Fold, Sensitive}
 use Rattle.byte_streams.specs.Transfers.{ReadsWhole, Run}
-use Rattle.byte_streams.specs.Records.{AnswersAll}
+use Rattle.byte_streams.specs.Records.{AnswersAll, TextOf}
 use Rattle.glob_lists.specs.Rules.{by_git}
 use Rattle.glob_trees.specs.Ways.{Folder}
 use Rattle.pathspecs.specs.Leading.{word_front, word_leads}
@@ -17,9 +17,10 @@ use Rattle.git_paths.specs.declared.quoting.Quoting.{Quoting}
 use Rattle.git_paths.specs.declared.quoting.Quoting.TheVariants.{Full}
 use Rattle.git_paths.specs.declared.standpoint.Standpoint.{Standpoint}
 use Rattle.tree_answers.specs.Lines.{behind}
-use Rattle.tree_commands.specs.Answering.{TextOfNamed, TextOfPaths, Writes}
+use Rattle.tree_answers.specs.Records.{IsTextOf}
+use Rattle.tree_commands.specs.Answering.{TextOfNamed, Writes}
 use Rattle.tree_commands.specs.CheckAttr.{IsStatesText, Query, all, named}
-use Rattle.tree_commands.specs.CheckIgnore.{IsIgnoreAnswer, IsStatus, Question}
+use Rattle.tree_commands.specs.CheckIgnore.{IsIgnoreText, Question}
 use Rattle.tree_files.specs.FileLists.{IsOfFolder, IsSpelled}
 use Rattle.globtree.specs.declared.words.Command.{Command}
 use Rattle.globtree.specs.declared.words.Command.TheVariants as command
@@ -51,11 +52,11 @@ pub record AreFronts (count : ℕ) (lists : List (EntryList (Unit {0}))) : Type 
 abbrev pub ReadsIgnore : Question → Bool → Option (List ℕ) → Option (List ℕ) → Option (List ℕ) → Option (List ℕ) → Type 0
 ReadsIgnore question is_any left rest old new =
     Run (ReadsWhole left rest)
-    (AnswersAll (TextOfNamed (IsIgnoreAnswer question IsOfFolder) (IsStatus question IsOfFolder is_any) question.flags.form) (behind question.flags.form 10)) (Appends old new)
+    (AnswersAll (TextOfNamed (IsIgnoreText question IsOfFolder is_any) question.flags.form) (behind question.flags.form 10)) (Appends old new)
 
 -- the text about each of these paths was written
 abbrev pub TellsIgnore : Question → List (List ℕ) → Bool → Option (List ℕ) → Option (List ℕ) → Type 0
-TellsIgnore question paths is_any old new = Writes (TextOfPaths (IsIgnoreAnswer question IsOfFolder) (IsStatus question IsOfFolder is_any) paths) (Appends old new)
+TellsIgnore question paths is_any old new = Writes (IsIgnoreText question IsOfFolder is_any paths) (Appends old new)
 
 -- the bytes of words
 abbrev pub bytes_of : List (Bor (List ℕ)) → List (List ℕ)
@@ -86,11 +87,11 @@ any_file folder file = Unit {0}
 -- the states for each path that the input names were written, and all of it was read
 abbrev pub ReadsStates : Query → Option (List ℕ) → Option (List ℕ) → Option (List ℕ) → Option (List ℕ) → Type 0
 ReadsStates query left rest old new =
-    Run (ReadsWhole left rest) (AnswersAll (TextOfNamed (IsStatesText query any_file) (λ _. Unit {0}) query.form) (behind query.form 10)) (Appends old new)
+    Run (ReadsWhole left rest) (AnswersAll (TextOf (IsTextOf (IsStatesText query any_file) query.form)) (behind query.form 10)) (Appends old new)
 
 -- the states for each of these paths were written
 abbrev pub TellsStates : Query → List (List ℕ) → Option (List ℕ) → Option (List ℕ) → Type 0
-TellsStates query paths old new = Writes (TextOfPaths (IsStatesText query any_file) (λ _. Unit {0}) paths) (Appends old new)
+TellsStates query paths old new = Writes (TextOf (IsStatesText query any_file) paths) (Appends old new)
 
 -- What `check-attr` is asked was answered in the same way, by the states of all attributes, or of those that are named.
 pub record AnswersAttr (options : Options) (asked : CheckAttr) (left rest old new : Option (List ℕ)) : Type 0 where

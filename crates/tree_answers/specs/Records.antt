@@ -1,6 +1,6 @@
 -- Which path a record names, and what may be written for it.
 use Rattle.std.specs.Prelude.{◌≡◌, ◌⊎◌, ℕ, Bool, false, true, ◌==◌, nat_eq, List, Some, codes}
-use Rattle.std.specs.List.{AllByRecursion, AllZip, before_first, starts_with}
+use Rattle.std.specs.List.{before_first, starts_with}
 use Rattle.glob_attributes.specs.Heads.{IsQuotedHead}
 use Rattle.git_paths.specs.Paths.{below, names_folder, parts_of, walk}
 use Rattle.tree_answers.specs.declared.form.Form.{Form}
@@ -33,7 +33,3 @@ NamesPath form bytes told =
 -- the text of the path that a record names: `Answers told text` says what may be written for a told path
 abbrev pub IsTextOf : (List ℕ → List ℕ → Type 0) → Form → List ℕ → List ℕ → Type 0
 IsTextOf Answers form bytes text = (told : List ℕ) × NamesPath form bytes told × Answers told text
-
--- the account of told paths is of those that these records name, in order
-abbrev pub AccountsFor : (List (List ℕ) → Type 0) → Form → List (List ℕ) → Type 0
-AccountsFor Answered form records = (all : List (List ℕ)) × AllZip (NamesPath form) records all × Answered all

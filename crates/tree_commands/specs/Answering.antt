@@ -1,17 +1,14 @@
 -- Told paths that are answered one after the other: those that records name, or those of words.
 use Rattle.std.specs.Prelude.{◌≡◌, ℕ, Bool, if◌then◌else◌, List, [], ◌∷◌, ◌++◌, Option}
 use Rattle.std.specs.Io.KnownBytes.{Appends}
+use Rattle.std.specs.List.{AllZip}
 use Rattle.byte_streams.specs.Records.{TextOf}
 use Rattle.tree_answers.specs.declared.form.Form.{Form}
-use Rattle.tree_answers.specs.Records.{AccountsFor, IsTextOf}
+use Rattle.tree_answers.specs.Records.{NamesPath}
 
--- the text is that of the paths that the records name, in order, and the account is of these paths
-abbrev pub TextOfNamed : (List ℕ → List ℕ → Type 0) → (List (List ℕ) → Type 0) → Form → List (List ℕ) → List ℕ → Type 0
-TextOfNamed Answers Answered form records text = TextOf (IsTextOf Answers form) records text × AccountsFor Answered form records
-
--- the text is that of these paths, and the account is of them
-abbrev pub TextOfPaths : (List ℕ → List ℕ → Type 0) → (List (List ℕ) → Type 0) → List (List ℕ) → List ℕ → Type 0
-TextOfPaths Answers Answered paths text = TextOf Answers paths text × Answered paths
+-- the text is that of the paths that the records name, in order: `IsText paths text` says which text is that of told paths
+abbrev pub TextOfNamed : (List (List ℕ) → List ℕ → Type 0) → Form → List (List ℕ) → List ℕ → Type 0
+TextOfNamed IsText form records text = (paths : List (List ℕ)) × AllZip (NamesPath form) records paths × IsText paths text
 
 -- a text that is allowed was written
 abbrev pub Writes : (List ℕ → Type 0) → (List ℕ → Type 0) → Type 0

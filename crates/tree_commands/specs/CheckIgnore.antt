@@ -1,6 +1,6 @@
 -- Which line decides about a told path, and what `check-ignore` writes about it.
 use Rattle.std.specs.Prelude.{◌≡◌, ◌≢◌, ◌⊎◌, ℕ, ◌+◌, ◌<◌, Bool, true, false, ◌&&◌, ◌||◌, not, if◌then◌else◌, List, [], ◌∷◌, ◌++◌, drop, length, map, slice_get, take, Option, None, Some, IfSome, MatchOption, is_some}
-use Rattle.std.specs.List.{AllZip, list_any}
+use Rattle.std.specs.List.{AllZip, flat_map, list_any, zip}
 use Rattle.std.specs.Option.{unwrap_or}
 use Rattle.git_index.specs.Entries.{Tracked}
 use Rattle.gix_glob.specs.Bytes.{slash}
@@ -146,10 +146,12 @@ text_about flags told line = if not flags.quiet && (is_some line || flags.non_ma
 abbrev pub IsIgnoreAnswer : Question → (Folder → EntryList (Unit {0}) → Type 0) → List ℕ → List ℕ → Type 0
 IsIgnoreAnswer question shows told text = (line : Option Decision) × IsLineFor question shows told line × (text ≡ text_about question.flags told (counted question.flags.verbose line))
 
--- whether a line that counts decides about some of the told paths
-abbrev pub IsStatus : Question → (Folder → EntryList (Unit {0}) → Type 0) → Bool → List (List ℕ) → Type 0
-IsStatus question shows is_any paths =
-    (lines : List (Option Decision)) × AllZip (IsLineFor question shows) paths lines × (is_any ≡ list_any (λ line. is_some (counted question.flags.verbose line)) lines)
+-- The text about told paths, in order, and whether a line that counts decides about some of them: both by the same lines.
+pub record IsIgnoreText (question : Question) (shows : Folder → EntryList (Unit {0}) → Type 0) (is_any : Bool) (paths : List (List ℕ)) (text : List ℕ) : Type 0 where
+  pub lines : List (Option Decision)
+  pub each : AllZip (IsLineFor question shows) paths lines
+  pub written : text ≡ flat_map (λ at. text_about question.flags at.0 (counted question.flags.verbose at.1)) (zip paths lines)
+  pub any : is_any ≡ list_any (λ line. is_some (counted question.flags.verbose line)) lines
 
 -- what a told path may get a fault for: that it leads out of the work tree or into a submodule, spells no path, or has no bytes, only
 -- where it is so

@@ -1,7 +1,7 @@
--- What may be written for a record, and what is kept account of.
-use Rattle.std.proofs.Common.{◌≡◌, inl, inr, ⊎_elim, ℕ, Bool, true, false, List, [], ◌∷◌, ◌++◌, Result, Ok, Err, OnOk, sym, refl, ap, subst, ◌∙◌, codes, nat_eq, append-nil}
+-- What may be written for a record.
+use Rattle.std.proofs.Common.{◌≡◌, inl, ⊎_elim, ℕ, Bool, true, false, List, [], ◌∷◌, sym, refl, ap, ◌∙◌, codes, nat_eq}
 use Rattle.std.specs.Prelude.{◌||◌}
-use Rattle.std.specs.List.{AllZip, before_first, list_any, starts_with}
+use Rattle.std.specs.List.{before_first, list_any, starts_with}
 use Rattle.std.proofs.lemmas.Bool.{cases_Bool, false≢true}
 use Rattle.std.proofs.lemmas.Bool.Decides.{Decides-eqb}
 use Rattle.std.proofs.lemmas.Slice.Eq.{starts_is}
@@ -10,7 +10,7 @@ use Rattle.git_paths.specs.declared.quoting.Quoting.TheVariants.{Full}
 use Rattle.git_paths.specs.Quoting.{is_unusual}
 use Rattle.tree_answers.specs.declared.form.Form.{Form}
 use Rattle.tree_answers.specs.declared.form.Form.TheVariants.{Lines, Records}
-use Rattle.tree_answers.specs.Records.{AccountsFor, IsTextOf, NamesPath, begins_with_quote, is_zero}
+use Rattle.tree_answers.specs.Records.{NamesPath, begins_with_quote, is_zero}
 use Rattle.glob_attributes.proofs.lemmas.ZeroLemmas.{before_none}
 
 neither : (a b : Bool) → (a || b) ≡ false → (a ≡ false) × (b ≡ false)

@@ -1,9 +1,10 @@
 -- What is answered of paths in turn.
 use Rattle.std.proofs.Common.{◌≡◌, ℕ, suc, ◌+◌, ◌<◌, List, [], ◌∷◌, ◌++◌, map, take, drop, length, get_or, refl, sym, ap, ◌∙◌}
 use Rattle.std.proofs.Math.Seq.{drop-cons}
+use Rattle.std.specs.List.{AllZip, zip}
 use Rattle.std.proofs.lemmas.List.{map-append, take-append-drop, take_more}
 use Rattle.byte_streams.specs.Records.{TextOf}
-use Rattle.byte_streams.proofs.lemmas.RecordLemmas.{AllZip-append, TextOf-more, TextOf-one, TextOf-weaker}
+use Rattle.byte_streams.proofs.lemmas.RecordLemmas.{TextOf-more, TextOf-one, TextOf-weaker}
 use Rattle.tree_answers.specs.declared.form.Form.{Form}
 use Rattle.tree_answers.specs.Records.{IsTextOf, NamesPath}
 use Rattle.tree_commands.specs.Answering.{TextOfNamed}
@@ -27,17 +28,22 @@ module _ (Before After : List ℕ → List ℕ → Type 0) (stays : (told text :
   pub text_more : (first : List (List ℕ)) (text : List ℕ) → TextOf Before first text → (told added : List ℕ) → After told added → TextOf After (first ++ told ∷ []) (text ++ added)
   text_more first text texts told added answer = TextOf-more After first (told ∷ []) text added (TextOf-weaker Before After stays first text texts) (TextOf-one After told added answer)
 
-  pub named_stays : (form : Form) (bytes text : List ℕ) → IsTextOf Before form bytes text → IsTextOf After form bytes text
-  named_stays form bytes text (told, names, answer) = (told, names, stays told text answer)
+-- what is written of the paths that records name is written of the records
+module _ (Answers : List ℕ → List ℕ → Type 0) (form : Form) where
+  each_named : (records paths written : List (List ℕ)) → AllZip (NamesPath form) records paths → AllZip Answers paths written → AllZip (IsTextOf Answers form) records written
+  each_named [] [] [] names answers = tt
+  each_named [] [] (text ∷ written) names answers = absurd answers
+  each_named [] (told ∷ paths) written names answers = absurd names
+  each_named (bytes ∷ records) [] written names answers = absurd names
+  each_named (bytes ∷ records) (told ∷ paths) [] names answers = absurd answers
+  each_named (bytes ∷ records) (told ∷ paths) (text ∷ written) names answers = ((told, names.0, answers.0), each_named records paths written names.1 answers.1)
 
--- the same, where nothing is kept in mind of the paths
-module _ (Answers : List ℕ → List ℕ → Type 0) where
-  pub none_told : (form : Form) → TextOfNamed Answers (λ _. Unit {0}) form [] []
-  none_told form = (record { written = []; each = tt; joined = refl }, ([], tt, tt))
+  pub texts_named : (records : List (List ℕ)) (text : List ℕ) → TextOfNamed (TextOf Answers) form records text → TextOf (IsTextOf Answers form) records text
+  texts_named records text (paths, names, texts) = record { written = texts.written; each = each_named records paths texts.written names texts.each; joined = texts.joined }
 
-  pub one_more_told : (form : Form) (bytes added : List ℕ) → IsTextOf Answers form bytes added → (records : List (List ℕ)) (text : List ℕ) → TextOfNamed Answers (λ _. Unit {0}) form records text
-      → TextOfNamed Answers (λ _. Unit {0}) form (records ++ bytes ∷ []) (text ++ added)
-  one_more_told form bytes added (told, names, answer) records text (texts, (paths, each, none)) = (
-    text_more (IsTextOf Answers form) (IsTextOf Answers form) (λ _ _ same. same) records text texts bytes added (told, names, answer),
-    (paths ++ told ∷ [], AllZip-append (NamesPath form) records (bytes ∷ []) paths (told ∷ []) each (names, tt), tt),
-  )
+-- the elements of two lists beside those of two others
+pub zip_joined : {X Y : Type 0} (R : X → Y → Type 0) (xs zs : List X) (ys ws : List Y) → AllZip R xs ys → zip (xs ++ zs) (ys ++ ws) ≡ zip xs ys ++ zip zs ws
+zip_joined R [] zs [] ws each = refl
+zip_joined R [] zs (y ∷ ys) ws each = absurd each
+zip_joined R (x ∷ xs) zs [] ws each = absurd each
+zip_joined R (x ∷ xs) zs (y ∷ ys) ws each = ap (λ pairs. (x, y) ∷ pairs) (zip_joined R xs zs ys ws each.1)

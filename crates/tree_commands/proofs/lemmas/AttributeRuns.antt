@@ -11,7 +11,7 @@ use Rattle.byte_streams.proofs.lemmas.StreamLemmas.{AppendsFront-whole}
 use Rattle.byte_streams.specs.Runs.{EndsRun}
 use Rattle.tree_commands.specs.Answering.{IsTextOfFirst, Writes}
 
-none_answered : (Answers : List ℕ → List ℕ → Type 0) → TextOf Answers [] []
+pub none_answered : (Answers : List ℕ → List ℕ → Type 0) → TextOf Answers [] []
 none_answered Answers = record { written = []; each = tt; joined = refl }
 
 module _ (Answers : List ℕ → List ℕ → Type 0) (end : ℕ) (left old : Option (List ℕ)) where

@@ -1,10 +1,11 @@
 -- The line that decides about a told path, and what is kept account of, as what the source shows grows.
-use Rattle.std.proofs.Common.{◌≡◌, ◌⊎◌, inl, inr, ◌≢◌, ℕ, ◌≤◌, ◌==◌, Bool, true, false, ◌||◌, List, [], ◌∷◌, ◌++◌, map, take, Option, None, Some, IfNone, IfOk, IfSome, IsTrue, ◌↔◌, Result, Ok, Err, IsErr, refl, sym, ap, subst, ◌∙◌, length, append-nil, arith}
+use Rattle.std.proofs.Common.{◌≡◌, inl, inr, ◌≢◌, ℕ, ◌≤◌, ◌==◌, Bool, true, false, ◌||◌, List, [], ◌∷◌, ◌++◌, map, take, Option, None, Some, IfNone, IfOk, IfSome, IsTrue, ◌↔◌, Result, refl, sym, ap, subst, ◌∙◌, length, append-nil, arith}
 use Rattle.std.specs.Borrow.{Bor}
 use Rattle.std.specs.Prelude.{is_some, slice_get}
-use Rattle.std.specs.List.{list_any}
+use Rattle.std.specs.List.{AllZip, flat_map, list_any, zip}
 use Rattle.std.proofs.lemmas.Bool.{eqb-true, false≢true}
 use Rattle.std.proofs.lemmas.List.{take-map}
+use Rattle.std.proofs.lemmas.Grind.{flat_map-append}
 use Rattle.std.proofs.lemmas.List.Folds.{list_any-append}
 use Rattle.std.proofs.lemmas.Result.{IfOk-weaker}
 use Rattle.git_index.specs.Entries.{Tracked}
@@ -15,7 +16,7 @@ use Rattle.glob_lists.specs.Paths.{IsPlainPath}
 use Rattle.glob_trees.specs.TreeParts.{HasMappingAt, TreeParts}
 use Rattle.glob_trees.specs.Ways.{AreOnTheWay, Folder, IsListOf}
 use Rattle.byte_streams.specs.Records.{TextOf}
-use Rattle.byte_streams.proofs.lemmas.RecordLemmas.{AllZip-append, AllZip-weaker, TextOf-weaker}
+use Rattle.byte_streams.proofs.lemmas.RecordLemmas.{AllZip-append, AllZip-weaker, TextOf-more, TextOf-one}
 use Rattle.pathspecs.specs.Leading.{word_front, word_leads}
 use Rattle.git_paths.specs.declared.standpoint.Standpoint.{Standpoint}
 use Rattle.git_paths.specs.Paths.{parts_of, walk}
@@ -28,12 +29,12 @@ use Rattle.tree_answers.specs.declared.records.NameFault.{NameFault}
 use Rattle.tree_answers.specs.declared.records.NameFault.TheVariants as name
 use Rattle.tree_answers.specs.Records.{IsTextOf, NamesPath}
 use Rattle.tree_commands.specs.declared.check_ignore.fault.IgnoreFault.{IgnoreFault}
-use Rattle.tree_commands.specs.Answering.{TextOfNamed, TextOfPaths}
+use Rattle.tree_commands.specs.Answering.{TextOfNamed}
 use Rattle.tree_commands.specs.Private.Asking.{IsRecordFault, TellsLine}
 use Rattle.tree_commands.specs.Private.Faults.{IsOfName}
-use Rattle.tree_commands.specs.CheckIgnore.{IsDeciding, IsDecidingForTop, IsIgnoreAnswer, IsLineAt, IsLineFor, IsLineIn, IsLineOf, IsStatus, Known, LeadsTo, Question, Refuses, asked_path, counted, question_of, text_about, told_path}
+use Rattle.tree_commands.specs.CheckIgnore.{IsDeciding, IsDecidingForTop, IsIgnoreAnswer, IsIgnoreText, IsLineAt, IsLineFor, IsLineIn, IsLineOf, Known, LeadsTo, Question, Refuses, asked_path, counted, question_of, text_about, told_path}
 use Rattle.tree_commands.specs.Private.Finding.{Finds, FindsIn, FindsTold, IsFound, IsFoundForTop, KeepsTree, lists_of}
-use Rattle.tree_commands.proofs.lemmas.AnswerLemmas.{named_stays, text_more}
+use Rattle.tree_commands.proofs.lemmas.AnswerLemmas.{texts_named, zip_joined}
 use Rattle.tree_commands.proofs.lemmas.FindingLemmas.{stands_for_top, stands_there}
 
 -- ---- what leads where it is told
@@ -112,53 +113,52 @@ module _ (before after : Folder → EntryList (Unit {0}) → Type 0) (on : (fold
       decided = held_stays (question.literal told) (told_path told h.path) (question.known.kind_of h.path) line h.decided;
     }
 
-    pub answers_stay : (told text : List ℕ) → IsIgnoreAnswer question before told text → IsIgnoreAnswer question after told text
-    answers_stay told text (line, for, same) = (line, line_stays told line for, same)
+    each_stays : (paths : List (List ℕ)) (lines : List (Option Decision)) → AllZip (IsLineFor question before) paths lines → AllZip (IsLineFor question after) paths lines
+    each_stays = AllZip-weaker (IsLineFor question before) (IsLineFor question after) line_stays
 
-    status_stays : (is_any : Bool) (paths : List (List ℕ)) → IsStatus question before is_any paths → IsStatus question after is_any paths
-    status_stays is_any paths (lines, each, same) = (lines, AllZip-weaker (IsLineFor question before) (IsLineFor question after) line_stays paths lines each, same)
+    -- ---- what is told of paths
 
-    -- one path more was answered
-    status_grows : (was_any : Bool) (paths : List (List ℕ)) (told : List ℕ) (line : Option Decision) → IsLineFor question after told line
-        → IsStatus question before was_any paths → IsStatus question after (was_any || is_some (counted question.flags.verbose line)) (paths ++ told ∷ [])
-    status_grows was_any paths told line for (lines, each, same) =
-        let stays = AllZip-weaker (IsLineFor question before) (IsLineFor question after) line_stays paths lines each in
-        let any : list_any (λ l. is_some (counted question.flags.verbose l)) (lines ++ line ∷ []) ≡ (list_any (λ l. is_some (counted question.flags.verbose l)) lines || list_any (λ l. is_some (counted question.flags.verbose l)) (line ∷ []))
-        = list_any-append (λ l. is_some (counted question.flags.verbose l)) lines (line ∷ []) in (
-          lines ++ line ∷ [],
-          AllZip-append (IsLineFor question after) paths (told ∷ []) lines (line ∷ []) stays (for, tt),
-          ap (λ (b : Bool). b || is_some (counted question.flags.verbose line)) same
-              ∙ (ap (λ (b : Bool). list_any (λ l. is_some (counted question.flags.verbose l)) lines || b) (sym (or_false (is_some (counted question.flags.verbose line))))
-              ∙ sym any),
-        )
+    abbrev counts : Option Decision → Bool
+    counts line = is_some (counted question.flags.verbose line)
 
-    module _ (told : List ℕ) (line : Option Decision) (decides : IsLineFor question after told line) (was_any is_any : Bool) (any : is_any ≡ (was_any || is_some (counted question.flags.verbose line))) where
-      pub word_told : (paths : List (List ℕ)) (text : List ℕ) → TextOfPaths (IsIgnoreAnswer question before) (IsStatus question before was_any) paths text
-          → TextOfPaths (IsIgnoreAnswer question after) (IsStatus question after is_any) (paths ++ told ∷ []) (text ++ text_about question.flags told (counted question.flags.verbose line))
-      word_told paths text (texts, status) = (
-        text_more (IsIgnoreAnswer question before) (IsIgnoreAnswer question after) answers_stay paths text texts told (text_about question.flags told (counted question.flags.verbose line)) (line, decides, refl),
-        subst (λ (b : Bool). IsStatus question after b (paths ++ told ∷ [])) (sym any) (status_grows was_any paths told line decides status),
-      )
+    abbrev about : List ℕ × Option Decision → List ℕ
+    about at = text_about question.flags at.0 (counted question.flags.verbose at.1)
 
-      pub record_told : (form : Form) (bytes : List ℕ) → NamesPath form bytes told → (records : List (List ℕ)) (text : List ℕ) → TextOfNamed (IsIgnoreAnswer question before) (IsStatus question before was_any) form records text
-          → TextOfNamed (IsIgnoreAnswer question after) (IsStatus question after is_any) form (records ++ bytes ∷ []) (text ++ text_about question.flags told (counted question.flags.verbose line))
-      record_told form bytes names records text (texts, (paths, each, status)) = (
-        text_more (IsTextOf (IsIgnoreAnswer question before) form) (IsTextOf (IsIgnoreAnswer question after) form) (named_stays (IsIgnoreAnswer question before) (IsIgnoreAnswer question after) answers_stay form) records text texts bytes
-            (text_about question.flags told (counted question.flags.verbose line)) (told, names, (line, decides, refl)),
-        (
-          paths ++ told ∷ [],
-          AllZip-append (NamesPath form) records (bytes ∷ []) paths (told ∷ []) each (names, tt),
-          subst (λ (b : Bool). IsStatus question after b (paths ++ told ∷ [])) (sym any) (status_grows was_any paths told line decides status),
-        ),
-      )
+    -- further paths were told
+    pub told_more : (was_any is_counted : Bool) (paths more : List (List ℕ)) (text added : List ℕ) → IsIgnoreText question before was_any paths text → IsIgnoreText question after is_counted more added
+        → IsIgnoreText question after (was_any || is_counted) (paths ++ more) (text ++ added)
+    told_more was_any is_counted paths more text added first next = record {
+      lines = first.lines ++ next.lines;
+      each = AllZip-append (IsLineFor question after) paths more first.lines next.lines (each_stays paths first.lines first.each) next.each;
+      written = ap (λ l. l ++ added) first.written
+          ∙ (ap (λ l. flat_map about (zip paths first.lines) ++ l) next.written
+          ∙ sym (ap (flat_map about) (zip_joined (IsLineFor question before) paths more first.lines next.lines first.each) ∙ flat_map-append about (zip paths first.lines) (zip more next.lines)));
+      any = ap (λ (b : Bool). b || is_counted) first.any ∙ (ap (λ (b : Bool). list_any counts first.lines || b) next.any ∙ sym (list_any-append counts first.lines next.lines));
+    }
 
-    -- what was told of records stays so, whatever the status is
-    pub records_stay : (is_any : Bool) (form : Form) (records : List (List ℕ)) (text : List ℕ) → TextOfNamed (IsIgnoreAnswer question before) (IsStatus question before is_any) form records text → TextOf (IsTextOf (IsIgnoreAnswer question after) form) records text
-    records_stay is_any form records text told =
-        TextOf-weaker (IsTextOf (IsIgnoreAnswer question before) form) (IsTextOf (IsIgnoreAnswer question after) form) (named_stays (IsIgnoreAnswer question before) (IsIgnoreAnswer question after) answers_stay form) records text told.0
+    module _ (was_any is_any is_counted : Bool) (told added : List ℕ) (any : is_any ≡ (was_any || is_counted)) (next : IsIgnoreText question after is_counted (told ∷ []) added) where
+      pub word_told : (paths : List (List ℕ)) (text : List ℕ) → IsIgnoreText question before was_any paths text → IsIgnoreText question after is_any (paths ++ told ∷ []) (text ++ added)
+      word_told paths text first = subst (λ (b : Bool). IsIgnoreText question after b (paths ++ told ∷ []) (text ++ added)) (sym any) (told_more was_any is_counted paths (told ∷ []) text added first next)
 
-    pub words_stay : (is_any : Bool) (paths : List (List ℕ)) (text : List ℕ) → TextOfPaths (IsIgnoreAnswer question before) (IsStatus question before is_any) paths text → TextOf (IsIgnoreAnswer question after) paths text
-    words_stay is_any paths text told = TextOf-weaker (IsIgnoreAnswer question before) (IsIgnoreAnswer question after) answers_stay paths text told.0
+      pub record_told : (form : Form) (bytes : List ℕ) → NamesPath form bytes told → (records : List (List ℕ)) (text : List ℕ) → TextOfNamed (IsIgnoreText question before was_any) form records text
+          → TextOfNamed (IsIgnoreText question after is_any) form (records ++ bytes ∷ []) (text ++ added)
+      record_told form bytes names records text (paths, each, first) =
+          (paths ++ told ∷ [], AllZip-append (NamesPath form) records (bytes ∷ []) paths (told ∷ []) each (names, tt), word_told paths text first)
+
+    -- each path has its text, whatever the status is
+    texts_of : (paths : List (List ℕ)) (lines : List (Option Decision)) → AllZip (IsLineFor question before) paths lines → TextOf (IsIgnoreAnswer question after) paths (flat_map about (zip paths lines))
+    texts_of [] [] each = record { written = []; each = tt; joined = refl }
+    texts_of [] (line ∷ lines) each = absurd each
+    texts_of (told ∷ paths) [] each = absurd each
+    texts_of (told ∷ paths) (line ∷ lines) each =
+        TextOf-more (IsIgnoreAnswer question after) (told ∷ []) paths (about (told, line)) (flat_map about (zip paths lines))
+        (TextOf-one (IsIgnoreAnswer question after) told (about (told, line)) (line, line_stays told line each.0, refl)) (texts_of paths lines each.1)
+
+    pub words_stay : (is_any : Bool) (paths : List (List ℕ)) (text : List ℕ) → IsIgnoreText question before is_any paths text → TextOf (IsIgnoreAnswer question after) paths text
+    words_stay is_any paths text told = subst (TextOf (IsIgnoreAnswer question after) paths) (sym told.written) (texts_of paths told.lines told.each)
+
+    pub records_stay : (is_any : Bool) (form : Form) (records : List (List ℕ)) (text : List ℕ) → TextOfNamed (IsIgnoreText question before is_any) form records text → TextOf (IsTextOf (IsIgnoreAnswer question after) form) records text
+    records_stay is_any form records text (paths, names, told) = texts_named (IsIgnoreAnswer question after) form records text (paths, names, words_stay is_any paths text told)
 
 -- ---- the question stays
 
@@ -211,6 +211,16 @@ module _ {S T X : Type 0} (shows : S → Folder → EntryList (Unit {0}) → Typ
 
   pub told_there : (question : Question) (told : List ℕ) (pair : Option (ℕ × ℕ)) → FindsTold shows question told tree pair → IfSome pair (HasMappingAt tree.lists)
   told_there question told pair finds = in_there question.tracked (question.literal told) (told_path told finds.path) (question.known.kind_of finds.path) pair finds.found
+
+-- the line for a path tells it
+one_told : (question : Question) (shows : Folder → EntryList (Unit {0}) → Type 0) (told : List ℕ) (line : Option Decision) → IsLineFor question shows told line
+    → IsIgnoreText question shows (is_some (counted question.flags.verbose line)) (told ∷ []) (text_about question.flags told (counted question.flags.verbose line))
+one_told question shows told line decides = record {
+  lines = line ∷ [];
+  each = (decides, tt);
+  written = sym (append-nil (text_about question.flags told (counted question.flags.verbose line)));
+  any = sym (or_false (is_some (counted question.flags.verbose line)));
+}
 
 module _ {S T X : Type 0} (shows : S → Folder → EntryList (Unit {0}) → Type 0) (tree : TreeParts S T X) (standpoint : Standpoint) (flags : IgnoreFlags) (tracked : List Tracked) (so_far : Known) (told : List ℕ) (pair : Option (ℕ × ℕ)) (line : Option Decision) where
   nothing_there : pair ≡ None → IsLineAt (lists_of tree) pair line → line ≡ None
@@ -271,8 +281,9 @@ module _ {S T X : Type 0} (shows : S → Folder → EntryList (Unit {0}) → Typ
       → (was_any is_counted : Bool) → is_counted ≡ is_some (counted flags.verbose line) → (mid_any : Bool) → mid_any ≡ was_any → (old new : List ℕ) → new ≡ old ++ text_about flags told (counted flags.verbose line)
       → TellsLine question (shows tree.source) told was_any (mid_any || is_counted) old new
   told_line question same finds there was_any is_counted counts mid_any kept old new grown = record {
-    line = line;
-    decides = line_found question same finds there;
+    is_counted = is_some (counted question.flags.verbose line);
+    added = text_about question.flags told (counted question.flags.verbose line);
+    allowed = one_told question (shows tree.source) told line (line_found question same finds there);
     written = grown ∙ ap (λ (q : Question). old ++ text_about q.flags told (counted q.flags.verbose line)) same;
     any = ap (λ (b : Bool). b || is_counted) kept ∙ ap (λ (b : Bool). was_any || b) (counts ∙ ap (λ (q : Question). is_some (counted q.flags.verbose line)) same);
   }
@@ -350,13 +361,13 @@ unnamed_told question name.BadlyQuoted fault same = inr same
 
 -- ---- before the first path
 
--- no record was answered, and no line counted
-pub no_record_told : (question : Question) (shows : Folder → EntryList (Unit {0}) → Type 0) (form : Form) (is_any : Bool) → is_any ≡ false → TextOfNamed (IsIgnoreAnswer question shows) (IsStatus question shows is_any) form [] []
-no_record_told question shows form is_any none = (record { written = []; each = tt; joined = refl }, ([], tt, ([], tt, none)))
+-- no word was answered, and no line counted
+pub no_word_told : (question : Question) (shows : Folder → EntryList (Unit {0}) → Type 0) (is_any : Bool) → is_any ≡ false → IsIgnoreText question shows is_any [] []
+no_word_told question shows is_any none = record { lines = []; each = tt; written = refl; any = none }
 
--- no word was
-pub no_word_told : (question : Question) (shows : Folder → EntryList (Unit {0}) → Type 0) (is_any : Bool) → is_any ≡ false → TextOfPaths (IsIgnoreAnswer question shows) (IsStatus question shows is_any) [] []
-no_word_told question shows is_any none = (record { written = []; each = tt; joined = refl }, ([], tt, none))
+-- no record was
+pub no_record_told : (question : Question) (shows : Folder → EntryList (Unit {0}) → Type 0) (form : Form) (is_any : Bool) → is_any ≡ false → TextOfNamed (IsIgnoreText question shows is_any) form [] []
+no_record_told question shows form is_any none = ([], tt, no_word_told question shows is_any none)
 
 -- the same tree, of which as much is known
 pub question_same : {S T X : Type 0} (standpoint : Standpoint) (flags : IgnoreFlags) (tracked : List Tracked) (old new : TreeParts S T X) → new ≡ old → (before after : Known) → after ≡ before

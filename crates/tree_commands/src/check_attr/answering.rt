@@ -19,7 +19,7 @@ ghost use Rattle.git_paths.specs.Standpoints.{led};
 ghost use Rattle.tree_answers.specs.Attributes.{label_text};
 ghost use Rattle.tree_answers.specs.Lines.{behind, name_text};
 ghost use Rattle.tree_answers.specs.Records.{IsTextOf};
-ghost use Rattle.tree_commands.specs.Answering.{IsTextOfFirst, StopsAt, TextOfNamed, TextOfPaths, Writes};
+ghost use Rattle.tree_commands.specs.Answering.{IsTextOfFirst, StopsAt, Writes};
 ghost use Rattle.tree_commands.specs.Private.Answering.{Adds};
 ghost use Rattle.tree_commands.specs.CheckAttr.{or_dot, states_text, told_states};
 ghost use Rattle.tree_commands.specs.Private.AttributeWays.{HasGoneTo, HasRead, asked_by};
@@ -67,7 +67,7 @@ impl<'q, 'm, S: AttributeFolders, Q: Question> AttributeAsker<'q, 'm, S, Q> {
         requires ready { IsReady Q.files Q.asked Q.case Q.shows Q.allows S.shows self.old }
         requires readable { has_failed reader.old ≡ false }
         requires writable { has_failed writer.old ≡ false }
-        ensures { EndsRun (λ _. TextOfNamed Q.allows (λ _. Unit {0}) self.old.form)
+        ensures { EndsRun (λ _. TextOf (IsTextOf Q.allows self.old.form))
             (TextOf (IsTextOf Q.allows self.old.form)) (behind self.old.form 10) result
             (R.remaining (inner reader.old)) (R.remaining (inner reader.new)) (W.contents (inner writer.old)) (W.contents (inner writer.new))
             (has_failed reader.new) (has_failed writer.new) }
@@ -94,7 +94,7 @@ impl<'q, 'm, S: AttributeFolders, Q: Question> AttributeAsker<'q, 'm, S, Q> {
         requires ready { IsReady Q.files Q.asked Q.case Q.shows Q.allows S.shows self.old }
         requires writable { has_failed writer.old ≡ false }
         ensures ok { OnOk result
-            (Writes (TextOfPaths Q.allows (λ _. Unit {0}) (map (λ path. path.now) paths.now))
+            (Writes (TextOf Q.allows (map (λ path. path.now) paths.now))
             (Appends (W.contents (inner writer.old)) (W.contents (inner writer.new)))) }
         ensures refused { AllByRecursion
             (StopsAt Q.allows (λ _ _. Unit {0}) (map (λ path. path.now) paths.now) true (W.contents (inner writer.old)) (W.contents (inner writer.new)))

@@ -14,7 +14,7 @@ ghost use Rattle.tree_answers.specs.Attributes.{label_text};
 ghost use Rattle.tree_answers.specs.Lines.{behind};
 ghost use Rattle.tree_answers.specs.Records.{IsTextOf};
 ghost use Rattle.byte_streams.specs.Runs.{EndsRun};
-ghost use Rattle.tree_commands.specs.Answering.{IsTextOfFirst, StopsAt, TextOfNamed, TextOfPaths, Writes};
+ghost use Rattle.tree_commands.specs.Answering.{IsTextOfFirst, StopsAt, Writes};
 ghost use Rattle.tree_commands.specs.CheckAttr.{IsStatesText, macros_for};
 ghost use Rattle.tree_commands.specs.Private.AttributeAnswers.{IsReady, labels_of};
 ghost use Rattle.tree_commands.specs.Private.AttributeRuns.{AsksFor};
@@ -56,7 +56,7 @@ pub fn run_check_attr<R: Read, W: Write, S: AttributeFolders>(
 ) -> Result<(), RecordFault<AttributeFault<S::Fault>>>
     requires readable { has_failed records.old ≡ false }
     requires writable { has_failed writer.old ≡ false }
-    ensures { EndsRun (λ _. TextOfNamed (IsStatesText question.now (S.shows source)) (λ _. Unit {0}) question.now.form)
+    ensures { EndsRun (λ _. TextOf (IsTextOf (IsStatesText question.now (S.shows source)) question.now.form))
         (TextOf (IsTextOf (IsStatesText question.now (S.shows source)) question.now.form)) (behind question.now.form 10) result
         (R.remaining (inner records.old)) (R.remaining (inner records.new)) (W.contents (inner writer.old)) (W.contents (inner writer.new))
         (has_failed records.new) (has_failed writer.new) }
@@ -75,7 +75,7 @@ fn run_question<R: Read, W: Write, S: AttributeFolders, Q: Question>(
     requires asks { AsksFor Q.files Q.asked Q.case Q.shows Q.allows question.now (S.shows source) }
     requires readable { has_failed records.old ≡ false }
     requires writable { has_failed writer.old ≡ false }
-    ensures { EndsRun (λ _. TextOfNamed Q.allows (λ _. Unit {0}) question.now.form)
+    ensures { EndsRun (λ _. TextOf (IsTextOf Q.allows question.now.form))
         (TextOf (IsTextOf Q.allows question.now.form)) (behind question.now.form 10) result
         (R.remaining (inner records.old)) (R.remaining (inner records.new)) (W.contents (inner writer.old)) (W.contents (inner writer.new))
         (has_failed records.new) (has_failed writer.new) }
@@ -110,7 +110,7 @@ pub fn check_attr_paths<W: Write, S: AttributeFolders>(
 ) -> Result<(), RecordFault<AttributeFault<S::Fault>>>
     requires { has_failed writer.old ≡ false }
     ensures ok { OnOk result
-        (Writes (TextOfPaths (IsStatesText question.now (S.shows source)) (λ _. Unit {0}) (map (λ path. path.now) paths.now))
+        (Writes (TextOf (IsStatesText question.now (S.shows source)) (map (λ path. path.now) paths.now))
         (Appends (W.contents (inner writer.old)) (W.contents (inner writer.new)))) }
     // After the fault of a path, the text of those before it was written.
     ensures refused { AllByRecursion
@@ -136,7 +136,7 @@ fn check_paths<W: Write, S: AttributeFolders, Q: Question>(
     requires asks { AsksFor Q.files Q.asked Q.case Q.shows Q.allows question.now (S.shows source) }
     requires writable { has_failed writer.old ≡ false }
     ensures ok { OnOk result
-        (Writes (TextOfPaths Q.allows (λ _. Unit {0}) (map (λ path. path.now) paths.now))
+        (Writes (TextOf Q.allows (map (λ path. path.now) paths.now))
         (Appends (W.contents (inner writer.old)) (W.contents (inner writer.new)))) }
     ensures refused { AllByRecursion
         (StopsAt Q.allows (λ _ _. Unit {0}) (map (λ path. path.now) paths.now) true (W.contents (inner writer.old)) (W.contents (inner writer.new)))

@@ -22,8 +22,8 @@ ghost use Rattle.git_paths.specs.Quoting.{is_unusual};
 ghost use Rattle.git_index.specs.Holding.{IsHeld, LiesInSubmodule};
 ghost use Rattle.tree_answers.specs.Lines.{Decision, behind};
 ghost use Rattle.tree_answers.specs.Records.{IsTextOf, LeadsAsTold, NamesPath};
-ghost use Rattle.tree_commands.specs.Answering.{IsTextOfFirst, StopsAt, TextOfNamed, TextOfPaths, Writes};
-ghost use Rattle.tree_commands.specs.CheckIgnore.{IsIgnoreAnswer, IsLineAt, IsStatus, LeadsNowhere, LeadsTo, Refuses, counted, question_of, text_about, told_path};
+ghost use Rattle.tree_commands.specs.Answering.{IsTextOfFirst, StopsAt, TextOfNamed, Writes};
+ghost use Rattle.tree_commands.specs.CheckIgnore.{IsIgnoreAnswer, IsIgnoreText, IsLineAt, LeadsNowhere, LeadsTo, Refuses, counted, question_of, text_about, told_path};
 ghost use Rattle.tree_commands.specs.Private.Asking.{IsRecordFault, TellsLine, asked_by};
 ghost use Rattle.tree_commands.specs.Private.Finding.{FindsTold, line_of, lists_of};
 
@@ -124,7 +124,7 @@ impl<'a, S: FolderLists<GitIgnoreLines> + Drop, K: PathKinds<Fault = S::Fault> +
         requires none { self.old.is_any ≡ false }
         requires readable { has_failed reader.old ≡ false }
         requires writable { has_failed writer.old ≡ false }
-        ensures ends { EndsRun (λ is_any. TextOfNamed (IsIgnoreAnswer (asked_by K.known self.old) (S.shows (Unit {0}) self.new.finder.tree.source)) (IsStatus (asked_by K.known self.old) (S.shows (Unit {0}) self.new.finder.tree.source) is_any) self.old.flags.form)
+        ensures ends { EndsRun (λ is_any. TextOfNamed (IsIgnoreText (asked_by K.known self.old) (S.shows (Unit {0}) self.new.finder.tree.source) is_any) self.old.flags.form)
             (TextOf (IsTextOf (IsIgnoreAnswer (asked_by K.known self.old) (S.shows (Unit {0}) self.new.finder.tree.source)) self.old.flags.form)) (behind self.old.flags.form 10) result
             (R.remaining (inner reader.old)) (R.remaining (inner reader.new)) (W.contents (inner writer.old)) (W.contents (inner writer.new))
             (has_failed reader.new) (has_failed writer.new) }
@@ -153,7 +153,7 @@ impl<'a, S: FolderLists<GitIgnoreLines> + Drop, K: PathKinds<Fault = S::Fault> +
         requires none { self.old.is_any ≡ false }
         requires writable { has_failed writer.old ≡ false }
         ensures ok { IfOk result (λ is_any.
-            Writes (TextOfPaths (IsIgnoreAnswer (asked_by K.known self.old) (S.shows (Unit {0}) self.new.finder.tree.source)) (IsStatus (asked_by K.known self.old) (S.shows (Unit {0}) self.new.finder.tree.source) is_any) (map (λ path. path.now) paths.now))
+            Writes (IsIgnoreText (asked_by K.known self.old) (S.shows (Unit {0}) self.new.finder.tree.source) is_any (map (λ path. path.now) paths.now))
             (Appends (W.contents (inner writer.old)) (W.contents (inner writer.new)))) }
         ensures refused { AllByRecursion
             (StopsAt (IsIgnoreAnswer (asked_by K.known self.old) (S.shows (Unit {0}) self.new.finder.tree.source)) (Refuses (asked_by K.known self.old)) (map (λ path. path.now) paths.now) false

@@ -9,9 +9,9 @@ ghost use Rattle.byte_streams.specs.Records.{TextOf};
 ghost use Rattle.byte_streams.specs.Runs.{EndsRun};
 ghost use Rattle.tree_answers.specs.Lines.{behind};
 ghost use Rattle.tree_answers.specs.Records.{IsTextOf};
-ghost use Rattle.tree_commands.specs.Answering.{IsTextOfFirst, StopsAt, TextOfNamed, TextOfPaths, Writes};
+ghost use Rattle.tree_commands.specs.Answering.{IsTextOfFirst, StopsAt, TextOfNamed, Writes};
 ghost use Rattle.tree_commands.specs.declared.check_ignore.fault.IgnoreFault.TheVariants.{BadlyQuoted};
-ghost use Rattle.tree_commands.specs.CheckIgnore.{IsIgnoreAnswer, IsStatus, Refuses, question_of};
+ghost use Rattle.tree_commands.specs.CheckIgnore.{IsIgnoreAnswer, IsIgnoreText, Refuses, question_of};
 
 use crate::check_ignore::asking::IgnoreAsker;
 use crate::check_ignore::fault::IgnoreFault;
@@ -68,7 +68,7 @@ pub fn run_check_ignore<
 )
     requires readable { has_failed records.old ≡ false }
     requires writable { has_failed writer.old ≡ false }
-    ensures ends { EndsRun (λ is_any. TextOfNamed (IsIgnoreAnswer (question_of standpoint.now flags sources.tracked sources.tree (K.known sources.kinds)) (S.shows (Unit {0}) result.0.tree.source)) (IsStatus (question_of standpoint.now flags sources.tracked sources.tree (K.known sources.kinds)) (S.shows (Unit {0}) result.0.tree.source) is_any) flags.form)
+    ensures ends { EndsRun (λ is_any. TextOfNamed (IsIgnoreText (question_of standpoint.now flags sources.tracked sources.tree (K.known sources.kinds)) (S.shows (Unit {0}) result.0.tree.source) is_any) flags.form)
         (TextOf (IsTextOf (IsIgnoreAnswer (question_of standpoint.now flags sources.tracked sources.tree (K.known sources.kinds)) (S.shows (Unit {0}) result.0.tree.source)) flags.form)) (behind flags.form 10) result.1
         (R.remaining (inner records.old)) (R.remaining (inner records.new)) (W.contents (inner writer.old)) (W.contents (inner writer.new))
         (has_failed records.new) (has_failed writer.new) }
@@ -104,7 +104,7 @@ pub fn check_ignore_paths<
 )
     requires { has_failed writer.old ≡ false }
     ensures ok { IfOk result.1 (λ is_any.
-        Writes (TextOfPaths (IsIgnoreAnswer (question_of standpoint.now flags sources.tracked sources.tree (K.known sources.kinds)) (S.shows (Unit {0}) result.0.tree.source)) (IsStatus (question_of standpoint.now flags sources.tracked sources.tree (K.known sources.kinds)) (S.shows (Unit {0}) result.0.tree.source) is_any) (map (λ path. path.now) paths.now))
+        Writes (IsIgnoreText (question_of standpoint.now flags sources.tracked sources.tree (K.known sources.kinds)) (S.shows (Unit {0}) result.0.tree.source) is_any (map (λ path. path.now) paths.now))
         (Appends (W.contents (inner writer.old)) (W.contents (inner writer.new)))) }
     // After the fault of a path, nothing was written.
     ensures refused { AllByRecursion

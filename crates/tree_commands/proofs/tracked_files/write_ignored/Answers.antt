@@ -1,17 +1,16 @@
-use Rattle.std.proofs.Common.{◌≡◌, ℕ, Bool, false, List, [], map, ap, subst, sym, ◌∙◌}
+use Rattle.std.proofs.Common.{◌≡◌, ℕ, false, List, [], map, ap, subst, sym, ◌∙◌}
 use Rattle.std.specs.Borrow.{Bor}
 use Rattle.std.specs.List.{list_any}
 use Rattle.std.specs.Vec.{vec_items}
-use Rattle.std.specs.Io.KnownBytes.{Appends}
 use Rattle.std.proofs.lemmas.Simd.{map-map}
 use Rattle.git_index.specs.Entries.{Tracked}
 use Rattle.byte_streams.specs.Watched.{inner}
 use Rattle.byte_streams.specs.Records.{TextOf}
 use Rattle.git_paths.specs.Standpoints.{shown}
-use Rattle.tree_commands.specs.Answering.{Writes}
 use Rattle.tree_commands.specs.CheckIgnore.{IsIgnoreAnswer, question_of}
 use Rattle.tree_commands.specs.declared.check_ignore.flags.IgnoreFlags.{IgnoreFlags}
-use Rattle.tree_commands.specs.TrackedFiles.{AreIgnored, is_signed, names_alone}
+use Rattle.tree_commands.specs.TrackedFiles.{is_signed, names_alone}
+use Rattle.tree_commands.proofs.lemmas.IgnoreLemmas.{words_stay}
 use Rattle.tree_commands.proofs.lemmas.OutcomeLemmas.{any_seen, ended_well}
 use Rattle.tree_commands.proofs.tracked_files.write_ignored.Goals as goal
 
@@ -36,7 +35,8 @@ returns-clause-ok g c =
         none,
         subst (λ told. TextOf (IsIgnoreAnswer (asked (names_alone c.args.form) []) shows) told writes.0) words
             (subst (λ flags. TextOf (IsIgnoreAnswer (asked flags []) shows) (map see c.deref-3.result.now) writes.0) c.names_alone-flags.ensures
-            (subst (λ tracked. TextOf (IsIgnoreAnswer (asked c.names_alone-flags.result tracked) shows) (map see c.deref-3.result.now) writes.0) c.none-tracked.ensures writes.1.0)),
+            (subst (λ tracked. TextOf (IsIgnoreAnswer (asked c.names_alone-flags.result tracked) shows) (map see c.deref-3.result.now) writes.0) c.none-tracked.ensures
+            (words_stay shows shows (λ _ _ same. same) _ is_any _ writes.0 writes.1))),
       ),
       writes.2,
     ))

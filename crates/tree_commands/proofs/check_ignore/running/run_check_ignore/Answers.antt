@@ -7,7 +7,7 @@ use Rattle.byte_streams.specs.Watched.{has_failed, inner}
 use Rattle.tree_answers.specs.Lines.{behind}
 use Rattle.tree_answers.specs.Records.{IsTextOf}
 use Rattle.tree_commands.specs.Answering.{TextOfNamed}
-use Rattle.tree_commands.specs.CheckIgnore.{IsIgnoreAnswer, IsStatus, Question}
+use Rattle.tree_commands.specs.CheckIgnore.{IsIgnoreAnswer, IsIgnoreText, Question}
 use Rattle.tree_commands.specs.Private.Asking.{IsRecordFault}
 use Rattle.tree_commands.proofs.check_ignore.running.run_check_ignore.Goals as goal
 
@@ -15,7 +15,7 @@ pub returns-clause-ends : goal.returns-clause-ends
 returns-clause-ends g c =
     let shows = g.S.FolderLists.shows (Unit {0}) c.answer_records-outcome.new.self.finder.tree.source in
     rw c.into_sources.ensures
-    (subst (λ (q : Question). EndsRun (λ is_any. TextOfNamed (IsIgnoreAnswer q shows) (IsStatus q shows is_any) q.flags.form) (TextOf (IsTextOf (IsIgnoreAnswer q shows) q.flags.form)) (behind q.flags.form 10) c.answer_records-outcome.result
+    (subst (λ (q : Question). EndsRun (λ is_any. TextOfNamed (IsIgnoreText q shows is_any) q.flags.form) (TextOf (IsTextOf (IsIgnoreAnswer q shows) q.flags.form)) (behind q.flags.form 10) c.answer_records-outcome.result
     (g.R.Read.remaining (inner c.args.records.now)) (g.R.Read.remaining (inner c.answer_records-outcome.new.reader)) (g.W.Write.contents (inner c.args.writer.now)) (g.W.Write.contents (inner c.answer_records-outcome.new.writer))
     (has_failed c.answer_records-outcome.new.reader) (has_failed c.answer_records-outcome.new.writer)) c.new-asker.ensures.asks c.answer_records-outcome.ensures.ends)
 

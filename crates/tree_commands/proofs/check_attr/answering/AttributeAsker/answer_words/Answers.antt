@@ -1,5 +1,5 @@
 -- The first paths were answered, and the next one was, or wasn't.
-use Rattle.std.proofs.Common.{◌≡◌, ◌∙◌, ◌<◌, ◌++◌, ◌∷◌, [], Bor, List, ℕ, OnErr, OnOk, ap, arith, drop, length, map, suc, sym, subst, take, rules}
+use Rattle.std.proofs.Common.{◌≡◌, ◌∙◌, ◌<◌, ◌++◌, ◌∷◌, [], Bor, List, ℕ, ap, arith, drop, length, map, suc, sym, subst, take}
 use Rattle.std.proofs.lemmas.Grind.{common_steps}
 use Rattle.std.proofs.lemmas.List.{take_all}
 use Rattle.std.proofs.lemmas.Result.{on_err_weaker, on_ok_weaker}
@@ -8,7 +8,7 @@ use Rattle.byte_streams.specs.Records.{TextOf}
 use Rattle.byte_streams.specs.Transfers.{AppendsFront}
 use Rattle.byte_streams.specs.Watched.{has_failed, inner}
 use Rattle.byte_streams.proofs.lemmas.StreamLemmas.{AppendsFront-whole, on_any_err}
-use Rattle.tree_commands.specs.Answering.{IsTextOfFirst, TextOfPaths, Writes}
+use Rattle.tree_commands.specs.Answering.{IsTextOfFirst, Writes}
 use Rattle.tree_commands.proofs.lemmas.AnswerLemmas.{map_parts, map_split, map_take_more, text_more}
 use Rattle.tree_commands.proofs.check_attr.answering.AttributeAsker.answer_words.Goals as goal
 
@@ -88,7 +88,7 @@ returns-clause-ok g c =
     let all = take_all c.paths.path-index c.args.paths.now (omega arith) in
     let texts = subst (λ paths. TextOf g.Q.Question.allows (map see paths) c.paths.text.items) all c.paths.invariant.told in
     on_ok_weaker c.write_text-2.result
-    (λ written. (c.paths.text.items, (texts, tt), subst (λ o. Appends o new c.paths.text.items) old (subst (Appends (g.W.Write.contents (inner c.paths.writer)) new) c.deref-2.ensures.value written)))
+    (λ written. (c.paths.text.items, texts, subst (λ o. Appends o new c.paths.text.items) old (subst (Appends (g.W.Write.contents (inner c.paths.writer)) new) c.deref-2.ensures.value written)))
     c.write_text-2.ensures.ok
 
 pub returns-clause-cut : goal.returns-clause-cut

@@ -1,7 +1,6 @@
 -- Each record goes on what was read, answered and written before it.
 use Rattle.std.proofs.Common.{◌≡◌, ◌∙◌, Bool, sym, subst, take, arith, rules}
 use Rattle.std.proofs.lemmas.Grind.{common_steps}
-use Rattle.byte_streams.specs.Watched.{has_failed}
 use Rattle.byte_streams.proofs.lemmas.ProgressLemmas.{IsRunning-answered, IsRunning-failed, IsRunning-finished, IsRunning-first, IsRunning-stopped, all_weaker, none_refused}
 use Rattle.tree_answers.specs.Records.{NamesPath}
 use Rattle.tree_commands.specs.CheckIgnore.{Question}
@@ -14,7 +13,7 @@ records-init g c = record {
   readable = c.requires.readable;
   writable = c.requires.writable;
   asks = search rules;
-  running = IsRunning-first _ _ _ c.end.ensures c.new-records.result c.new-text.result.items c.new-text.ensures.items c.new-records.ensures (no_record_told _ _ _ _ c.requires.none) _ _;
+  running = IsRunning-first _ _ _ c.end.ensures c.new-records.result c.new-text.result.items c.new-text.ensures.items c.new-records.ensures (no_record_told (asked_by g.K.PathKinds.known c.args.self.now) (g.S.FolderLists.shows (Unit {0}) c.args.self.now.finder.tree.source) c.args.self.now.flags.form c.args.self.now.is_any c.requires.none) _ _;
 }
 
 pub next-requires-clause-under_way : goal.next-requires-clause-under_way
@@ -22,7 +21,9 @@ next-requires-clause-under_way g c = let running = c.records.invariant.running i
 
 pub returns-in_err-next-clause-ends : goal.returns-in_err-next-clause-ends
 returns-in_err-next-clause-ends g c =
-    IsRunning-failed _ _ _ _ _ _ _ _ c.records.invariant.running _ _ _ _ _ _ c.from_residual.result c.in_err-next.field-0.0 c.from_residual.ensures.1 (λ given all told. told.0) c.in_err-next.ensures.fails
+    let shows = g.S.FolderLists.shows (Unit {0}) c.records.self.finder.tree.source in
+    IsRunning-failed _ _ _ _ _ _ _ _ c.records.invariant.running _ _ _ _ _ _ c.from_residual.result c.in_err-next.field-0.0 c.from_residual.ensures.1
+    (records_stay shows shows (λ _ _ same. same) (asked_by g.K.PathKinds.known c.args.self.now) c.records.self.is_any c.args.self.now.flags.form) c.in_err-next.ensures.fails
 
 pub returns-in_err-next-clause-refused : goal.returns-in_err-next-clause-refused
 returns-in_err-next-clause-refused g c = none_refused Bool (IsRecordFault (asked_by g.K.PathKinds.known c.args.self.now)) c.from_residual.result c.in_err-next.field-0.0 c.from_residual.ensures.1 c.in_err-next.ensures.none
@@ -58,7 +59,7 @@ records-preserved g c =
       writable = search rules;
       asks = c.answer_record.ensures.asks ∙ asks;
       running = IsRunning-answered _ _ _ _ _ _ _ _ c.records.invariant.running _ _ _ _ _ (c.in_ok-next.ensures.gives c.if-branch.true) _ _ _ tells.written
-          (record_told before after c.answer_record.ensures.goes_on question step.0 tells.line tells.decides c.records.self.is_any c.answer_record.new.self.is_any tells.any c.args.self.now.flags.form c.next.new.bytes.items names);
+          (record_told before after c.answer_record.ensures.goes_on question c.records.self.is_any c.answer_record.new.self.is_any tells.is_counted step.0 tells.added tells.any tells.allowed c.args.self.now.flags.form c.next.new.bytes.items names);
     }
 
 pub returns-clause-ends : goal.returns-clause-ends

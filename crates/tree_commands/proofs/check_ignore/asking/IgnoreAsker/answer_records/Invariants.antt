@@ -5,7 +5,7 @@ use Rattle.byte_streams.specs.Watched.{has_failed, inner}
 use Rattle.byte_streams.proofs.lemmas.ProgressLemmas.{IsRunning}
 use Rattle.tree_answers.specs.Lines.{behind}
 use Rattle.tree_commands.specs.Answering.{TextOfNamed}
-use Rattle.tree_commands.specs.CheckIgnore.{IsIgnoreAnswer, IsStatus}
+use Rattle.tree_commands.specs.CheckIgnore.{IsIgnoreText}
 use Rattle.tree_commands.specs.Private.Asking.{asked_by}
 use Rattle.tree_commands.proofs.check_ignore.asking.IgnoreAsker.answer_records.Given as goal
 
@@ -14,8 +14,7 @@ invariant-records g l = record {
   readable : has_failed l.reader ≡ false;
   writable : has_failed l.writer ≡ false;
   asks : asked_by g.K.PathKinds.known l.self ≡ asked_by g.K.PathKinds.known l.fn.self;
-  running : IsRunning (TextOfNamed (IsIgnoreAnswer (asked_by g.K.PathKinds.known l.fn.self) (g.S.FolderLists.shows (Unit {0}) l.self.finder.tree.source))
-      (IsStatus (asked_by g.K.PathKinds.known l.fn.self) (g.S.FolderLists.shows (Unit {0}) l.self.finder.tree.source) l.self.is_any) l.fn.self.flags.form)
+  running : IsRunning (TextOfNamed (IsIgnoreText (asked_by g.K.PathKinds.known l.fn.self) (g.S.FolderLists.shows (Unit {0}) l.self.finder.tree.source) l.self.is_any) l.fn.self.flags.form)
       (behind l.fn.self.flags.form 10) l.records l.text.items
       (g.R.Read.remaining (inner l.fn.reader)) (g.R.Read.remaining (inner l.reader)) (g.W.Write.contents (inner l.fn.writer)) (g.W.Write.contents (inner l.writer));
 }
