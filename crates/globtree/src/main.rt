@@ -29,6 +29,7 @@ mod show_config;
 mod show_status;
 mod told_name;
 mod told_pathspecs;
+mod told_patterns;
 mod tracked;
 mod words;
 mod work_tree;
