@@ -18,10 +18,10 @@ use gix_glob::pattern::Case;
 use gix_glob::search::pattern::List;
 use glob_lines::GitIgnoreLines;
 use glob_lists::{PreparedList, Rules};
-use glob_trees::Tree;
+use glob_trees::{FolderLists, Tree};
 use std::alloc::{AllocError, Global};
 use std::rt::{Env, Files};
-use tree_files::{CheckFault, FolderFiles, IndexedFiles, path_text};
+use tree_files::{CheckFault, IndexedFiles, path_text};
 
 /// About how many bytes are kept of folders and their patterns.
 const MOST_BYTES: usize = 24 << 20;
@@ -197,12 +197,12 @@ fn both(
 }
 
 /// The tree in which the files of folders stand behind these lists.
-pub(crate) fn tree_behind<'a, R: Files + Eprint>(
+pub(crate) fn tree_behind<S: FolderLists<GitIgnoreLines> + Drop>(
     alloc: Global,
     lists: Vec<PreparedList<GitIgnoreLines>>,
-    source: FolderFiles<'a, R>,
+    source: S,
     case: Case,
-) -> Result<Tree<GitIgnoreLines, FolderFiles<'a, R>>>
+) -> Result<Tree<GitIgnoreLines, S>>
     ensures rules { IfOk result (λ tree. tree.rules ≡ by_git case) }
     ensures count { IfOk result (λ tree. tree.front_count ≡ length lists.items) }
     ensures before { IfOk result (λ tree. tree.lists ≡ lists.items) }

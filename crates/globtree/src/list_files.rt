@@ -7,7 +7,7 @@ use crate::fronts::{Fronts, case_of, fronts_on, ground_of, tree_behind};
 use crate::index_use::IndexUse;
 use crate::list_tracked::{list_index, list_tracked, list_tracked_ignored, records_of};
 use crate::listed_path::ListedPath;
-use crate::listing::{NOT_ALL_LISTED, copies_of, run_listing};
+use crate::listing::{NOT_ALL_LISTED, copies_of, ended, source_of};
 use crate::met_elements::MetElements;
 use crate::narrowed_listing::run_narrowed;
 use crate::outcomes::{ANSWERED, answer_of};
@@ -15,6 +15,7 @@ use crate::pathspec_settings::settings_for;
 use crate::places::{at_top, copy_of};
 use crate::told_name::{refuse_beyond_link, refuse_pattern};
 use crate::told_pathspecs::ToldPathspecs;
+use crate::told_patterns::{ToldPatterns, add_told};
 use crate::words::Options;
 use crate::words::files::ListFiles;
 use byte_streams::Watched;
@@ -24,9 +25,9 @@ use std::alloc::{AllocError, Global};
 use std::io::Write;
 use std::rt::{Clock, Env, Files};
 use tree_answers::Form;
-use tree_commands::files::Listing;
 use tree_commands::files::choosing::{Chosen, Folders};
 use tree_commands::files::mark::Mark;
+use tree_commands::files::{Listing, run_files};
 use tree_commands::tracked_files::write_paths;
 use tree_files::{CheckFault, FolderFiles};
 
@@ -93,7 +94,8 @@ fn status_of(status: u8, is_unmet: bool) -> u8
 
 /// Whether nothing is listed but what the index has, whatever the patterns say: a work tree isn't needed then.
 fn lists_index(asked: &ListFiles<'_>) -> bool {
-    asked.lists_tracked() && !(asked.others || asked.ignored || asked.exclude_standard)
+    let counts = asked.exclude_standard || asked.tells_patterns();
+    asked.lists_tracked() && !(asked.others || asked.ignored || counts)
 }
 
 /// Goes to the top of the work tree, and reads the files that count before those of all folders, if patterns count.
@@ -107,13 +109,10 @@ fn listing_fronts<R: Files + Env + Eprint + AllocGlobal>(
     if let Some(file) = ground.tree.listing_excludes.take() {
         ground.tree.excludes = Some(file);
     }
-    ground.counts = counts_patterns(asked);
-    fronts_on(rt, alloc, ground, index_by(asked))
-}
-
-/// Whether the patterns of the usual files count.
-fn counts_patterns(asked: &ListFiles<'_>) -> bool {
-    asked.exclude_standard || asked.are_usual()
+    ground.counts = asked.counts_usual();
+    let mut fronts = fronts_on(rt, alloc, ground, index_by(asked))?;
+    add_told(rt, alloc, asked, &mut fronts.lists)?;
+    Ok(fronts)
 }
 
 /// What is taken from the index: which paths are tracked, unless all files are listed.
@@ -229,19 +228,24 @@ fn list_asked<R: Files + Env + Clock + Eprint + AllocGlobal + Clone + Drop, O: W
 {
     let is_narrow = !asked.pathspecs.is_empty() || asked.error_unmatch;
     if is_narrow && !asked.directory {
-        return run_narrowed(rt, alloc, listing, told, fronts, shows_progress, output);
+        return run_narrowed(
+            rt,
+            alloc,
+            listing,
+            asked,
+            told,
+            fronts,
+            shows_progress,
+            output,
+        );
     }
     let folder = told_folder(asked);
     refuse_beyond_link(rt, alloc, &fronts.standpoint, folder)?;
-    run_listing(
-        rt,
-        alloc,
-        listing,
-        fronts,
-        folder.as_bytes(),
-        shows_progress,
-        output,
-    )
+    let files = source_of(rt, alloc, fronts, shows_progress)?;
+    let mut source = ToldPatterns::before(alloc, asked, files);
+    let begin = folder.as_bytes();
+    let outcome = run_files(alloc, listing, &fronts.tracked, &mut source, begin, output);
+    ended(alloc, begin, outcome, source.into_source().end())
 }
 
 /// Whether files are listed that are found: with `-o`, and without options.
@@ -254,7 +258,7 @@ fn chosen_by(asked: &ListFiles<'_>) -> Chosen {
     if asked.ignored {
         return Chosen::Ignored;
     }
-    if counts_patterns(asked) {
+    if asked.counts_usual() || asked.tells_patterns() {
         return Chosen::Unignored;
     }
     Chosen::All
@@ -305,7 +309,8 @@ fn list_tracked_by<R: Files + Env + Eprint + AllocGlobal, O: Write>(
     if !asked.ignored {
         return list_tracked(alloc, &standpoint, form, &tracked, list, met, output);
     }
-    let source = FolderFiles::of_tracked(rt, alloc, &indexed);
+    let files = FolderFiles::of_tracked(rt, alloc, &indexed);
+    let source = ToldPatterns::before(alloc, asked, files);
     let tree = tree_behind(alloc, lists, source, case)?;
     list_tracked_ignored(
         rt,

@@ -13,6 +13,7 @@ use crate::outcomes::answer_of;
 use crate::pathspec_settings::settings_for;
 use crate::places::at_top;
 use crate::told_pathspecs::ToldPathspecs;
+use crate::told_patterns::ToldPatterns;
 use crate::words::Options;
 use crate::words::files::ListFiles;
 use crate::work_tree::index_place;
@@ -84,7 +85,7 @@ pub(crate) fn list_tracked_ignored<R: Files + Eprint, O: Write>(
     standpoint: &Standpoint,
     form: Form,
     tracked: &Index,
-    tree: Tree<GitIgnoreLines, FolderFiles<'_, R>>,
+    tree: Tree<GitIgnoreLines, ToldPatterns<'_, FolderFiles<'_, R>>>,
     list: &PathspecList,
     met: &mut MetElements,
     output: &mut Watched<O>,

@@ -30,6 +30,7 @@ mod show_config;
 mod show_status;
 mod told_name;
 mod told_pathspecs;
+mod told_patterns;
 mod tracked;
 mod unread_file;
 mod words;

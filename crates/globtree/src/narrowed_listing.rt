@@ -10,6 +10,8 @@ use crate::listing::{ended, source_of};
 use crate::outcomes::ANSWERED;
 use crate::places::from_root;
 use crate::told_pathspecs::ToldPathspecs;
+use crate::told_patterns::ToldPatterns;
+use crate::words::files::ListFiles;
 use byte_streams::Watched;
 use git_index::{FoldedPaths, Index};
 use git_paths::Standpoint;
@@ -31,6 +33,7 @@ pub(crate) fn run_narrowed<
     rt: &R,
     alloc: Global,
     listing: Listing,
+    asked: &'a ListFiles<'_>,
     told: &'a ToldPathspecs<'_>,
     fronts: &'a Fronts,
     shows_progress: bool,
@@ -44,12 +47,13 @@ pub(crate) fn run_narrowed<
     }
     let begin = below_top(alloc, &fronts.standpoint, front)?;
     let folded = folded_by(alloc, listing.case, &fronts.tracked)?;
-    let asked = AskedPaths {
+    let paths = AskedPaths {
         list: &told.list,
         tracked: TrackedFolders::new(&fronts.tracked, &folded),
     };
-    let source = source_of(rt, alloc, fronts, shows_progress)?;
-    let mut narrowed = Narrowed::new(alloc, source, asked);
+    let files = source_of(rt, alloc, fronts, shows_progress)?;
+    let source = ToldPatterns::before(alloc, asked, files);
+    let mut narrowed = Narrowed::new(alloc, source, paths);
     let outcome = run_files(
         alloc,
         listing,
@@ -58,7 +62,12 @@ pub(crate) fn run_narrowed<
         &begin,
         output,
     );
-    ended(alloc, &begin, outcome, narrowed.into_source().end())
+    ended(
+        alloc,
+        &begin,
+        outcome,
+        narrowed.into_source().into_source().end(),
+    )
 }
 
 /// The path of a folder as it stands, and that of the top in place of one with a part that is empty, `.` or `..`: such a path leads elsewhere.

@@ -18,8 +18,14 @@ pub(crate) struct ListFiles<'a> {
     pub(crate) directory: bool,
     /// `--no-empty-directory`: such a folder is told only if something to tell lies in it.
     pub(crate) no_empty_directory: bool,
-    /// `--exclude-standard`: the patterns count.
+    /// `--exclude-standard`: the usual patterns count.
     pub(crate) exclude_standard: bool,
+    /// `-x PATTERN`: patterns that count before all others, the last one before those before it.
+    pub(crate) patterns: Vec<&'a str>,
+    /// `-X FILE`: files of patterns, of which a later one counts before an earlier one.
+    pub(crate) pattern_files: Vec<&'a str>,
+    /// How many of these files stand before the last `--exclude-standard`.
+    pub(crate) files_before_standard: usize,
     /// `-z`: a NUL ends each name, and none is quoted.
     pub(crate) nul: bool,
     /// `--error-unmatch`: a pathspec that meets nothing that is listed is told, and the status is 1.
@@ -39,6 +45,9 @@ impl<'a> ListFiles<'a> {
             directory: false,
             no_empty_directory: false,
             exclude_standard: false,
+            patterns: Vec::new(alloc),
+            pattern_files: Vec::new(alloc),
+            files_before_standard: 0,
             nul: false,
             error_unmatch: false,
             pathspecs: Vec::new(alloc),
@@ -50,7 +59,12 @@ impl<'a> ListFiles<'a> {
                 "--ignored" => asked.ignored = true,
                 "--directory" => asked.directory = true,
                 "--no-empty-directory" => asked.no_empty_directory = true,
-                "--exclude-standard" => asked.exclude_standard = true,
+                "--exclude-standard" => {
+                    asked.exclude_standard = true;
+                    asked.files_before_standard = asked.pattern_files.len();
+                }
+                "--exclude" => asked.patterns.push(option.value.unwrap_or(""))?,
+                "--exclude-from" => asked.pattern_files.push(option.value.unwrap_or(""))?,
                 "--error-unmatch" => asked.error_unmatch = true,
                 _ => asked.nul = true,
             }
@@ -64,7 +78,7 @@ impl<'a> ListFiles<'a> {
         if self.ignored && !self.others && !self.cached {
             return Some("ls-files -i must be used with either -o or -c");
         }
-        if self.ignored && !self.exclude_standard {
+        if self.ignored && !self.exclude_standard && !self.tells_patterns() {
             return Some("ls-files --ignored needs some exclude pattern");
         }
         if self.directory && self.pathspecs.len() > 1 {
@@ -84,7 +98,18 @@ impl<'a> ListFiles<'a> {
             || self.directory
             || self.no_empty_directory
             || self.exclude_standard
-            || self.error_unmatch)
+            || self.error_unmatch
+            || self.tells_patterns())
+    }
+
+    /// Whether patterns are told, themselves or in files.
+    pub(crate) fn tells_patterns(&self) -> bool {
+        !self.patterns.is_empty() || !self.pattern_files.is_empty()
+    }
+
+    /// Whether the usual patterns count: those of folders' ignore files, and of the usual files of excludes.
+    pub(crate) fn counts_usual(&self) -> bool {
+        self.exclude_standard || self.are_usual()
     }
 
     /// Whether paths are listed that are tracked: by `-c`, and where there are options and none of them is `-o`.

@@ -2,22 +2,24 @@
 
 pub(crate) const HELP: &str = "\
 usage: globtree [OPTION..] files [-c] [-o] [-i] [--exclude-standard] [--error-unmatch] [-z]
-                                 [--] [PATHSPEC..]
+                                 [--exclude PATTERN].. [--exclude-from FILE].. [--] [PATHSPEC..]
        globtree [OPTION..] files -o --directory [--no-empty-directory] [OPTION..] [DIR]
 
 Prints the files that the pathspecs match and that aren't ignored, tracked or not; without one, those
 below the current folder. With options, prints what git ls-files prints with the same ones.
 
 options:
-  -c, --cached          the tracked paths
-  -o, --others          the files that aren't tracked
-  -i, --ignored         of these, the ignored ones alone; goes with --exclude-standard
-  --exclude-standard    patterns count
-  --error-unmatch       tell each pathspec that met nothing, and end with status 1
-  --directory           with -o: a folder without tracked files by its name
-  --no-empty-directory  with it: only if something to print lies in it
-  -z                    a byte 0 ends each name, and none is quoted
-  -h, --help            this text (-h: alone)
+  -c, --cached             the tracked paths
+  -o, --others             the files that aren't tracked
+  -i, --ignored            of these, the ignored ones alone; goes with one of the next three
+  --exclude-standard       the usual patterns count
+  -x, --exclude PATTERN    PATTERN counts, and more than the others and than one told before it
+  -X, --exclude-from FILE  the patterns of FILE count, which is told from the top
+  --error-unmatch          tell each pathspec that met nothing, and end with status 1
+  --directory              with -o: a folder without tracked files by its name
+  --no-empty-directory     with it: only if something to print lies in it
+  -z                       a byte 0 ends each name, and none is quoted
+  -h, --help               this text (-h: alone)
 
 A pathspec is a path, with all that lies below it, or a pattern. :!x leaves out what x meets, :/x is
 told from the top. In :(glob)x wildcards match no slash, in :(icase)x case doesn't count, in
