@@ -17,6 +17,7 @@ SETTINGS = ("--literal-pathspecs", "--glob-pathspecs", "--noglob-pathspecs", "--
 WORDS = (".", "..", "*", "**", "*/", "*/*", "?", "*.*", "**/*.o", "[a-z]*", "a/..", "./a", "b//a", "nothing", ":", ":/", "a*/b", "*a*", "\\a", "[")
 # kinds of differences, which count as such where "From Git" in docs/DIFFERENCES.md names them
 MET = "`--error-unmatch` with an index"
+EMPTY = "a path from the top with two slashes in a row"
 NAMED = kinds_in("From Git")
 
 
@@ -121,7 +122,10 @@ class Comparison:
             self.tell(folder, settings, words, expected, found)
 
     def is_named(self, words, expected, found):
-        """Whether Git alone counts elements as met, and lists paths, by what an exclude takes: with an index, and `--error-unmatch`."""
+        """Whether Git ends with an internal error; or it alone counts elements as met, and lists paths, by what an exclude takes: with an
+        index, and `--error-unmatch`."""
+        if EMPTY in NAMED and expected.errors == b"fatal: oops in prep_exclude\n":
+            return True
         if MET not in NAMED or not self.indexed or "--error-unmatch" not in words:
             return False
         has_exclude = any(is_exclude(word) for word in words if isinstance(word, bytes))
