@@ -1,8 +1,7 @@
 -- What a narrowed source shows.
-use Rattle.std.proofs.Common.{◌≡◌, ◌⊎◌, inl, inr, ⊎_elim, refl, Bool, true, false, not, IsTrue, if◌then◌else◌, ℕ, ◌+◌, ◌<◌, List, length, slice_index_or, sym, ap, ◌∙◌, subst, arith}
+use Rattle.std.proofs.Common.{◌≡◌, ◌⊎◌, inl, inr, ⊎_elim, refl, Bool, true, false, not, IsTrue, if◌then◌else◌, ℕ, List, sym, ◌∙◌, subst}
 use Rattle.std.specs.Prelude.{◌↔◌, Option, None, Some}
-use Rattle.std.proofs.lemmas.Bool.{cases_lt, false≢true}
-use Rattle.std.proofs.lemmas.List.{get_or_default}
+use Rattle.std.proofs.lemmas.Bool.{false≢true}
 use Rattle.pathspecs.specs.Lists.{Matches, MayMatchIn}
 use Rattle.tree_commands.specs.declared.files.source.EntryKind.{EntryKind}
 use Rattle.tree_commands.specs.declared.files.source.EntryKind.TheVariants.{File, Folder as OfFolder}

@@ -1,4 +1,4 @@
-use Rattle.std.proofs.Common.{◌⊎◌, ℕ, List, inl, inr, refl, sym, subst, true, ◌≡◌, ◌∙◌}
+use Rattle.std.proofs.Common.{ℕ, List, inl, inr, refl, sym, subst, true, ◌≡◌, ◌∙◌}
 use Rattle.std.proofs.lemmas.Bool.{false≢true}
 use Rattle.pathspecs.specs.Lists.{MayMatchIn}
 use Rattle.tree_commands.specs.Lookups.{HasEntryBelow}

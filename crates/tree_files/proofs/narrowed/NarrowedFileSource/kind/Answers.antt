@@ -1,17 +1,14 @@
-use Rattle.std.proofs.Common.{◌⊎◌, ℕ, List, sym, subst, ◌∙◌}
-use Rattle.std.specs.Prelude.{Option}
+use Rattle.std.proofs.Common.{sym, ◌∙◌, ⊎_elim}
 use Rattle.std.proofs.lemmas.Bool.{false≢true}
-use Rattle.pathspecs.specs.Lists.{Matches, MayMatchIn}
-use Rattle.tree_files.specs.Narrowing.{as_folder, asked_of}
+use Rattle.tree_files.specs.Narrowing.{asked_of}
 use Rattle.tree_files.proofs.lemmas.NarrowedLemmas.{missing, shown_if_asked, unasked}
 use Rattle.tree_files.proofs.narrowed.NarrowedFileSource.kind.Goals as goal
 
-pub returns-then-not-have-clause-found : goal.returns-then-not-have-clause-found
-returns-then-not-have-clause-found g c =
-    let items = c.args.self.now.asked.list.now in
-    let path = c.args.path.now in
-    λ tree known. unasked (asked_of c.args.self.now.asked) known.0 tree path known.2
-    (λ asks. false≢true (sym c.if-not-have.true ∙ c.have.ensures.1 (rw (c.deref.ensures.value, c.in_ok-folder.ensures) asks)))
+pub returns-then-not-have_folder-clause-found : goal.returns-then-not-have_folder-clause-found
+returns-then-not-have_folder-clause-found g c = λ tree known. unasked (asked_of c.args.self.now.asked) known.0 tree c.args.path.now known.2
+    (⊎_elim
+    (λ matched. false≢true (sym c.if-not-is_matched.true ∙ c.matches-is_matched.ensures.1 matched))
+    (λ asks. false≢true (sym c.if-not-have_folder.true ∙ c.have_folder.ensures.1 (rw (c.deref.ensures.value, c.in_ok-folder.ensures) asks))))
 
 pub returns-in_default-clause-found : goal.returns-in_default-clause-found
 returns-in_default-clause-found g c = λ tree known. missing (asked_of c.args.self.now.asked) known.0 tree c.args.path.now known.2 (sym c.in_default.is ∙ c.in_ok-kind.ensures.found known.0 known.1)
