@@ -13,6 +13,7 @@ mod index_use;
 mod list_files;
 mod list_tracked;
 mod listed_path;
+mod lister;
 mod listing;
 mod match_pathspec;
 mod matching;
