@@ -43,6 +43,7 @@ pub(crate) fn lint<R: Files + Env + Clock + Eprint + AllocGlobal + Clone + Drop,
     requires writable { has_failed output.old ≡ false }
     ensures status { IfOk result IsAnswered }
 {
+    let (fixed, is_json) = (asked.fixed, asked.json);
     let place = place_of(rt, alloc, options, &asked)?;
     let begin = begin_of(&place, &asked);
     let KeptFiles { mut lists, files } = keep_files(rt, alloc, &place, begin, shows_progress)?;
@@ -62,11 +63,11 @@ pub(crate) fn lint<R: Files + Env + Clock + Eprint + AllocGlobal + Clone + Drop,
         },
         report: &report,
     };
-    if let Some(told) = asked.fixed {
+    if let Some(told) = fixed {
         write(output, &findings.fixed_file(told)?)?;
         return Ok(ANSWERED);
     }
-    let text = findings.text(asked.json)?;
+    let text = findings.text(is_json)?;
     write(output, &text)?;
     findings.tell_unknown(rt)?;
     Ok(status_of(&text))

@@ -118,7 +118,8 @@ impl<'a, R: Files + Clock + Eprint> FolderSource<'a, R> {
             bytes: Vec::new(self.alloc),
             unread: Some(what),
         };
-        self.kept.keep(self.no_list(folder)?, file)
+        let list = self.no_list(folder)?;
+        self.kept.keep(list, file)
     }
 
     /// Keeps the file of a list, where it was read.
