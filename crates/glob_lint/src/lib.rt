@@ -3,7 +3,6 @@
 
 mod apart;
 mod asked;
-mod asked_line;
 mod beginnings;
 mod below;
 mod covering;

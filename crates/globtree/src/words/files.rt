@@ -112,19 +112,6 @@ impl<'a> ListFiles<'a> {
         self.exclude_standard || self.are_usual()
     }
 
-    /// Whether files are listed that are found: with `-o`, and without options.
-    pub(crate) fn lists_found(&self) -> bool {
-        self.are_usual() || self.others
-    }
-
-    /// The folder that is told where folders are listed by their names: the current one, where none is.
-    pub(crate) fn told_folder(&self) -> &'a str {
-        match self.pathspecs.first() {
-            Some(word) => word,
-            None => ".",
-        }
-    }
-
     /// Whether paths are listed that are tracked: by `-c`, and where there are options and none of them is `-o`.
     pub(crate) fn lists_tracked(&self) -> bool {
         self.cached || (!self.others && !self.are_usual())
