@@ -116,20 +116,22 @@ class Comparison:
         found = pair.run([GLOBTREE, *pair.leading_to(folder), *settings, *pair.globtree_options(), "files", *words], b"")
         if self.is_same(expected, found):
             return
-        if self.is_named(words, expected, found):
+        if self.is_named([*settings, *words], expected, found):
             self.named += 1
         else:
             self.tell(folder, settings, words, expected, found)
 
     def is_named(self, words, expected, found):
-        """Whether Git ends with an internal error; or it alone counts elements as met, and lists paths, by what an exclude takes: with an
-        index, and `--error-unmatch`."""
+        """Whether Git ends with an internal error; or, with an index and `--error-unmatch`, it alone counts elements as met, and lists paths, by
+        what an exclude takes, or passes over an element whose text an entry was."""
         if EMPTY in NAMED and expected.errors == b"fatal: oops in prep_exclude\n":
             return True
         if MET not in NAMED or not self.indexed or "--error-unmatch" not in words:
             return False
+        listed, here = set(expected.output.split(b"\0")), set(found.output.split(b"\0"))
         has_exclude = any(is_exclude(word) for word in words if isinstance(word, bytes))
-        return has_exclude and set(found.output.split(b"\0")) <= set(expected.output.split(b"\0"))
+        folds = "--icase-pathspecs" in words or any(b"icase" in word for word in words if isinstance(word, bytes))
+        return has_exclude and here <= listed or folds and listed <= here
 
     def is_same(self, expected, found):
         errors = [b"\n".join(line for line in told.errors.split(b"\n") if not line.startswith(b"warning: ")) for told in (expected, found)]
