@@ -2,6 +2,7 @@
 ghost use Rattle.std.specs.Prelude.{◌≡◌, ◌≢◌, ◌∷◌, [], IfOk, IfSome, length, map};
 ghost use Rattle.gix_glob.specs.EntryLists.{entry_list_of};
 ghost use Rattle.glob_lists.specs.Rules.{by_git};
+ghost use Rattle.glob_trees.specs.Ways.{Folder};
 ghost use Rattle.globtree.specs.Answers.{AreFronts, IsOfSomeFile, case_by};
 ghost use Rattle.globtree.specs.Tracked.{IsOfIndex};
 
@@ -203,6 +204,7 @@ pub(crate) fn tree_behind<S: FolderLists<GitIgnoreLines> + Drop>(
     source: S,
     case: Case,
 ) -> Result<Tree<GitIgnoreLines, S>>
+    requires fresh { (folder : Folder) → ¬ S.gave source folder }
     ensures rules { IfOk result (λ tree. tree.rules ≡ by_git case) }
     ensures count { IfOk result (λ tree. tree.front_count ≡ length lists.items) }
     ensures before { IfOk result (λ tree. tree.lists ≡ lists.items) }

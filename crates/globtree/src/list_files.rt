@@ -242,7 +242,7 @@ fn list_asked<R: Files + Env + Clock + Eprint + AllocGlobal + Clone + Drop, O: W
     let folder = told_folder(asked);
     refuse_beyond_link(rt, alloc, &fronts.standpoint, folder)?;
     let files = source_of(rt, alloc, fronts, shows_progress)?;
-    let mut source = ToldPatterns::before(alloc, asked, files);
+    let mut source = ToldPatterns::before(alloc, asked, files)?;
     let begin = folder.as_bytes();
     let outcome = run_files(alloc, listing, &fronts.tracked, &mut source, begin, output);
     ended(alloc, begin, outcome, source.into_source().end())
@@ -310,7 +310,7 @@ fn list_tracked_by<R: Files + Env + Eprint + AllocGlobal, O: Write>(
         return list_tracked(alloc, &standpoint, form, &tracked, list, met, output);
     }
     let files = FolderFiles::of_tracked(rt, alloc, &indexed);
-    let source = ToldPatterns::before(alloc, asked, files);
+    let source = ToldPatterns::before(alloc, asked, files)?;
     let tree = tree_behind(alloc, lists, source, case)?;
     list_tracked_ignored(
         rt,

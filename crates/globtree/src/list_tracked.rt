@@ -85,7 +85,7 @@ pub(crate) fn list_tracked_ignored<R: Files + Eprint, O: Write>(
     standpoint: &Standpoint,
     form: Form,
     tracked: &Index,
-    tree: Tree<GitIgnoreLines, ToldPatterns<'_, FolderFiles<'_, R>>>,
+    tree: Tree<GitIgnoreLines, ToldPatterns<FolderFiles<'_, R>>>,
     list: &PathspecList,
     met: &mut MetElements,
     output: &mut Watched<O>,

@@ -52,7 +52,7 @@ pub(crate) fn run_narrowed<
         tracked: TrackedFolders::new(&fronts.tracked, &folded),
     };
     let files = source_of(rt, alloc, fronts, shows_progress)?;
-    let source = ToldPatterns::before(alloc, asked, files);
+    let source = ToldPatterns::before(alloc, asked, files)?;
     let mut narrowed = Narrowed::new(alloc, source, paths);
     let outcome = run_files(
         alloc,

@@ -11,7 +11,7 @@ use glob_trees::{FolderLists, list_in_folder};
 use std::alloc::{AllocError, Global};
 use std::rt::Files;
 use tree_commands::files::source::{EntryKind, FileSource, FolderNames};
-use tree_files::{CheckFault, named_list};
+use tree_files::{CheckFault, FolderFiles, named_list};
 
 /// Adds the lists of what is told to those before all folders. As in Git, the files that stand before the last `--exclude-standard` count less
 /// than the usual ones. The patterns themselves are one list more, where the ignore files of folders don't count.
@@ -24,14 +24,15 @@ pub(crate) fn add_told<R: Files>(
     'files: for (place, file) in asked.pattern_files.iter().enumerate() {
         let list = PreparedList::new(alloc, list_of_file(rt, alloc, file)?);
         if place < asked.files_before_standard {
-            lists.insert(place, list)?;
+            lists.insert(place.min(lists.len()), list)?;
         } else {
             lists.push(list)?;
         }
     }
     if !asked.exclude_standard {
         let mut list = List::empty(alloc);
-        add_patterns(alloc, &asked.patterns, true, &mut list)?;
+        let patterns = texts_of(alloc, &asked.patterns)?;
+        add_patterns(alloc, &patterns, true, &mut list)?;
         lists.push(PreparedList::new(alloc, list))?;
     }
     Ok(())
@@ -58,15 +59,15 @@ fn list_of_file<R: Files>(rt: &R, alloc: Global, file: &str) -> Result<List<GitI
 /// Adds patterns behind those of a list: all to that of the top, and to another those without a slash, which mean the same in each folder.
 fn add_patterns(
     alloc: Global,
-    patterns: &[&str],
+    patterns: &[String],
     is_of_top: bool,
     list: &mut List<GitIgnoreLines>,
 ) -> Result<(), AllocError> {
     'patterns: for pattern in patterns {
-        if is_of_top || is_of_names(pattern) {
+        if is_of_top || is_of_names(pattern.as_str()) {
             let sequence_number = list.patterns.len() + 1;
             list.patterns.push(Mapping {
-                pattern: Pattern::from_git_line(alloc, pattern.as_bytes())?,
+                pattern: Pattern::from_git_line(alloc, pattern.as_str().as_bytes())?,
                 value: (),
                 sequence_number,
             })?;
@@ -80,30 +81,40 @@ fn is_of_names(pattern: &str) -> bool {
     !pattern.strip_suffix('/').unwrap_or(pattern).contains('/')
 }
 
+/// Copies of texts.
+fn texts_of(alloc: Global, texts: &[&str]) -> Result<Vec<String>, AllocError> {
+    let mut copies = Vec::new(alloc);
+    'texts: for text in texts {
+        copies.push(String::from_str(alloc, text)?)?;
+    }
+    Ok(copies)
+}
+
 /// A source before whose ignore files patterns count that are told; or the files don't count.
 #[derive(Drop)]
-pub(crate) struct ToldPatterns<'a, S> {
+pub(crate) struct ToldPatterns<S> {
     alloc: Global,
     source: S,
     /// The patterns, in the order in which they are told.
-    patterns: &'a [&'a str],
+    patterns: Vec<String>,
     /// Whether ignore files count.
     counts_files: bool,
 }
 
-impl<'a, S> ToldPatterns<'a, S> {
+impl<S: Drop> ToldPatterns<S> {
     /// Those that are told before those of a source.
     pub(crate) fn before(
         alloc: Global,
-        asked: &'a ListFiles<'_>,
+        asked: &ListFiles<'_>,
         source: S,
-    ) -> ToldPatterns<'a, S> {
-        ToldPatterns {
+    ) -> Result<ToldPatterns<S>, AllocError> {
+        let patterns = texts_of(alloc, &asked.patterns)?;
+        Ok(ToldPatterns {
             alloc,
             source,
-            patterns: &asked.patterns,
+            patterns,
             counts_files: asked.counts_usual(),
-        }
+        })
     }
 
     /// The source itself.
@@ -112,7 +123,7 @@ impl<'a, S> ToldPatterns<'a, S> {
     }
 }
 
-impl<'a, S: FileSource<Fault = CheckFault>> FileSource for ToldPatterns<'a, S> {
+impl<S: FileSource<Fault = CheckFault>> FileSource for ToldPatterns<S> {
     type Fault = CheckFault;
 
     // (nothing is said of what patterns are told)
@@ -140,8 +151,8 @@ impl<'a, S: FileSource<Fault = CheckFault>> FileSource for ToldPatterns<'a, S> {
             return Ok(list_in_folder(self.alloc, List::empty(self.alloc), folder)?);
         }
         let mut list = self.source.list_of(folder)?;
-        add_patterns(self.alloc, self.patterns, folder.is_empty(), &mut list)?;
-        Ok(list)
+        add_patterns(self.alloc, &self.patterns, folder.is_empty(), &mut list)?;
+        Ok(list_in_folder(self.alloc, list, folder)?)
     }
 
     fn no_folder(&mut self, path: &[u8]) -> Result<(), CheckFault> {
@@ -149,21 +160,20 @@ impl<'a, S: FileSource<Fault = CheckFault>> FileSource for ToldPatterns<'a, S> {
     }
 }
 
-impl<'a, S: FolderLists<GitIgnoreLines, Fault = CheckFault>> FolderLists<GitIgnoreLines>
-    for ToldPatterns<'a, S> {
+impl<'f, R: Files + Eprint> FolderLists<GitIgnoreLines> for ToldPatterns<FolderFiles<'f, R>> {
     type Fault = CheckFault;
 
     ghost shows = { λ _ _ _ _. Unit {0} };
 
-    ghost gave = { λ told folder. S.gave told.source folder };
+    ghost gave = { λ _ _. ⊥ };
 
     fn list_of(&mut self, folder: &[u8]) -> Result<List<GitIgnoreLines>, CheckFault> {
         if !self.counts_files {
             return Ok(list_in_folder(self.alloc, List::empty(self.alloc), folder)?);
         }
         let mut list = self.source.list_of(folder)?;
-        add_patterns(self.alloc, self.patterns, folder.is_empty(), &mut list)?;
-        Ok(list)
+        add_patterns(self.alloc, &self.patterns, folder.is_empty(), &mut list)?;
+        Ok(list_in_folder(self.alloc, list, folder)?)
     }
 
     fn forget(&mut self) {

@@ -1,14 +1,15 @@
 -- The entries that pathspecs match.
 use Rattle.std.proofs.Common.{◌≡◌, ◌⊎◌, inl, inr, refl, Bool, true, false, not, IsTrue, ◌∷◌, ◌++◌, [], ℕ, ◌+◌, ◌<◌, List, length, slice_index_or, sym, ap, ◌∙◌, subst, arith}
-use Rattle.std.specs.Prelude.{◌↔◌, Option}
+use Rattle.std.specs.Prelude.{◌↔◌, Option, None, Some, is_some}
 use Rattle.std.specs.Option.{option_map}
 use Rattle.std.specs.Vec.{vec_items}
 use Rattle.std.proofs.lemmas.Bool.{cases_lt, false≢true}
 use Rattle.std.proofs.lemmas.List.{get_or_default}
 use Rattle.git_index.specs.Entries.{Tracked}
-use Rattle.pathspecs.specs.Elements.{PathspecItem}
+use Rattle.pathspecs.specs.Elements.{Meets, PathspecItem}
+use Rattle.pathspecs.specs.Lists.{IsMet, Matches}
 use Rattle.globtree.specs.declared.listed_path.ListedPath.{ListedPath}
-use Rattle.globtree.specs.Listed.{AddsMatched, AreMatched, Listed, folder_of_entry, listed_of, seen_listed}
+use Rattle.globtree.specs.Listed.{AddsMatched, AreMatched, IsMetListed, Listed, MatchesListed, MeetsListed, folder_of_entry, listed_of, seen_listed}
 
 -- what was passed over stays so with one more
 pub pass_over : {X : Type 0} (P : X → Type 0) (xs : List X) (i : ℕ) (x : X) → i < length xs → x ≡ slice_index_or xs i x → (P x → ⊥)
@@ -40,3 +41,27 @@ one_more items [] entry old new none (inr (other, is)) = inr (other, is ∙ none
 one_more items (first ∷ entries) entry old new (inl (matches, (rest, begins, more))) (inl (its, is)) = inl (matches, (rest ++ entry.path ∷ [], is ∙ ap (λ paths. paths ++ entry.path ∷ []) begins, one_more items entries entry rest (rest ++ entry.path ∷ []) more (inl (its, refl))))
 one_more items (first ∷ entries) entry old new (inl (matches, (rest, begins, more))) (inr (other, is)) = inl (matches, (rest, is ∙ begins, one_more items entries entry rest rest more (inr (other, refl))))
 one_more items (first ∷ entries) entry old new (inr (passed, more)) adds = inr (passed, one_more items entries entry old new more adds)
+
+none_is_not_some : {X : Type 0} {x : X} → ◌≡◌ {A = Option X} None (Some x) → ⊥
+none_is_not_some is = cc
+
+-- what isn't a submodule's is met only by its path
+pub met_by_path : (listed : Listed) → listed.folder ≡ None → (item : PathspecItem) → MeetsListed item listed → Meets item listed.path
+met_by_path listed none item (inl meets) = meets
+met_by_path listed none item (inr (folder, (is, exact))) = absurd (none_is_not_some (sym none ∙ is))
+
+pub met_alike : (exclude : Bool) (items : List PathspecItem) (listed : Listed) → listed.folder ≡ None → IsMetListed exclude items listed ↔ IsMet exclude items listed.path
+met_alike exclude items listed none = (
+  λ met. (met.0, (met.1.0, (met.1.1.0, (met.1.1.1.0, (met.1.1.1.1.0, met_by_path listed none met.1.0 met.1.1.1.1.1))))),
+  λ met. (met.0, (met.1.0, (met.1.1.0, (met.1.1.1.0, (met.1.1.1.1.0, inl met.1.1.1.1.1))))),
+)
+
+pub matches_alike : (items : List PathspecItem) (listed : Listed) → listed.folder ≡ None → Matches items listed.path ↔ MatchesListed items listed
+matches_alike items listed none =
+    let met = met_alike false items listed none in
+    let taken = met_alike true items listed none in
+    (λ matches. (met.1 matches.0, λ takes. matches.1 (taken.0 takes)), λ matches. (met.0 matches.0, λ takes. matches.1 (taken.1 takes)))
+
+pub map_none : {A B : Type 0} (f : A → B) (o : Option A) → is_some o ≡ false → option_map f o ≡ None
+map_none f None is = refl
+map_none f (Some x) never = absurd (false≢true (sym never))
