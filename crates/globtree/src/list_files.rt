@@ -17,6 +17,7 @@ use crate::told_patterns::add_told;
 use crate::words::Options;
 use crate::words::files::ListFiles;
 use byte_streams::Watched;
+use git_index::Index;
 use git_repository::Purpose;
 use std::alloc::Global;
 use std::io::Write;
@@ -47,6 +48,7 @@ pub(crate) fn list_files<R: Files + Env + Clock + Eprint + AllocGlobal + Clone +
     }
     let settings = settings_for(rt, alloc, options.pathspecs, &asked.pathspecs)?;
     let told = ToldPathspecs::read(alloc, &fronts.standpoint, settings, &asked.pathspecs)?;
+    let nothing = Index::empty(alloc);
     let lister = Lister {
         rt,
         alloc,
@@ -54,6 +56,11 @@ pub(crate) fn list_files<R: Files + Env + Clock + Eprint + AllocGlobal + Clone +
         asked: &asked,
         told: &told,
         fronts: &fronts,
+        hidden: if asked.are_usual() {
+            &nothing
+        } else {
+            &fronts.tracked
+        },
         shows_progress,
     };
     let mut met = MetElements::none(alloc, &told.list, asked.error_unmatch)?;
@@ -89,16 +96,7 @@ fn listing_fronts<R: Files + Env + Eprint + AllocGlobal>(
         ground.tree.excludes = Some(file);
     }
     ground.counts = asked.counts_usual();
-    let mut fronts = fronts_on(rt, alloc, ground, index_by(asked))?;
+    let mut fronts = fronts_on(rt, alloc, ground, IndexUse::Paths)?;
     add_told(rt, alloc, asked, &mut fronts.lists)?;
     Ok(fronts)
-}
-
-/// What is taken from the index: which paths are tracked, unless all files are listed.
-fn index_by(asked: &ListFiles<'_>) -> IndexUse {
-    if asked.are_usual() {
-        IndexUse::Patterns
-    } else {
-        IndexUse::Paths
-    }
 }

@@ -31,6 +31,7 @@ use tree_commands::tracked_files::{write_ignored, write_paths};
 use tree_files::{CheckFault, FileKinds, FolderFiles};
 
 /// A listing of the tracked paths that pathspecs match.
+#[derive(Drop)]
 pub(crate) struct TrackedListing<'a> {
     pub(crate) alloc: Global,
     /// Where paths are told from.

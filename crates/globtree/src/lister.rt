@@ -8,15 +8,17 @@ use crate::list_tracked::{TrackedListing, records_of};
 use crate::listed_path::ListedPath;
 use crate::listing::{copies_of, ended, source_of};
 use crate::met_elements::MetElements;
-use crate::narrowed_listing::run_narrowed;
+use crate::narrowed_listing::{below_top, run_narrowed};
 use crate::outcomes::{ANSWERED, answer_of};
 use crate::places::{at_top, copy_of};
+use crate::standing_tracked::add_standing;
 use crate::told_name::refuse_beyond_link;
 use crate::told_pathspecs::ToldPathspecs;
 use crate::told_patterns::ToldPatterns;
 use crate::words::Options;
 use crate::words::files::ListFiles;
 use byte_streams::Watched;
+use git_index::Index;
 use git_paths::Standpoint;
 use std::alloc::Global;
 use std::io::Write;
@@ -29,6 +31,7 @@ use tree_commands::tracked_files::write_paths;
 use tree_files::{CheckFault, FolderFiles, TreeFiles};
 
 /// What lists the files that `files` is asked for.
+#[derive(Drop)]
 pub(crate) struct Lister<'a, R> {
     pub(crate) rt: &'a R,
     pub(crate) alloc: Global,
@@ -36,11 +39,14 @@ pub(crate) struct Lister<'a, R> {
     pub(crate) asked: &'a ListFiles<'a>,
     pub(crate) told: &'a ToldPathspecs<'a>,
     pub(crate) fronts: &'a Fronts,
+    /// The tracked paths that aren't listed where they are found.
+    pub(crate) hidden: &'a Index,
     pub(crate) shows_progress: bool,
 }
 
 impl<'a, R: Files + Env + Clock + Eprint + AllocGlobal + Clone + Drop> Lister<'a, R> {
-    /// Lists the files that are found, where such are listed, and notes which pathspecs met one. It answers what the command ends with.
+    /// Lists the files that are found, where such are listed, and notes which pathspecs met one. Without options what is tracked is among them,
+    /// also where patterns match it. It answers what the command ends with.
     pub(crate) fn list_found<O: Write>(
         &self,
         met: &mut MetElements,
@@ -51,7 +57,7 @@ impl<'a, R: Files + Env + Clock + Eprint + AllocGlobal + Clone + Drop> Lister<'a
         if !self.asked.lists_found() {
             return Ok(ANSWERED);
         }
-        if !met.is_asked {
+        if !met.is_asked && !self.lists_tracked_beside() {
             let listing = self.listing(copy_of(&self.fronts.standpoint)?, self.form())?;
             return self.run(listing, output);
         }
@@ -59,12 +65,21 @@ impl<'a, R: Files + Env + Clock + Eprint + AllocGlobal + Clone + Drop> Lister<'a
         let mut text = Watched::new(Vec::new(self.alloc));
         let status = self.run(listing, &mut text)?;
         let text = text.into_inner();
-        let paths = records_of(self.alloc, &text)?;
+        let mut paths = records_of(self.alloc, &text)?;
+        if self.lists_tracked_beside() {
+            let list = &self.told.list;
+            add_standing(self.rt, self.alloc, list, &self.fronts.tracked, &mut paths)?;
+        }
         'paths: for path in &paths {
             met.note(&self.told.list, &ListedPath::found(path));
         }
         self.write(&paths, output)?;
         Ok(status)
+    }
+
+    /// Whether tracked paths are listed among those that are found.
+    fn lists_tracked_beside(&self) -> bool {
+        self.asked.are_usual() && !self.fronts.tracked.entries().is_empty()
     }
 
     /// Lists the tracked paths that pathspecs match, where such are listed; with `-i` those that are ignored.
@@ -138,22 +153,37 @@ impl<'a, R: Files + Env + Clock + Eprint + AllocGlobal + Clone + Drop> Lister<'a
         let folder = asked.told_folder();
         refuse_beyond_link(self.rt, self.alloc, &self.fronts.standpoint, folder)?;
         let mut source = self.source()?;
-        let begin = folder.as_bytes();
+        let begin = self.begin(folder)?;
         let outcome = run_files(
             self.alloc,
             listing,
-            &self.fronts.tracked,
+            self.hidden,
             &mut source,
-            begin,
+            &begin,
             output,
         );
-        ended(self.alloc, begin, outcome, source.into_source().end())
+        ended(self.alloc, &begin, outcome, source.into_source().end())
+    }
+
+    /// Where a listing of all below a folder begins: where the paths that are found are told from the top, the current folder is told from the
+    /// root.
+    fn begin(&self, folder: &str) -> Result<Vec<u8>> {
+        let standpoint = &self.fronts.standpoint;
+        if self.lists_tracked_beside() {
+            return Ok(below_top(self.alloc, standpoint, &standpoint.here)?);
+        }
+        Ok(Vec::from_slice(self.alloc, folder.as_bytes())?)
     }
 
     /// The work tree, and the patterns that are told.
     pub(crate) fn source(&self) -> Result<ToldPatterns<'a, TreeFiles<'a, R>>> {
         let files = source_of(self.rt, self.alloc, self.fronts, self.shows_progress)?;
-        Ok(ToldPatterns::before(self.alloc, self.asked, files))
+        let source = ToldPatterns::before(self.alloc, self.asked, files);
+        if self.asked.are_usual() {
+            Ok(source.with(&self.fronts.tracked))
+        } else {
+            Ok(source)
+        }
     }
 
     /// Which files are listed that are found: without options those that aren't ignored; else what the patterns say, where they count.

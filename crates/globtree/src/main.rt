@@ -28,6 +28,7 @@ mod places;
 mod running;
 mod show_config;
 mod show_status;
+mod standing_tracked;
 mod told_name;
 mod told_pathspecs;
 mod told_patterns;

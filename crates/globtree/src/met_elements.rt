@@ -34,6 +34,9 @@ impl MetElements {
 
     /// Notes a path that is listed.
     pub(crate) fn note(&mut self, list: &PathspecList, listed: &ListedPath<'_>) {
+        if !self.is_asked {
+            return;
+        }
         self.is_any = true;
         'elements: for (met, element) in self.met.iter_mut().zip(list.elements().iter()) {
             *met = *met || listed.is_met(element);

@@ -42,14 +42,7 @@ pub(crate) fn run_narrowed<R: Files + Env + Clock + Eprint + AllocGlobal + Clone
         tracked: TrackedFolders::new(&fronts.tracked, &folded),
     };
     let mut narrowed = Narrowed::new(alloc, lister.source()?, paths);
-    let outcome = run_files(
-        alloc,
-        listing,
-        &fronts.tracked,
-        &mut narrowed,
-        &begin,
-        output,
-    );
+    let outcome = run_files(alloc, listing, lister.hidden, &mut narrowed, &begin, output);
     ended(
         alloc,
         &begin,
@@ -85,7 +78,11 @@ fn is_there<R: Files>(rt: &R, alloc: Global, front: &[u8]) -> Result<bool> {
 }
 
 /// A folder below the top, as it is told from the root.
-fn below_top(alloc: Global, standpoint: &Standpoint, front: &[u8]) -> Result<Vec<u8>, AllocError> {
+pub(crate) fn below_top(
+    alloc: Global,
+    standpoint: &Standpoint,
+    front: &[u8],
+) -> Result<Vec<u8>, AllocError> {
     let mut told = from_root(alloc, &standpoint.top)?;
     told.push(b'/')?;
     told.extend_from_slice(front)?;

@@ -2,6 +2,7 @@
 
 use crate::fault::{Fault, Result};
 use crate::words::files::ListFiles;
+use git_index::Index;
 use gix_glob::Pattern;
 use gix_glob::search::LoadFault;
 use gix_glob::search::pattern::{List, Mapping};
@@ -89,6 +90,8 @@ pub(crate) struct ToldPatterns<'a, S> {
     patterns: &'a [&'a str],
     /// Whether ignore files count.
     counts_files: bool,
+    /// What is tracked, where it is listed as what isn't.
+    tracked: Option<&'a Index>,
 }
 
 impl<'a, S> ToldPatterns<'a, S> {
@@ -103,6 +106,21 @@ impl<'a, S> ToldPatterns<'a, S> {
             source,
             patterns: &asked.patterns,
             counts_files: asked.counts_usual(),
+            tracked: None,
+        }
+    }
+
+    /// The same where what is tracked is listed as what isn't: a repository in which a tracked path lies is a folder like others.
+    pub(crate) fn with(mut self, tracked: &'a Index) -> ToldPatterns<'a, S> {
+        self.tracked = Some(tracked);
+        self
+    }
+
+    /// Whether a tracked path lies in a folder, and is listed as what isn't tracked.
+    fn has_tracked(&self, folder: &[u8]) -> bool {
+        match self.tracked {
+            Some(tracked) => tracked.has_below(folder),
+            None => false,
         }
     }
 
@@ -124,11 +142,13 @@ impl<'a, S: FileSource<Fault = CheckFault>> FileSource for ToldPatterns<'a, S> {
         let mut found = self.source.names(folder)?;
         let are_told = folder.is_empty() && !self.patterns.is_empty();
         found.has_patterns = self.counts_files && (found.has_patterns || are_told);
+        found.has_git = found.has_git && !self.has_tracked(folder);
         Ok(found)
     }
 
     fn has_git(&mut self, folder: &[u8]) -> Result<bool, CheckFault> {
-        self.source.has_git(folder)
+        let has_git = self.source.has_git(folder)?;
+        Ok(has_git && !self.has_tracked(folder))
     }
 
     fn kind(&mut self, path: &[u8]) -> Result<Option<EntryKind>, CheckFault> {

@@ -36,6 +36,19 @@ impl<'a, R> FileKinds<'a, R> {
     }
 }
 
+impl<'a, R: Files> FileKinds<'a, R> {
+    /// Whether a file or a link stands at a path, as far as that can be looked at.
+    pub fn is_file(&self, path: &[u8]) -> bool {
+        let Ok(name) = str::from_utf8(path) else {
+            return false;
+        };
+        match fs::symlink_metadata(self.rt, name) {
+            Ok(found) => found.is_file() || found.is_symlink(),
+            Err(_missing) => false,
+        }
+    }
+}
+
 impl<'a, R: Files> PathKinds for FileKinds<'a, R> {
     ghost use Rattle.tree_commands.specs.CheckIgnore.{nothing_known};
 

@@ -90,7 +90,7 @@ impl<'a> ListFiles<'a> {
         None
     }
 
-    /// Whether there is none of them but `-z`: files are listed then that aren't ignored, whether they are tracked or not.
+    /// Whether there is none of them but `-z`: files are listed then that aren't ignored, or are tracked.
     pub(crate) fn are_usual(&self) -> bool {
         !(self.cached
             || self.others
