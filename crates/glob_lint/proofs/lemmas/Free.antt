@@ -1,6 +1,6 @@
 -- The folders of a base that aren't ignored: they aren't without a line under that base, either.
 use Rattle.std.proofs.Common.{◌≡◌, inl, inr, ⊎_elim, ℕ, ◌<◌, ◌≤◌, true, false, List, [], ◌∷◌, ◌++◌, get_or, length, take, Option, None, Some, refl, sym, ap, subst, ◌∙◌, length-append, zero-add, arith}
-use Rattle.std.specs.Prelude.{slice_get, unwrap_or}
+use Rattle.std.specs.Prelude.{unwrap_or}
 use Rattle.std.specs.Option.{option_map_or}
 use Rattle.std.proofs.Math.ListN.{get_or-append}
 use Rattle.std.proofs.Math.Seq.{take-append-le}
@@ -8,7 +8,7 @@ use Rattle.std.proofs.lemmas.Bool.{cases_lt}
 use Rattle.gix_glob.specs.Bytes.{HasByte, slash}
 use Rattle.gix_glob.specs.EntryLists.{EntryList}
 use Rattle.gix_glob.specs.Stripping.{RestOf}
-use Rattle.glob_lists.specs.Deciding.{Decides, IsLastAnswer, PairAnswers}
+use Rattle.glob_lists.specs.Deciding.{IsLastAnswer, PairAnswers}
 use Rattle.glob_lists.specs.declared.rules.Rules.{Rules}
 use Rattle.glob_matcher.specs.declared.wildmatch.way.Way.TheVariants.{FoldedPlain}
 use Rattle.glob_patterns.specs.declared.pattern.case.Case.{Case}
@@ -19,7 +19,7 @@ use Rattle.glob_trees.proofs.lemmas.Folders.{above_is_front, above_slash, slash_
 use Rattle.glob_lint.specs.Private.Asking.{NoneIgnoredUpTo, base_at}
 use Rattle.glob_lint.specs.Without.{is_among, lists_but}
 use Rattle.glob_lint.proofs.lemmas.Going.{none_more}
-use Rattle.glob_lint.proofs.lemmas.Left.{IsLeft, match_stays, match_stood, sign_stays}
+use Rattle.glob_lint.proofs.lemmas.Left.{match_stays, match_stood, sign_stays}
 use Rattle.glob_lint.proofs.lemmas.Ranks.{rank, rank_grows}
 
 -- a folder above a path that ends within a front of it is above that front

@@ -3,7 +3,6 @@ use Rattle.std.proofs.Common.{◌≡◌, None, ap, subst, ◌∙◌, rules}
 use borrow.Author.Tests.{tests}
 use Rattle.glob_lists.specs.Paths.{Path}
 use Rattle.glob_trees.specs.Trees.{HasNoneIgnored}
-use Rattle.glob_lint.specs.Private.Asking.{base_at}
 use Rattle.glob_lint.specs.Seen.{seen}
 use Rattle.glob_lint.proofs.asked.AskedLists.has_free_base.Goals as goal
 
