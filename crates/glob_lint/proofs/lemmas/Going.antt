@@ -1,6 +1,6 @@
 -- Which lines go together: how the two sets grow, and that no answer changes.
 use Rattle.std.proofs.Common.{◌≡◌, ◌⊎◌, inl, inr, ⊎_elim, ℕ, true, false, List, [], ◌∷◌, ◌++◌, refl, sym, subst, ◌∙◌, arith}
-use Rattle.std.specs.Prelude.{◌==◌, ◌&&◌, ◌||◌}
+use Rattle.std.specs.Prelude.{◌↔◌, ◌==◌, ◌&&◌, ◌||◌}
 use Rattle.std.proofs.lemmas.Bool.{false≢true}
 use Rattle.glob_lists.specs.declared.rules.Rules.{Rules}
 use Rattle.gix_glob.specs.EntryLists.{EntryList}
@@ -11,7 +11,7 @@ use Rattle.glob_lint.specs.declared.why.Why.{Why}
 use Rattle.glob_lint.specs.declared.why.Why.TheVariants.{MatchesNothing, Covered, BelowIgnored, TakesNothingBack}
 use Rattle.glob_lint.specs.declared.effects.Effect.{Effect}
 use Rattle.glob_lint.specs.declared.effects.Effect.TheVariants.{Idle, Changes, Unknown}
-use Rattle.glob_lint.specs.Effects.{Before, IsEffect, IsWhy}
+use Rattle.glob_lint.specs.Effects.{Before, CoversAt, IsEffect, IsWhy}
 use Rattle.glob_lint.specs.Ignoring.{IgnoreAlike}
 use Rattle.glob_lint.specs.Private.Reasons.{AlikeFrom, IsFound, IsReason, MayAllGo, MayGo, Needs}
 use Rattle.glob_lint.specs.Without.{AreAmong, is_among, lists_but}
@@ -64,7 +64,37 @@ not_first : (other : ℕ × ℕ) → ¬ Before other (0, 0)
 not_first other (inl h) = omega arith
 not_first other (inr h) = let less = h.1 in omega arith
 
+both_before : (a b c : ℕ × ℕ) → Before a b → Before b c → Before a c
+both_before a b c (inl h) (inl k) = inl (omega arith)
+both_before a b c (inl h) (inr k) = let same = k.0 in inl (omega arith)
+both_before a b c (inr h) (inl k) = let same = h.0 in inl (omega arith)
+both_before a b c (inr h) (inr k) = let less = h.1 in let more = k.1 in inr (h.0 ∙ k.0, omega arith)
+
 module _ {V : Type 0} (rules : Rules) (lists : List (EntryList V)) where
+  -- ---- a line that covers one that covers another
+
+  -- an earlier line that covers needs the lines between
+  between : (by pair : ℕ × ℕ) → Before by pair → IsReason rules lists pair (Covered by) → AlikeFrom rules lists by pair
+  between by pair first reason = ⊎_elim (λ (later : Before pair by). absurd (not_both by pair first later)) (λ (back : Before by pair × AlikeFrom rules lists by pair). back.1) reason.1
+
+  pub covered_on : (pair by next : ℕ × ℕ) → Before by pair → IsReason rules lists pair (Covered by) → IsReason rules lists by (Covered next) → Before next by ⊎ Before pair next → IsReason rules lists pair (Covered next)
+  covered_on pair by next first reason other where_next =
+      let covers : CoversAt rules lists pair next = λ path is_dir real h. other.0 path is_dir real (reason.0 path is_dir real h) in
+      let near = between by pair first reason in
+      ⊎_elim
+      (λ (earlier : Before next by).
+      let far = between next by earlier other in
+      let all : AlikeFrom rules lists next pair = λ line from before path is_dir real h k. by_order line by (IsPositiveAt lists line ↔ IsPositiveAt lists pair)
+      (λ low.
+      let one = far line from low path is_dir real (reason.0 path is_dir real h) k in
+      let two = near by (λ self. not_both by by self self) first path is_dir real h (reason.0 path is_dir real h) in
+      (λ p. two.0 (one.0 p), λ p. one.1 (two.1 p)))
+      (λ same. near line (λ low. let self : Before by by = subst (λ (q : ℕ × ℕ). Before q by) same low in not_both by by self self) before path is_dir real h k)
+      (λ high. near line (λ low. not_both line by low high) before path is_dir real h k) in
+      (covers, inr (both_before next by pair earlier first, all)))
+      (λ (later : Before pair next). (covers, inl later))
+      where_next
+
   -- ---- the sets grow
 
   needs_more : (stay : List (ℕ × ℕ)) (by pair : ℕ × ℕ) (why : Why) → Needs rules lists stay pair why → Needs rules lists (stay ++ by ∷ []) pair why
