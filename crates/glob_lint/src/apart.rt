@@ -1,10 +1,11 @@
-//! Whether no path is matched by both of two lines: they end in other bytes, or one is a literal that the other doesn't match.
+//! Whether no path is matched by both of two lines: they begin or end in other bytes, or one is a literal that the other doesn't match.
 ghost use Rattle.std.specs.Prelude.{◌≡◌, IsTrue};
 ghost use Rattle.glob_lists.specs.declared.rules.Reading.TheVariants.{Git};
 ghost use Rattle.glob_lint.specs.Lines.{AreApart};
 ghost use Rattle.glob_lint.specs.Private.Ends.{DifferAtEnd, EndsIn, IsBareByte};
 ghost use Rattle.glob_lint.specs.Private.Rows.{row_of};
 
+use crate::beginnings::begin_apart;
 use crate::line::Line;
 use crate::reading::way_of;
 use crate::tokens::LineTokens;
@@ -12,21 +13,24 @@ use gix_glob::pattern::Case;
 use gix_glob::wildmatch::{TokenKind, Way};
 use glob_lists::{Reading, RepositoryPath, Rules};
 
-/// Whether no path is matched by both lines, by Git's rules: their literal ends differ, or one is a literal that the other, of the same folder, doesn't match. A yes is right for all paths that a work tree can
-/// have; a no says nothing.
+/// Whether no path is matched by both lines, by Git's rules: their beginnings or their literal ends differ, or one is a literal that the
+/// other, of the same folder, doesn't match. A yes is right for all paths that a work tree can have; a no says nothing.
 pub fn are_apart(left: &Line<'_>, right: &Line<'_>, rules: Rules) -> bool
     ensures { IsTrue result → AreApart rules left.now right.now }
 {
     let Reading::Git = rules.reading else {
         return false;
     };
+    let way = way_of(rules.case);
+    if begin_apart(left, right, way) {
+        return true;
+    }
     if is_missed(left, right, rules) {
         return true;
     }
     if is_missed(right, left, rules) {
         return true;
     }
-    let way = way_of(rules.case);
     match (left.tokens(), right.tokens()) {
         (Some(left), Some(right)) => ends_differ(
             literal_end(left, way),

@@ -3,6 +3,8 @@
 
 mod apart;
 mod asked;
+mod asked_line;
+mod beginnings;
 mod below;
 mod covering;
 mod effects;

@@ -2,7 +2,7 @@
 ghost use Rattle.glob_lists.specs.Deciding.{HasEntryAt};
 ghost use Rattle.glob_lint.specs.Seen.{seen};
 
-use crate::below::beginning_of;
+use crate::beginnings::beginning_of;
 use crate::line::Line;
 use crate::pairs::line_at;
 use crate::samples::{Sample, samples_of};

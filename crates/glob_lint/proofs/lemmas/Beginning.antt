@@ -1,7 +1,8 @@
 -- How the paths begin that a line matches, and what lies below a folder there.
-use Rattle.std.proofs.Common.{◌≡◌, ⊎_elim, ℕ, ◌≤◌, Bool, true, false, not, List, [], ◌∷◌, ◌++◌, length, map, take, Option, None, Some, refl, sym, ap, subst, ◌∙◌, append_assoc, take_all, arith}
+use Rattle.std.proofs.Common.{◌≡◌, ⊎_elim, ℕ, ◌<◌, ◌≤◌, Bool, true, false, not, List, [], ◌∷◌, ◌++◌, get_or, length, map, take, Option, None, Some, refl, sym, ap, subst, ◌∙◌, append_assoc, take_all, arith}
 use Rattle.std.specs.Prelude.{if◌then◌else◌, IsTrue, nat_lt, unwrap_or}
 use Rattle.std.specs.List.{position_or_len}
+use Rattle.std.proofs.Math.ListN.{get_or-append}
 use Rattle.std.proofs.lemmas.Bool.{cases_Bool, ltb-false, ltb-true}
 use Rattle.std.proofs.lemmas.List.{map-append}
 use Rattle.gix_glob.specs.Bytes.{is_special, slash}
@@ -18,8 +19,11 @@ use Rattle.glob_lists.specs.Rules.{AnswersAs}
 use Rattle.glob_trees.specs.Trees.{Ignores, IsAbove}
 use Rattle.glob_trees.proofs.lemmas.FoldedPaths.{ignores_as}
 use Rattle.glob_trees.proofs.lemmas.FoldedTexts.{made_by, slash_by}
-use Rattle.glob_lint.specs.Lines.{LineParts, Meets}
-use Rattle.glob_lint.specs.Private.Beginnings.{BeginsAs, beginning_of, front_of_line}
+use Rattle.glob_matcher.specs.declared.wildmatch.way.Way.{Way}
+use Rattle.glob_matcher.specs.Bytes.{fold}
+use Rattle.glob_patterns.proofs.lemmas.LiteralLemmas.{AreAlike-at, AreAlike-length}
+use Rattle.glob_lint.specs.Lines.{AreApart, LineParts, Meets}
+use Rattle.glob_lint.specs.Private.Beginnings.{BeginsAs, DifferAtFront, beginning_of, front_of_line}
 
 -- ---- the literal front, by the place of the first special byte
 
@@ -94,6 +98,26 @@ begins_so rules line path is_dir git m =
     let a = m.answers in
     let by_git = subst (λ reading. AnswersAs reading line.text line.mode m.rest a.basename_start is_dir rules.case) git a.answers in
     begins_based rules line.base path m.rest (front_of_line line) m.left (begins_front rules line m.rest a.basename_start (Some is_dir) by_git)
+
+-- ---- a place of the beginning
+
+alike_by_way : (case : Case) (a b : List ℕ) → folding_by case a ≡ folding_by case b → folding_of (git_way case) a ≡ folding_of (git_way case) b
+alike_by_way Sensitive a b same = ap (folding_of (git_way Sensitive)) same
+alike_by_way Fold a b same = same
+
+front_byte : (rules : Rules) (text path : List ℕ) (n : ℕ) → BeginsAs rules text path → n < length text → fold (git_way rules.case) (get_or path n 0) ≡ fold (git_way rules.case) (get_or text n 0)
+front_byte rules text path n b inside =
+    let way = git_way rules.case in
+    let alike = alike_by_way rules.case b.begins text b.same in
+    let long : length b.begins ≡ length text = AreAlike-length way b.begins text alike in
+    ap (fold way) (ap (λ (xs : List ℕ). get_or xs n 0) b.joined ∙ get_or-append b.begins b.below 0 n (omega arith)) ∙ AreAlike-at way b.begins text alike n (omega arith)
+
+-- no path begins as both lines have it
+pub begun_apart : (rules : Rules) (left right : LineParts) → rules.reading ≡ Git → (way : Way) → way ≡ git_way rules.case → DifferAtFront way (beginning_of left) (beginning_of right) → AreApart rules left right
+begun_apart rules left right git way is differ = λ path is_dir real m k.
+    let d = subst (λ (w : Way). DifferAtFront w (beginning_of left) (beginning_of right)) is differ in
+    d.other (sym (front_byte rules (beginning_of left) path d.place (begins_so rules left path is_dir git m) d.in_left)
+    ∙ front_byte rules (beginning_of right) path d.place (begins_so rules right path is_dir git k) d.in_right)
 
 -- ---- a folder above the beginning
 
