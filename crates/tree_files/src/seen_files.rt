@@ -15,6 +15,9 @@ use std::rt::Files;
 use std::{fs, io};
 use system_files::{Sight, Unread, open_seen};
 
+/// The most room that a file gets before it is read.
+const MOST_ROOM: u64 = 64 * 1024;
+
 /// The list of a file by its name, as [`seen_list`] answers it of what stands there; `None` where nothing does. A link is followed.
 ///
 /// # Errors
@@ -85,6 +88,7 @@ pub(crate) fn read_seen<R: Files>(
         }
         Err(Unread::System(error)) => return is_there(error),
     };
+    *bytes = Vec::with_capacity(*bytes.allocator(), room_for(opened.len))?;
     match opened
         .file
         .take(limit.unwrap_or(opened.len))
@@ -96,6 +100,12 @@ pub(crate) fn read_seen<R: Files>(
         Ok(_count) => Ok(true),
         Err(error) => is_there(error),
     }
+}
+
+/// How much room the bytes of a file with this length get at first: all of it is set before it is read, so no more than they take, and one
+/// byte in which the end is met.
+fn room_for(len: u64) -> usize {
+    len.min(MOST_ROOM) as usize + 1
 }
 
 /// The fault of a file that isn't read.
