@@ -32,6 +32,8 @@ use tree_files::CheckFault;
 const FOUND: u8 = 1;
 
 /// Tells which lines of ignore files do nothing, or writes a file without those that may go.
+// (other commands, which are asked with a small stack, don't get its room)
+#[inline(never)]
 pub(crate) fn lint<R: Files + Env + Clock + Eprint + AllocGlobal + Clone + Drop, O: Write>(
     rt: &R,
     alloc: Global,
