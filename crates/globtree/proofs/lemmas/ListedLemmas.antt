@@ -48,13 +48,11 @@ none_is_not_some is = cc
 -- what isn't a submodule's is met only by its path
 pub met_by_path : (listed : Listed) → listed.folder ≡ None → (item : PathspecItem) → MeetsListed item listed → Meets item listed.path
 met_by_path listed none item (inl meets) = meets
-met_by_path listed none item (inr (folder, (is, exact))) = absurd (none_is_not_some (sym none ∙ is))
+met_by_path listed none item (inr (folder, is, exact)) = absurd (none_is_not_some (sym none ∙ is))
 
 pub met_alike : (exclude : Bool) (items : List PathspecItem) (listed : Listed) → listed.folder ≡ None → IsMetListed exclude items listed ↔ IsMet exclude items listed.path
-met_alike exclude items listed none = (
-  λ met. (met.0, (met.1.0, (met.1.1.0, (met.1.1.1.0, (met.1.1.1.1.0, met_by_path listed none met.1.0 met.1.1.1.1.1))))),
-  λ met. (met.0, (met.1.0, (met.1.1.0, (met.1.1.1.0, (met.1.1.1.1.0, inl met.1.1.1.1.1))))),
-)
+met_alike exclude items listed none =
+    (λ met. (met.0, met.1, met.2, met.3, (met.4.0, met_by_path listed none met.1 met.4.1)), λ met. (met.0, met.1, met.2, met.3, (met.4.0, inl met.4.1)))
 
 pub matches_alike : (items : List PathspecItem) (listed : Listed) → listed.folder ≡ None → Matches items listed.path ↔ MatchesListed items listed
 matches_alike items listed none =
