@@ -14,6 +14,7 @@ pub mod Finding
 pub mod Together
 pub mod Held
 pub mod LastLeft
+pub mod Free
 pub mod Going
 pub mod Named
 pub mod Beginning

@@ -1,12 +1,15 @@
 //! Lists that are asked about many paths, prepared so that each path tests few of their lines.
-ghost use Rattle.std.specs.Prelude.{◌≡◌, IfOk, OnOk};
+ghost use Rattle.std.specs.Prelude.{◌≡◌, ◌<◌, IfOk, IsTrue, OnOk, length};
 ghost use Rattle.glob_lists.specs.Deciding.{BasesAreFolders};
 ghost use Rattle.glob_lists.specs.Matches.{AreMatches};
+ghost use Rattle.glob_trees.specs.Trees.{HasNoneIgnored};
+ghost use Rattle.glob_lint.specs.Private.Asking.{base_at};
 ghost use Rattle.glob_lint.specs.Seen.{seen};
 
 use gix_glob::search::pattern::List;
 use glob_lines::GitIgnoreLines;
 use glob_lists::{ListStack, PreparedStack, RepositoryPath, Rules, decide_by};
+use glob_trees::ignored_folder_by;
 use std::alloc::{AllocError, Global};
 
 /// Lists, and the rules by which their lines match.
@@ -38,6 +41,29 @@ impl<'a> AskedLists<'a> {
             rules,
             stack,
         })
+    }
+
+    /// The base of the list at a place; no bytes where it has none.
+    pub(crate) fn base_of(&self, at: usize) -> &'a [u8]
+        requires { at < length self.now.lists.now }
+        ensures { result.now ≡ base_at (seen self.now.lists.now) at }
+    {
+        match &self.lists[at].base {
+            Some(base) => base,
+            None => b"",
+        }
+    }
+
+    /// Whether it is seen that no folder of the base of the list at a place is ignored.
+    pub(crate) fn has_free_base(&self, at: usize) -> bool
+        requires folders { BasesAreFolders (seen self.now.lists.now) }
+        requires inside { at < length self.now.lists.now }
+        ensures { IsTrue result → HasNoneIgnored (seen self.now.lists.now) self.now.rules (base_at (seen self.now.lists.now) at) }
+    {
+        match RepositoryPath::new(self.base_of(at), true) {
+            Some(path) => ignored_folder_by(self, &path, self.rules).is_none(),
+            None => false,
+        }
     }
 
     /// Puts into `found` the places of all lines that match a path, in order, in place of what it held.

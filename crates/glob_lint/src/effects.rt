@@ -1,14 +1,15 @@
 //! What a line does: a path about which it changes the answer, or why it makes no difference.
-ghost use Rattle.std.specs.Prelude.{◌<◌, IfOk, IfSome, length};
+ghost use Rattle.std.specs.Prelude.{◌≡◌, ◌<◌, IfOk, IfSome, IsTrue, length};
 ghost use Rattle.glob_lists.specs.Deciding.{BasesAreFolders, HasEntryAt};
+ghost use Rattle.glob_lint.specs.declared.effects.Effect.TheVariants.{Changes};
 ghost use Rattle.glob_lint.specs.Effects.{Turns};
 ghost use Rattle.glob_lint.specs.Seen.{seen};
 ghost use Rattle.glob_lint.specs.Private.Reasons.{IsFound};
 
-use crate::asked::AskedLists;
+use crate::asked_line::AskedLine;
 use crate::means::{Means, bases_meet};
-use crate::pairs::samples_at;
-use crate::samples::Sample;
+use crate::pairs::line_at;
+use crate::samples::{MOST_SAMPLES, Sample, sample_of};
 use crate::shared::shared_samples;
 use crate::trying::turns;
 use crate::why::{Why, reason_of};
@@ -17,6 +18,9 @@ use std::alloc::AllocError;
 
 /// How many questions it takes to look for a reason: each line is asked as often.
 const QUESTIONS_OF_A_REASON: usize = 3;
+
+/// How many samples are asked about first: those whose stars stand for nothing.
+const FIRST_SAMPLES: usize = 2;
 
 /// How many matches it takes to find paths that two lines share.
 const MATCHES_OF_TWO_LINES: usize = 24;
@@ -37,57 +41,58 @@ pub enum Effect {
     Unknown,
 }
 
-/// What the line at a pair of places does.
+/// What a line does.
 ///
 /// # Errors
 /// Only where memory was refused.
-pub(crate) fn effect_of(
-    means: &mut Means,
-    asked: &AskedLists<'_>,
-    pair: (usize, usize),
-) -> Result<Effect, AllocError>
-    requires folders { BasesAreFolders (seen asked.now.lists.now) }
-    requires there { HasEntryAt (seen asked.now.lists.now) pair }
-    ensures { IfOk result (IsFound asked.now.rules (seen asked.now.lists.now) pair) }
+pub(crate) fn effect_of(means: &mut Means, line: &AskedLine<'_, '_>) -> Result<Effect, AllocError>
+    requires folders { BasesAreFolders (seen line.now.asked.now.lists.now) }
+    requires there { HasEntryAt (seen line.now.asked.now.lists.now) line.now.pair }
+    ensures { IfOk result (IsFound line.now.asked.now.rules (seen line.now.asked.now.lists.now) line.now.pair) }
 {
-    let samples = samples_at(means.alloc, asked.lists, pair, asked.rules)?;
-    if let Some(sample) = change_by(means, asked, pair, samples)? {
-        return Ok(Effect::Changes {
-            path: sample.path,
-            is_dir: sample.is_dir,
-        });
+    // a reason is looked for before many samples are asked, since few lines need these
+    let first = own_change(means, line, 0, FIRST_SAMPLES)?;
+    if let Some(sample) = first {
+        return Ok(changes_about(sample));
     }
     if !means.take_questions(QUESTIONS_OF_A_REASON) {
         return Ok(Effect::Unknown);
     }
-    if let Some(why) = reason_of(means, asked, pair)? {
+    if let Some(why) = reason_of(means, line.asked, line.pair)? {
         return Ok(Effect::Idle(why));
     }
-    match shared_change(means, asked, pair)? {
-        Some(sample) => Ok(Effect::Changes {
-            path: sample.path,
-            is_dir: sample.is_dir,
-        }),
+    let own = own_change(means, line, FIRST_SAMPLES, MOST_SAMPLES)?;
+    if let Some(sample) = own {
+        return Ok(changes_about(sample));
+    }
+    match shared_change(means, line)? {
+        Some(sample) => Ok(changes_about(sample)),
         None => Ok(Effect::Unknown),
     }
 }
 
-/// The first path that the line at a pair of places shares with a line of the other sign about which it changes the answer.
-fn shared_change(
-    means: &mut Means,
-    asked: &AskedLists<'_>,
-    pair: (usize, usize),
-) -> Result<Option<Sample>, AllocError>
-    requires folders { BasesAreFolders (seen asked.now.lists.now) }
-    requires there { HasEntryAt (seen asked.now.lists.now) pair }
-    ensures { IfOk result (λ sample. IfSome sample (λ sample. Turns asked.now.rules (seen asked.now.lists.now) pair sample.path.items sample.is_dir)) }
+/// That a line changes the answer about a path.
+fn changes_about(sample: Sample) -> Effect
+    ensures { result ≡ Changes sample.path sample.is_dir }
 {
-    let lists = asked.lists;
+    Effect::Changes {
+        path: sample.path,
+        is_dir: sample.is_dir,
+    }
+}
+
+/// The first path that a line shares with a line of the other sign about which it changes the answer.
+fn shared_change(means: &mut Means, line: &AskedLine<'_, '_>) -> Result<Option<Sample>, AllocError>
+    requires folders { BasesAreFolders (seen line.now.asked.now.lists.now) }
+    requires there { HasEntryAt (seen line.now.asked.now.lists.now) line.now.pair }
+    ensures { IfOk result (λ sample. IfSome sample (λ sample. Turns line.now.asked.now.rules (seen line.now.asked.now.lists.now) line.now.pair sample.path.items sample.is_dir)) }
+{
+    let lists = line.asked.lists;
     'lists: for at in 0..lists.len() {
-        if !bases_meet(&lists[pair.0], &lists[at]) {
+        if !bases_meet(&lists[line.pair.0], &lists[at]) {
             continue;
         }
-        if let Some(sample) = shared_change_in(means, asked, at, pair)? {
+        if let Some(sample) = shared_change_in(means, line, at)? {
             return Ok(Some(sample));
         }
     }
@@ -97,63 +102,98 @@ fn shared_change(
 /// The first such path shared with a line of the list at a place.
 fn shared_change_in(
     means: &mut Means,
-    asked: &AskedLists<'_>,
+    line: &AskedLine<'_, '_>,
     at: usize,
-    pair: (usize, usize),
 ) -> Result<Option<Sample>, AllocError>
-    requires folders { BasesAreFolders (seen asked.now.lists.now) }
-    requires there { HasEntryAt (seen asked.now.lists.now) pair }
-    requires inside { at < length asked.now.lists.now }
-    ensures { IfOk result (λ sample. IfSome sample (λ sample. Turns asked.now.rules (seen asked.now.lists.now) pair sample.path.items sample.is_dir)) }
+    requires folders { BasesAreFolders (seen line.now.asked.now.lists.now) }
+    requires there { HasEntryAt (seen line.now.asked.now.lists.now) line.now.pair }
+    requires inside { at < length line.now.asked.now.lists.now }
+    ensures { IfOk result (λ sample. IfSome sample (λ sample. Turns line.now.asked.now.rules (seen line.now.asked.now.lists.now) line.now.pair sample.path.items sample.is_dir)) }
 {
-    let patterns = asked.lists[at].patterns.as_slice();
+    let patterns = line.asked.lists[at].patterns.as_slice();
     'lines: for place in 0..patterns.len() {
-        let samples = other_samples(means, asked, pair, (at, place))?;
-        if let Some(sample) = change_by(means, asked, pair, samples)? {
+        let samples = other_samples(means, line, (at, place))?;
+        if let Some(sample) = change_by(means, line, samples)? {
             return Ok(Some(sample));
         }
     }
     Ok(None)
 }
 
-/// Paths that two lines of different sign may share; none where they have one sign.
+/// Paths that a line may share with one of the other sign; none with one of its sign.
 fn other_samples(
     means: &mut Means,
-    asked: &AskedLists<'_>,
-    pair: (usize, usize),
+    line: &AskedLine<'_, '_>,
     other: (usize, usize),
 ) -> Result<Vec<Sample>, AllocError>
-    requires here { HasEntryAt (seen asked.now.lists.now) pair }
-    requires there { HasEntryAt (seen asked.now.lists.now) other }
+    requires here { HasEntryAt (seen line.now.asked.now.lists.now) line.now.pair }
+    requires there { HasEntryAt (seen line.now.asked.now.lists.now) other }
 {
-    let lists = asked.lists;
+    let (lists, pair) = (line.asked.lists, line.pair);
     if lists.is_negative(pair) == lists.is_negative(other) || !means.take(MATCHES_OF_TWO_LINES) {
         return Ok(Vec::new(means.alloc));
     }
-    shared_samples(means.alloc, lists, pair, other, asked.rules)
+    shared_samples(means.alloc, lists, pair, other, line.asked.rules)
 }
 
-/// The first of these paths about which the line at a pair of places changes the answer.
+/// The first of these paths about which a line changes the answer.
 fn change_by(
     means: &mut Means,
-    asked: &AskedLists<'_>,
-    pair: (usize, usize),
+    line: &AskedLine<'_, '_>,
     samples: Vec<Sample>,
 ) -> Result<Option<Sample>, AllocError>
-    requires folders { BasesAreFolders (seen asked.now.lists.now) }
-    requires there { HasEntryAt (seen asked.now.lists.now) pair }
-    ensures { IfOk result (λ sample. IfSome sample (λ sample. Turns asked.now.rules (seen asked.now.lists.now) pair sample.path.items sample.is_dir)) }
+    requires folders { BasesAreFolders (seen line.now.asked.now.lists.now) }
+    requires there { HasEntryAt (seen line.now.asked.now.lists.now) line.now.pair }
+    ensures { IfOk result (λ sample. IfSome sample (λ sample. Turns line.now.asked.now.rules (seen line.now.asked.now.lists.now) line.now.pair sample.path.items sample.is_dir)) }
 {
     'samples: for sample in samples {
-        if !means.take_questions(questions_of(&sample.path)) {
-            continue;
-        }
-        let is_turned = turns(asked, pair, &sample.path, sample.is_dir, &mut means.found)?;
+        let is_turned = is_changed(means, line, &sample)?;
         if is_turned {
             return Ok(Some(sample));
         }
     }
     Ok(None)
+}
+
+/// The first sample of a line about which it changes the answer, of those with numbers from `first` on, below `end`.
+fn own_change(
+    means: &mut Means,
+    line: &AskedLine<'_, '_>,
+    first: usize,
+    end: usize,
+) -> Result<Option<Sample>, AllocError>
+    requires folders { BasesAreFolders (seen line.now.asked.now.lists.now) }
+    requires there { HasEntryAt (seen line.now.asked.now.lists.now) line.now.pair }
+    ensures { IfOk result (λ sample. IfSome sample (λ sample. Turns line.now.asked.now.rules (seen line.now.asked.now.lists.now) line.now.pair sample.path.items sample.is_dir)) }
+{
+    let rules = line.asked.rules;
+    'samples: for n in first..end {
+        let own = line_at(line.asked.lists, line.pair);
+        let Some(sample) = sample_of(means.alloc, &own, n, rules)? else {
+            continue;
+        };
+        let is_turned = is_changed(means, line, &sample)?;
+        if is_turned {
+            return Ok(Some(sample));
+        }
+    }
+    Ok(None)
+}
+
+/// Whether a line changes the answer about a path, as far as the means go.
+fn is_changed(
+    means: &mut Means,
+    line: &AskedLine<'_, '_>,
+    sample: &Sample,
+) -> Result<bool, AllocError>
+    requires folders { BasesAreFolders (seen line.now.asked.now.lists.now) }
+    requires there { HasEntryAt (seen line.now.asked.now.lists.now) line.now.pair }
+    ensures { IfOk result (λ turns. IsTrue turns → Turns line.now.asked.now.rules (seen line.now.asked.now.lists.now) line.now.pair sample.now.path.items sample.now.is_dir) }
+{
+    if !means.take_questions(questions_of(&sample.path)) {
+        return Ok(false);
+    }
+    turns(line, sample, &mut means.found)
 }
 
 /// How many questions it takes to ask about a path twice: one about each folder above it, and one about the path.

@@ -3,6 +3,7 @@
 
 mod apart;
 mod asked;
+mod asked_line;
 mod beginnings;
 mod below;
 mod covering;

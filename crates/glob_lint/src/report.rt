@@ -7,6 +7,7 @@ ghost use Rattle.glob_lint.specs.Private.Findings.{AddsFindings, AreFindings};
 ghost use Rattle.glob_lint.specs.Seen.{seen};
 
 use crate::asked::AskedLists;
+use crate::asked_line::AskedLine;
 use crate::effects::{Effect, effect_of};
 use crate::means::Means;
 use crate::removable::removable_of;
@@ -91,13 +92,17 @@ fn add_list(
 {
     let list = &asked.lists[at];
     means.enter(asked.lists, list);
+    let is_free = asked.has_free_base(at);
     let patterns = list.patterns.as_slice();
     'lines: for place in 0..patterns.len() {
-        let effect = effect_of(means, asked, (at, place))?;
-        findings.push(Finding {
-            pair: (at, place),
-            effect,
-        })?;
+        let pair = (at, place);
+        let line = AskedLine {
+            asked,
+            pair,
+            is_free,
+        };
+        let effect = effect_of(means, &line)?;
+        findings.push(Finding { pair, effect })?;
     }
     Ok(())
 }

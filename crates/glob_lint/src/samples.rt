@@ -1,5 +1,5 @@
 //! Sample paths of a line: what its tokens could stand for.
-ghost use Rattle.std.specs.Prelude.{All, IfOk};
+ghost use Rattle.std.specs.Prelude.{All, IfOk, IfSome};
 ghost use Rattle.glob_lint.specs.Lines.{IsReal};
 
 use crate::line::Line;
@@ -29,6 +29,9 @@ const FILLINGS: [(&str, &str, bool); 6] = [
     ("x", "x/", true),
 ];
 
+/// How many samples a line has at most.
+pub(crate) const MOST_SAMPLES: usize = FILLINGS.len();
+
 /// At most six paths that a line may match, by Git's rules: its stars stand for nothing, for a name, or for a name and folders, each path as a
 /// file and as a folder. None has a part `.git`, which Git passes over.
 ///
@@ -38,24 +41,50 @@ pub fn samples_of(alloc: Global, line: &Line<'_>, rules: Rules) -> Result<Vec<Sa
     ensures { IfOk result (λ samples. All (λ sample. IsReal sample.path.items) samples.items) }
 {
     let mut samples = Vec::new(alloc);
-    let Some(tokens) = line.tokens() else {
-        return Ok(samples);
-    };
-    let way = way_of(rules.case);
-    let for_folders = line.is_for_folders();
-    'fillings: for (name, folder, is_dir) in FILLINGS {
-        if for_folders && !is_dir {
-            continue;
+    'fillings: for n in 0..MOST_SAMPLES {
+        if let Some(sample) = sample_of(alloc, line, n, rules)? {
+            samples.push(sample)?;
         }
-        let Some(path) = path_of(alloc, tokens, (name, folder), way)? else {
-            continue;
-        };
-        if !is_real(&path) || has_git_part(&path) {
-            continue;
-        }
-        samples.push(Sample { path, is_dir })?;
     }
     Ok(samples)
+}
+
+/// The sample of a number, from 0; `None` where the line has none, or has the same with a lower number.
+///
+/// # Errors
+/// Only where memory was refused.
+pub(crate) fn sample_of(
+    alloc: Global,
+    line: &Line<'_>,
+    n: usize,
+    rules: Rules,
+) -> Result<Option<Sample>, AllocError>
+    ensures { IfOk result (λ sample. IfSome sample (λ sample. IsReal sample.path.items)) }
+{
+    let Some((name, folder, is_dir)) = FILLINGS.get(n) else {
+        return Ok(None);
+    };
+    if line.is_for_folders() && !*is_dir || is_repeated(line, n) {
+        return Ok(None);
+    }
+    let Some(tokens) = line.tokens() else {
+        return Ok(None);
+    };
+    let Some(path) = path_of(alloc, tokens, (name, folder), way_of(rules.case))? else {
+        return Ok(None);
+    };
+    if !is_real(&path) || has_git_part(&path) {
+        return Ok(None);
+    }
+    Ok(Some(Sample {
+        path,
+        is_dir: *is_dir,
+    }))
+}
+
+/// Whether a line has no star within a part that a sample of this number could fill in otherwise than the ones before.
+fn is_repeated(line: &Line<'_>, n: usize) -> bool {
+    matches!(n, 2 | 3) && line.pattern.first_wildcard_pos.is_none()
 }
 
 /// The path that tokens stand for, where stars within a part stand for the one text, and folders of any name for the other; `None` where they

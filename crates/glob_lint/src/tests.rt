@@ -85,7 +85,7 @@ fn lines_alone(rt: HostRuntime) -> Result<(), Fail> {
         ("[a-z", true, 0),
         ("a//b", true, 0),
         ("*.o", false, 6),
-        ("a/", false, 3),
+        ("a/", false, 2),
     ] {
         let list = list_of(alloc, line)?;
         if list.patterns.is_empty() {

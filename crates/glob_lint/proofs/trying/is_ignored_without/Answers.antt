@@ -20,8 +20,8 @@ slash_here c = record {
 
 pub returns-then-is_ignored : goal.returns-then-is_ignored
 returns-then-is_ignored c =
-    let but = lists_but (c.args.pair ∷ []) 0 (seen c.args.asked.now.lists.now) in
-    let rules = c.args.asked.now.rules in
+    let but = lists_but (c.args.line.now.pair ∷ []) 0 (seen c.args.line.now.asked.now.lists.now) in
+    let rules = c.args.line.now.asked.now.rules in
     let path = c.args.path.now in
     let told = rw c.folder_before-folder.ensures at c.in_ok-is_ignored.ensures in
     let by = ignored_by but rules (take c.places.place path.bytes) told.0 told.1 (told.2.0 c.if-is_ignored.true) in
@@ -31,8 +31,8 @@ returns-then-is_ignored c =
 
 pub places-preserved : goal.places-preserved
 places-preserved c =
-    let but = lists_but (c.args.pair ∷ []) 0 (seen c.args.asked.now.lists.now) in
-    let rules = c.args.asked.now.rules in
+    let but = lists_but (c.args.line.now.pair ∷ []) 0 (seen c.args.line.now.asked.now.lists.now) in
+    let rules = c.args.line.now.asked.now.rules in
     let path = c.args.path.now in
     let told = rw c.folder_before-folder.ensures at c.in_ok-is_ignored.ensures in
     passed_slash but rules path.bytes c.places.place c.places.invariant
@@ -40,14 +40,14 @@ places-preserved c =
 
 pub places-preserved-then-bytes-place-ne47 : goal.places-preserved-then-bytes-place-ne47
 places-preserved-then-bytes-place-ne47 c =
-    let but = lists_but (c.args.pair ∷ []) 0 (seen c.args.asked.now.lists.now) in
-    passed_byte but c.args.asked.now.rules c.args.path.now.bytes c.places.place c.places.invariant
+    let but = lists_but (c.args.line.now.pair ∷ []) 0 (seen c.args.line.now.asked.now.lists.now) in
+    passed_byte but c.args.line.now.asked.now.rules c.args.path.now.bytes c.places.place c.places.invariant
     (λ here. c.if-bytes-place-ne47.true (subst (λ l. slice_index l c.places.place ≡ slash) (sym c.bytes-bytes.ensures) here.is))
 
 pub returns : goal.returns
 returns c =
-    let but = lists_but (c.args.pair ∷ []) 0 (seen c.args.asked.now.lists.now) in
-    let rules = c.args.asked.now.rules in
+    let but = lists_but (c.args.line.now.pair ∷ []) 0 (seen c.args.line.now.asked.now.lists.now) in
+    let rules = c.args.line.now.asked.now.rules in
     let path = c.args.path.now in
     let none = all_passed but rules path.bytes c.places.place c.places.invariant (let past = c.places-test.false in rw c.bytes-bytes.ensures at past) in
     IfOk-weaker c.ignores_without-2.result _ (IsIgnored but rules path) (λ ignored told. (told.0, record { decides = inr (none, told.1); sign = told.2 })) c.ignores_without-2.ensures

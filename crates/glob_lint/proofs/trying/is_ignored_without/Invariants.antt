@@ -6,4 +6,4 @@ use Rattle.glob_lint.specs.Without.{lists_but}
 use Rattle.glob_lint.proofs.trying.is_ignored_without.Given as goal
 
 abbrev pub invariant-places : goal.invariant-places
-invariant-places l = NoneIgnoredBefore (lists_but (l.pair ∷ []) 0 (seen l.asked.lists.now)) l.asked.rules l.path.bytes l.place
+invariant-places l = NoneIgnoredBefore (lists_but (l.line.pair ∷ []) 0 (seen l.line.asked.now.lists.now)) l.line.asked.now.rules l.path.bytes l.place
