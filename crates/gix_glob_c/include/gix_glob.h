@@ -22,7 +22,7 @@
  *
  * How the library grows: a struct never changes its size or its fields, and a call never its parameters, while the library's name,
  * libgix_glob_c.so.N, stays the same: N is the major version, or 0.M with the minor one M while the major one is 0. What is new has a
- * new name, and gix_glob_version() tells whether it is there. What the library alone knows, it keeps in blocks whose size is asked of it.
+ * new name, and gix_glob_version() says whether it is there. What the library alone knows, it keeps in blocks whose size is asked of it.
  *
  * C99 or C++11 is needed, and a processor of x86-64-v2.
  *
@@ -120,7 +120,7 @@ struct gix_glob_match_mode {
 
 #define GIX_GLOB_NO_MATCH_SLASH_LITERAL 1u /* path mode: a wildcard matches no slash, save two or more stars that stand
                                               alone between slashes, escaped or not, or ends of the pattern */
-#define GIX_GLOB_IGNORE_CASE 2u            /* the case of ASCII letters doesn't count */
+#define GIX_GLOB_IGNORE_CASE 2u            /* the case of ASCII letters doesn't matter */
 
 static inline struct gix_glob_match_mode gix_glob_match_mode_of(unsigned bits)
 {
@@ -144,7 +144,7 @@ struct gix_glob_pattern_mode {
 
 /* Whose reading a pattern is: that of the Rust crate gix-glob, or Git's own. By Git's, the bytes before the first of * ? [ and \ of
  * a pattern with a slash are compared by themselves, and what follows is a pattern of its own; and folding leaves the members of
- * sets and escaped letters as they are. All patterns of one call are of one reading: that of the first counts. */
+ * sets and escaped letters as they are. All patterns of one call are of one reading: that of the first applies. */
 #define GIX_GLOB_AS_CRATE 0u
 #define GIX_GLOB_AS_GIT 1u
 
@@ -179,7 +179,7 @@ GIX_GLOB_CALL void gix_glob_parse_as_git(struct gix_glob_text line, struct gix_g
  *   path    from the folder of the pattern's file on, with single slashes between its parts. A path that is empty, has a slash at its
  *           front or end, or two in a row, is matched by nothing, here and in each other call
  *   is_dir  whether the path is a directory's
- *   fold    whether the case of ASCII letters doesn't count */
+ *   fold    whether the case of ASCII letters doesn't matter */
 GIX_GLOB_READS bool gix_glob_pattern_matches_path(const struct gix_glob_pattern *pattern, struct gix_glob_text path, bool is_dir, bool fold);
 
 /* Reads a line as gix_glob_parse does and matches it against a path, for one question. A line without a pattern matches nothing. */
@@ -326,7 +326,7 @@ static inline struct gix_glob_paths gix_glob_paths_of(const struct gix_glob_path
     return all;
 }
 
-/* Where an index is told of each path. */
+/* Where an index is written for each path. */
 struct gix_glob_places {
     size_t *places;
     size_t count;
@@ -451,7 +451,7 @@ struct gix_glob_attributes {
     const struct gix_glob_attribute_list *lists; /* from the weakest file to the strongest */
     size_t count;                                /* how many */
     const struct gix_glob_macro *macros; /* GIX_GLOB_MACRO_BINARY, then those of the files in the same order; of several of a name
-                                            the last counts */
+                                            the last applies */
     size_t macro_count;                  /* how many */
 };
 
@@ -519,9 +519,9 @@ struct gix_glob_state {
  *   texts       memory for a question, which a question leaves with parts of the files: as many suffice as there are lines in all lists
  *               and macros, together. They serve the next question too, as long as those files stay
  *   marks       memory for a question: a mark for each macro; more stay as they were
- *   fold        whether the case of ASCII letters doesn't count in paths; it counts in names of attributes
+ *   fold        whether the case of ASCII letters doesn't matter in paths; it matters in names of attributes
  *   out         receives the state; it stays as it was where false is answered
- * Answers whether the state was told: where the memory is too short, or the path is none, it isn't. The time grows with the words of the
+ * Answers whether the state was written: where the memory is too short, or the path is none, it isn't. The time grows with the words of the
  * lines that match and of the macros, times the number of macros. */
 GIX_GLOB_TELLS bool gix_glob_attribute_of(const struct gix_glob_attributes *attributes, const struct gix_glob_path *path,
                                           struct gix_glob_text name, struct gix_glob_texts texts, struct gix_glob_marks marks, bool fold,

@@ -6,8 +6,8 @@
  *     gix_glob_rules_free(rules);
  *
  * All of this is C that a compiler puts into the program, and needs C99 or C++11: the library itself allocates nothing. What is here keeps
- * memory, reads each file once, prepares its list, and picks the files of the folders on the way to a path. Which pattern decides is told by
- * gix_glob_decide_in_tree, which is proved, for their lists; that the others say nothing is a law of docs/PROOFS.md.
+ * memory, reads each file once, prepares its list, and picks the files of the folders on the way to a path. gix_glob_decide_in_tree, which
+ * is proved, says which pattern of their lists decides; that the others say nothing is a law of docs/PROOFS.md.
  *
  * A folder and a path are written alike: below the root, with single slashes between their names. `./` at the front and slashes at the end
  * are passed over. What lies outside of the root, or has another name that is empty, `.` or `..`, is refused as a folder, and isn't decided
@@ -44,7 +44,7 @@ struct gix_glob_rules_options {
     struct gix_glob_text root;           /* the top of the work tree, as it stands in front of each path and each file's folder: `/` of those
                                             that begin with a slash; empty where they begin at the top */
     bool as_crate;                       /* whether lines are read as the Rust crate gix-glob reads them, and not as Git does */
-    bool fold;                           /* whether the case of ASCII letters doesn't count */
+    bool fold;                           /* whether the case of ASCII letters doesn't matter */
     struct gix_glob_allocator allocator; /* by `resize` NULL, realloc and free */
 };
 

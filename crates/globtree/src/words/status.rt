@@ -55,7 +55,7 @@ impl ShowStatus {
     /// they do.
     pub(crate) fn disagreement(self, untracked: ShowUntracked) -> Option<&'static str> {
         if self.has_path {
-            return Some("status is told of the whole work tree, and takes no paths");
+            return Some("status is about the whole work tree, and takes no paths");
         }
         match (self.ignored, untracked) {
             (IgnoredFiles::Matching, ShowUntracked::No) => {

@@ -10,7 +10,7 @@ Prints those of the paths that are ignored.
 options:
   -v, --verbose       print file, line and pattern with each path about which a line decides
   -n, --non-matching  with -v: print the other paths, too
-  -q, --quiet         print nothing; the status tells about one path
+  -q, --quiet         print nothing; the status answers for one path
   -z                  with --stdin: a byte 0 ends each path that is read, and each field
   --stdin             read the paths, one a line
   --no-index          a tracked path may be ignored like any other

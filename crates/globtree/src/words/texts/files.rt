@@ -10,19 +10,19 @@ below the current folder. With options, prints what git ls-files prints with the
 
 options:
   -c, --cached             the tracked paths
-  -o, --others             the files that aren't tracked
+  -o, --others             the untracked files
   -i, --ignored            of these, the ignored ones alone; goes with one of the next three
-  --exclude-standard       the usual patterns count
-  -x, --exclude PATTERN    PATTERN counts, and more than the others and than one told before it
-  -X, --exclude-from FILE  the patterns of FILE count, which is told from the top
-  --error-unmatch          tell each pathspec that met nothing, and end with status 1
+  --exclude-standard       the usual excludes apply
+  -x, --exclude PATTERN    PATTERN applies, and overrules all others; of several the last does
+  -X, --exclude-from FILE  the patterns of FILE apply; it is relative to the top
+  --error-unmatch          report each pathspec that matched nothing, and end with status 1
   --directory              with -o: a folder without tracked files by its name
   --no-empty-directory     with it: only if something to print lies in it
   -z                       a byte 0 ends each name, and none is quoted
   -h, --help               this text (-h: alone)
 
-A pathspec is a path, with all that lies below it, or a pattern. :!x leaves out what x meets, :/x is
-told from the top. In :(glob)x wildcards match no slash, in :(icase)x case doesn't count, in
+A pathspec is a path, with all that lies below it, or a pattern. :!x leaves out what x matches, :/x is
+relative to the top. In :(glob)x wildcards match no slash, in :(icase)x case doesn't matter, in
 :(literal)x no byte is special.
 
 example:
@@ -31,5 +31,5 @@ example:
   src/main.c
 
 The status is 0 after an answer, 1 where something couldn't be read or, with --error-unmatch, a
-pathspec met nothing, 128 after a fault, 129 where the words are wrong.
+pathspec matched nothing, 128 after a fault, 129 where the words are wrong.
 ";

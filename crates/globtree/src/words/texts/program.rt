@@ -12,7 +12,7 @@ commands:
   explain            why a path is ignored or not, and what to write
   files              the files that aren't ignored, or are tracked
   lint               which lines of .gitignore files do nothing, and why
-  status             which files aren't tracked, and which are ignored
+  status             which files are untracked, and which are ignored
   match-pathspec     which of the paths that are read pathspecs match
   config             what was read of Git's configuration, and from where
 
@@ -23,13 +23,13 @@ options, before the command:
   --work-tree DIR      the top of the work tree of that repository
   --top DIR            the top of the work tree, without a repository or configuration
   --excludes FILE      a file of excludes, in place of core.excludesFile
-  --ignore-case        the case of letters doesn't count in patterns
+  --ignore-case        the case of letters doesn't matter in patterns
   --system FILE        the system's attribute file; else it is /etc/gitattributes
   --attributes FILE    the user's attribute file, in place of core.attributesFile
   --literal-pathspecs  files takes pathspecs as they stand: no head, and no byte is special
   --glob-pathspecs     in pathspecs, wildcards match no slash
   --noglob-pathspecs   in pathspecs, no byte is special
-  --icase-pathspecs    in pathspecs, the case of letters doesn't count
+  --icase-pathspecs    in pathspecs, the case of letters doesn't matter
   -P, --no-pager       without effect
   --no-optional-locks  without effect
   -h, --help           this text; behind a command, that of the command
