@@ -18,9 +18,9 @@ NEARLY = re.compile(rb"not ignored; nearly by " + PLACE, re.S)
 TRACKED = re.compile(rb"not ignored, since it is tracked(?:; else by " + PLACE + rb")?", re.S)
 SILENT = {b"not ignored: no line matches", b"not ignored, but empty: Git keeps files alone", b"not ignored, but all its files are"}
 TRY = re.compile(rb"  (?:(?P<file>[^:]*):(?P<line>\d+): .*: )?[^:]*; try (?P<text>.*)", re.S)
-CASE = re.compile(rb"  (?:(?P<file>[^:]*):(?P<line>\d+): .*: )?case matters here, and its letters differ", re.S)
+CASE = re.compile(rb"  (?:(?P<file>[^:]*):(?P<line>\d+): .*: )?case counts here, and its letters differ", re.S)
 ADD = re.compile(rb"  to keep it, add to (?P<file>.*):", re.S)
-COUNTS = re.compile(rb"  to keep it: (?P<file>.*) would be read then", re.S)
+COUNTS = re.compile(rb"  to keep it: (?P<file>.*) would count then", re.S)
 
 
 class NearTree:

@@ -192,7 +192,7 @@ impl<'t> Teller<'t> {
     fn tell_keeping(&mut self, keeping: &Keeping) -> Result<(), AllocError> {
         let file = File(keeping.list);
         let Some(lines) = &keeping.lines else {
-            return self.end(&[Text("  to keep it: "), file, Text(" would be read then")]);
+            return self.end(&[Text("  to keep it: "), file, Text(" would count then")]);
         };
         self.end(&[Text("  to keep it, add to "), file, Text(":")])?;
         'lines: for line in lines.split(|byte| *byte == b'\n') {
@@ -318,7 +318,7 @@ fn advice(near: &Near) -> &'static str {
         Change::AnyFolder => "a slash ties it to the folder of its file",
         Change::AnyDepth if is_starred(&near.line) => "a star stops at a slash",
         Change::AnyDepth => "a slash stands for no folders between",
-        Change::Case => "case matters here, and its letters differ",
+        Change::Case => "case counts here, and its letters differ",
     }
 }
 
