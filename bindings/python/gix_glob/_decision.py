@@ -1,4 +1,4 @@
-"""What is told of a path: the line that decides about it, or the place of its pattern."""
+"""What decides about a path: a line, or the place of its pattern."""
 
 from __future__ import annotations
 
@@ -40,7 +40,7 @@ class Decision(NamedTuple):
 
 @dataclass(frozen=True)
 class CheckResult(Generic[_P]):
-    """What is told of a path by `check_file` and `check_files`, as `pathspec` calls it."""
+    """What `check_file` and `check_files` say of a path, as `pathspec` calls it."""
 
     #: The path, as it was asked about.
     file: _P

@@ -82,7 +82,7 @@ class IgnoreFile(_Ignoring):
     >>> [(line, pattern.text) for line, pattern in rules]
     [(2, b'*.log'), (3, b'keep.log')]
 
-    A file speaks of the folder `base` that it lies in, and paths are told from the top:
+    A file is for the folder `base` that it lies in, and paths are relative to the top:
 
     >>> web = IgnoreFile.from_lines(["/dist"], base="web")
     >>> web.decide("web/dist").line, web.decide("dist")

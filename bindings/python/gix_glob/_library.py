@@ -143,7 +143,7 @@ class Rules:
         return bool(self._negative[index])
 
     def last_match(self, path: bytes, is_dir: bool, fold: bool) -> Optional[int]:
-        """The index of the last pattern that matches the path, which is told from the top, or None."""
+        """The index of the last pattern that matches the path, which is relative to the top, or None."""
         _check(path)
         index = _c.gix_glob_last_match(self._pointer, path, len(path), is_dir, fold)
         return None if index == NONE else index

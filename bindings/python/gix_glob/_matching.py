@@ -65,7 +65,7 @@ class Matching:
         return self._told(self._by_folder.last_match(text, bool(is_dir or has_slash), bool(ignore_case)))
 
     def decide_in_tree(self, path: Path, is_dir: bool = False, *, ignore_case: bool = False) -> Optional[Decision]:
-        """The line that decides about a path of a tree, as `git check-ignore` tells: that of the topmost folder above the path
+        """The line that decides about a path of a tree, as `git check-ignore` prints it: that of the topmost folder above the path
         that is ignored, or, where none is, that of the path itself.
 
         >>> from gix_glob import IgnoreFile
@@ -81,7 +81,7 @@ class Matching:
     def match_file(
         self, path: Path, is_dir: bool = False, *, separators: Separators = None, ignore_case: bool = False
     ) -> bool:
-        """Whether a path of a tree is ignored: by the line that `decide_in_tree` tells.
+        """Whether a path of a tree is ignored: by the line that `decide_in_tree` gives.
 
         >>> from gix_glob import IgnoreFile
         >>> IgnoreFile.from_lines(["build/"]).match_file("build/x")
@@ -118,7 +118,7 @@ class Matching:
             paths: the paths, from the top of the tree.
             separators: what stands between the parts of a path, beside the slash. On Linux, that is nothing else.
             ignore_case: whether the case of ASCII letters doesn't count.
-            negate: whether the paths are told that aren't ignored.
+            negate: whether the other paths are asked for, which aren't ignored.
 
         Raises:
             TypeError: `paths` is one path, or no iterable; behind the paths before it, where one is no path.
@@ -136,7 +136,7 @@ class Matching:
         ignore_case: bool = False,
         negate: bool = False,
     ) -> Iterator[_E]:
-        """The entries that are ignored, of many, as `match_files` tells of their paths. An entry that says by `is_dir()` that it
+        """The entries that are ignored, of many, as `match_files` says of their paths. An entry that says by `is_dir()` that it
         is a directory is asked about as one. Arguments and errors are those of `match_files`."""
         others, fold, kept, ignores = separators_of(separators), bool(ignore_case), bool(negate), self._by_folder.ignores
 
@@ -167,7 +167,7 @@ class Matching:
             follow_links: whether links are followed, as Git doesn't: a link is then what it leads to, and a folder is walked also
                 over a link, but over links only once. One that leads out of the root stays a link.
             ignore_case: whether the case of ASCII letters doesn't count.
-            negate: whether those are told that aren't ignored.
+            negate: whether the others are asked for, which aren't ignored.
         """
         return self.match_entries(walk(root, on_error, follow_links), (), ignore_case=ignore_case, negate=negate)
 

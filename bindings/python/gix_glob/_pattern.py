@@ -113,7 +113,7 @@ class Pattern:
         return PatternMode.MUST_BE_DIR in self.mode
 
     def matches_path(self, path: Path, is_dir: bool = False, *, ignore_case: bool = False) -> bool:
-        """Whether the pattern matches a path, told from the folder of the pattern's file. Its `!` isn't looked at.
+        """Whether the pattern matches a path, relative to the folder of the pattern's file. Its `!` isn't looked at.
 
         >>> Pattern("*.log").matches_path("web/debug.log")
         True

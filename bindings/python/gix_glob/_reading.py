@@ -8,7 +8,7 @@ import enum
 class Reading(enum.Enum):
     """Whose reading of a line counts, and of what its pattern matches."""
 
-    #: Git's own, which counts where no other one is told.
+    #: Git's own, the default.
     GIT = "git"
     #: That of the Rust crate `gix-glob`. What a pattern with a slash has before its first `*`, `?`, `[` or `\\` isn't compared by itself,
     #: so that `a**/b` doesn't match `ax/y/b`; and where the case of letters doesn't count, it doesn't either in sets and behind a `\\`.

@@ -35,7 +35,7 @@ use crate::pattern::Case;
 use crate::search::Pattern;
 use crate::search::pattern::{List, Mapping};
 
-/// Whose reading of a line counts, and of what its pattern matches. A parser tells it of its patterns ([`Pattern::READING`]), so
+/// Whose reading of a line applies, and of what its pattern matches. A parser says it of its patterns ([`Pattern::READING`]), so
 /// [`Lists`] and an [`Index`] can't take patterns of one for those of the other.
 #[derive(Clone, Copy, PartialEq, Eq, Debug, Hash, PartialOrd, Ord, Default)]
 pub enum Reading {
@@ -95,7 +95,7 @@ impl<'a, T: Pattern> Lists<'a, T> {
     /// folder above it is ignored, the last pattern that matches the path decides. The path is ignored unless that pattern is
     /// [negative](crate::Pattern::is_negative).
     ///
-    /// The path is told from the top on, with single slashes between its parts; about one that is empty, or has a slash at its
+    /// The path is relative to the top, with single slashes between its parts; about one that is empty, or has a slash at its
     /// front or end, or two in a row, nothing decides. A list whose [`base`](List::base) is neither empty nor ends in a slash says
     /// nothing.
     pub fn decide_in_tree(
@@ -133,7 +133,7 @@ impl<'a, T: Pattern> Index<'a, T> {
     /// The last pattern that matches what the base of the list leaves of a path; `None` where none does, or the path doesn't lie
     /// below the base. It decides about the path by itself: folders above aren't asked about.
     ///
-    /// The path is told from the root on, as for [`Lists::decide_in_tree`], and the same bases say nothing: no pattern matches where
+    /// The path is relative to the root, as for [`Lists::decide_in_tree`], and the same bases say nothing: no pattern matches where
     /// the base is neither empty nor ends in a slash.
     pub fn last_match(&self, path: &BStr, is_dir: bool, case: Case) -> Option<&'a Mapping<T::Value>> {
         let (rest, _) = self.list.strip_base_handle_recompute_basename_pos(path, None, case)?;

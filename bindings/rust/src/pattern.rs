@@ -49,7 +49,7 @@ impl Pattern {
         self.text.iter().any(|byte| matches!(byte, b'*' | b'?' | b'['))
     }
 
-    /// Whether the pattern matches a path, told from the folder of the pattern's file, with slashes between its parts.
+    /// Whether the pattern matches a path, relative to the folder of the pattern's file, with slashes between its parts.
     ///
     /// - `basename_start_pos` is the place after the path's last slash, or `None` where the path has no slash. A pattern that has
     ///   no slash, in front neither, is matched against what begins there.
@@ -86,7 +86,7 @@ impl Pattern {
         if self.mode.contains(Mode::MUST_BE_DIR) && is_dir != Some(true) {
             return false;
         }
-        debug_assert!(!path.starts_with(b"/"), "a path is told from a folder on, and doesn't begin with a slash");
+        debug_assert!(!path.starts_with(b"/"), "a path is relative to a folder, and doesn't begin with a slash");
         debug_assert!(
             basename_start_pos
                 .is_none_or(|start| start > 0 && path.iter().rposition(|&byte| byte == b'/') == Some(start - 1)),
@@ -101,9 +101,9 @@ impl Pattern {
         path.get(start..).is_some_and(|subject| self.matches_bytes(subject, mode))
     }
 
-    /// Whether the pattern matches a path as Git has it, told from the folder of the pattern's file: what a pattern with a slash has before
-    /// its first `*`, `?`, `[` or `\` is compared by itself, and what follows is a pattern of its own; and with [`Case::Fold`] members of
-    /// sets and escaped letters stay as they are. The other crate has no such call.
+    /// Whether the pattern matches a path as Git has it, relative to the folder of the pattern's file: what a pattern with a slash has
+    /// before its first `*`, `?`, `[` or `\` is compared by itself, and what follows is a pattern of its own; and with [`Case::Fold`]
+    /// members of sets and escaped letters stay as they are. The other crate has no such call.
     ///
     /// A path that is empty, has a slash at its front or end, or two in a row, is matched by nothing.
     ///
@@ -140,7 +140,7 @@ impl Pattern {
         self.matches_bytes(value, mode)
     }
 
-    /// Whether what is told of the text is so.
+    /// Whether what the other fields say of the text is so.
     fn is_consistent(&self) -> bool {
         let mut specials = (0..).zip(self.text.iter()).filter(|(_, byte)| b"*?[\\".contains(byte));
         let first = specials.next();

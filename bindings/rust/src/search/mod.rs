@@ -43,7 +43,7 @@ pub trait Pattern: Clone + PartialEq + Eq + Debug + Hash + Ord + PartialOrd + De
     /// What belongs to a pattern.
     type Value: PartialEq + Eq + Debug + Hash + Ord + PartialOrd + Clone;
 
-    /// Whose reading the patterns are, by which [`decide`](crate::decide) matches them: the crate's, unless the parser tells another
+    /// Whose reading the patterns are, by which [`decide`](crate::decide) matches them: the crate's, unless the parser says another
     /// one. The other crate has no such constant.
     const READING: Reading = Reading::Crate;
 

@@ -18,8 +18,8 @@ pub struct List<T: Pattern> {
     /// The file that they were read from, if any.
     pub source: Option<PathBuf>,
 
-    /// The folder that the patterns speak of, told from the root on, with slashes between its parts and one at the end. `None`
-    /// where they speak of the whole root.
+    /// The folder that the patterns are for, relative to the root, with slashes between its parts and one at the end. `None`
+    /// where they are for the whole root.
     pub base: Option<BString>,
 }
 
