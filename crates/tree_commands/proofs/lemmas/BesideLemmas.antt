@@ -18,9 +18,6 @@ use Rattle.tree_commands.specs.Private.Listing.{FlagsFolder, IsFree, IsIgnoredNe
 pub says_false : {P : Type 0} → ¬ P → IsTrue false ↔ P
 says_false other = ((λ yes. absurd (false≢true yes)), (λ it. absurd (other it)))
 
-unignored_is_other : Unignored ≢ Ignored
-unignored_is_other is = absurd (cc)
-
 beside_is_not_in_place : NamedIfAllIgnored ≢ EnteredUnlessFilled
 beside_is_not_in_place is = absurd (cc)
 
@@ -62,8 +59,8 @@ module _ (basis : Basis) (tree : FileTree) (folder : Folder) (it : IsAllIgnored 
           folder = folder;
           start = refl;
           shut = record { below = it.below; free = it.free; why = inl (inl git) };
-          free = it.name;
-          chosen = λ told. absurd (unignored_is_other told);
+          free = λ hidden. it.name hidden.1;
+          chosen = λ other. tt;
         });
       }))
       (λ (empty : (basis.terms.folders ≡ NamedIfEmpty) × IsEmpty basis.terms.case tree folder). absurd (beside_is_not_empty (sym it.asks.0 ∙ empty.0)))
