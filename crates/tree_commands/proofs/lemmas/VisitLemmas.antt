@@ -3,6 +3,7 @@ use Rattle.std.proofs.Common.{◌≡◌, ◌≢◌, inl, inr, ⊎_elim, ℕ, Boo
 use Rattle.std.specs.Prelude.{◌↔◌, IsTrue, None, Some}
 use Rattle.std.proofs.lemmas.Bool.{false≢true}
 use Rattle.std.proofs.lemmas.Option.{same_Some}
+use Rattle.git_index.specs.Entries.{IsTracked}
 use Rattle.gix_glob.specs.Bytes.{EndsInSlash}
 use Rattle.gix_glob.specs.EntryLists.{EntryList}
 use Rattle.glob_lists.specs.Paths.{IsPlainPath}
@@ -11,7 +12,7 @@ use Rattle.tree_commands.specs.declared.files.pending.Pending.{Pending}
 use Rattle.tree_commands.specs.declared.files.source.EntryKind.{EntryKind}
 use Rattle.tree_commands.specs.FileTrees.{FileTree}
 use Rattle.tree_commands.specs.Files.{AsksIgnored, IsChosen, IsHidden, IsListedBy, IsListedFile, IsListedFolder, IsNameHidden, IsNamed, IsShut, ShutsItself, Terms}
-use Rattle.tree_commands.specs.Private.Listing.{AddsOwn, Enters, FlagsFolder, IsClear, IsEnd, IsFoundAmong, IsFree, IsIgnoredNext, IsToldBy, ListsFile, ListsFolder, MayBegin, StandsAtStart, Visits, if_listed, path_of}
+use Rattle.tree_commands.specs.Private.Listing.{AddsOwn, Enters, Flags, FlagsFolder, IsClear, IsEnd, IsFoundAmong, IsFree, IsIgnoredNext, IsToldBy, ListsFile, ListsFolder, MayBegin, StandsAtStart, Visits, if_listed, path_of}
 use Rattle.tree_commands.proofs.lemmas.BeginLemmas.{begins_at_something}
 use Rattle.tree_commands.proofs.lemmas.LevelLemmas.{chosen_as, shut_as}
 use Rattle.tree_commands.proofs.lemmas.PathLemmas.{one_folder, start_ends}
@@ -70,6 +71,14 @@ module _ (terms : Terms) (tree : FileTree) (folder : Folder) (is_ignored : Bool)
       shut.why
 
 -- ---- how a visit ends
+
+-- by a flag that says whether it is ignored, a file is chosen or isn't
+pub file_chosen : (terms : Terms) (lists : List (EntryList (Unit {0}))) (next : Pending) (path : List ℕ) (flag is_listed : Bool) → Flags terms lists next path false flag → IsTrue is_listed ↔ IsChosen terms.chosen (IsTrue flag) (IsTracked terms.tracked.entries path)
+    → IsTrue is_listed ↔ IsChosen terms.chosen (IsIgnoredNext terms lists next path false) (IsTracked terms.tracked.entries path)
+file_chosen terms lists next path flag is_listed flags known = (
+  (λ yes. chosen_as terms.chosen (IsTrue flag) (IsIgnoredNext terms lists next path false) (IsTracked terms.tracked.entries path) flags.asked (known.0 yes)),
+  (λ it. known.1 (chosen_as terms.chosen (IsIgnoredNext terms lists next path false) (IsTrue flag) (IsTracked terms.tracked.entries path) (λ told. (let both = flags.asked told in (both.1, both.0))) it)),
+)
 
 module _ (Known : FileTree → Type 0) (terms : Terms) (next : Pending) (lists : List (EntryList (Unit {0}))) (pending : List Pending) where
   -- with a path that isn't gone into, which is listed or not

@@ -15,7 +15,8 @@ use crate::files::ignoring::is_ignored_by;
 use crate::files::pending::{Pending, put_in_order};
 use crate::files::source::{FileSource, FolderNames};
 use crate::files::terms::{
-    Terms, asks_filled, asks_ignored, is_chosen, is_chosen_file, is_name_hidden, is_named, tells_empty,
+    Terms, asks_filled, asks_ignored, is_chosen, is_chosen_file, is_name_hidden, is_named,
+    tells_empty,
 };
 use gix_glob::search::pattern::List;
 use glob_lines::GitIgnoreLines;
