@@ -5,7 +5,7 @@ use Rattle.std.proofs.lemmas.Bool.{false≢true}
 use Rattle.git_index.specs.Entries.{IsTracked}
 use Rattle.gix_glob.specs.EntryLists.{EntryList}
 use Rattle.glob_trees.specs.Ways.{Folder, start_of}
-use Rattle.tree_commands.specs.declared.files.choosing.Chosen.TheVariants.{Ignored, Unignored}
+use Rattle.tree_commands.specs.declared.files.choosing.Chosen.TheVariants.{Ignored}
 use Rattle.tree_commands.specs.declared.files.choosing.Folders.{Folders}
 use Rattle.tree_commands.specs.declared.files.choosing.Folders.TheVariants.{EnteredUnlessFilled, NamedIfAllIgnored, NamedIfEmpty}
 use Rattle.tree_commands.specs.declared.files.pending.Pending.{Pending}

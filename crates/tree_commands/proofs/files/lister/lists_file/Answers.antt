@@ -1,4 +1,4 @@
-use Rattle.std.proofs.Common.{◌≡◌, List, ℕ, false}
+use Rattle.std.proofs.Common.{false}
 use Rattle.std.specs.Prelude.{◌↔◌, IsTrue}
 use Rattle.git_index.specs.Entries.{IsTracked}
 use Rattle.tree_commands.specs.Files.{IsChosen}
