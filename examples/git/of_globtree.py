@@ -77,6 +77,24 @@ class Pair:
         options = [*self.git_options(), *self.leading_to(folder), *more]
         return self.run(["git", "--literal-pathspecs", *options, "ls-files", "-co", "--exclude-standard", *words], b"")
 
+    def track(self, paths):
+        self.run(["git", "--literal-pathspecs", "-C", self.top, "add", "-f", "--pathspec-from-file=-", "--pathspec-file-nul"], b"\0".join(paths))
+
+    def standing(self, folder, words, told):
+        """Of what Git lists what stands there, once, in the order of all paths: it lists those that are tracked last."""
+        end = b"\0" if "-z" in words else b"\n"
+        names = {}
+        for name in told.output.split(end)[:-1]:
+            path = name if "-z" in words else unquoted(name)
+            names[os.path.normpath(os.path.join(folder, path)) + path[len(path.rstrip(b"/")):]] = name
+        return told._replace(output=b"".join(names[path] + end for path in sorted(names) if self.stands(path)))
+
+    def stands(self, path):
+        """Whether something stands at a path, and no link above it."""
+        below = os.path.relpath(path, self.top)
+        links = [os.path.islink(os.path.join(self.top, below[:place])) for place in range(len(below)) if below[place:place + 1] == b"/"]
+        return os.path.lexists(path) and not any(links)
+
     def globtree(self, folder, words, given=b"", options=(), command="check-ignore"):
         return self.run([GLOBTREE, *self.leading_to(folder), *self.globtree_options(), *options, command, *words], given)
 
@@ -153,6 +171,7 @@ class Comparison:
         self.wrong(paths)
         self.within_git()
         self.files()
+        self.tracked_files()
         self.folders()
         self.with_slash([path for path in paths if path not in tree.links])
 
@@ -227,6 +246,30 @@ class Comparison:
             shutil.rmtree(os.path.join(top, folder, b".git"))
         self.repositories = []
 
+    def tracked_files(self):
+        """What isn't ignored or is tracked, where some files are gone, and a folder is a repository of its own."""
+        tree, top = self.pair.tree, self.pair.top
+        paths = [path for path in [*tree.files, *tree.links] if is_text(path) and not path.startswith(b".git/")]
+        if tree.is_folding or not paths:
+            # (there Git lists no file whose name differs from a tracked one's in case alone)
+            return
+        self.pair.track(self.random.sample(paths, self.random.randrange(1, len(paths) + 1)))
+        gone = [path for path in self.random.sample(paths, min(len(paths), 2)) if path in tree.files]
+        for path in gone:
+            os.remove(os.path.join(top, path))
+        self.repositories = self.random.sample([folder for folder in tree.folders if folder], min(1, len(tree.folders) - 1))
+        for folder in self.repositories:
+            make_repository(os.path.join(top, folder, b".git"))
+        for words in ([], ["-z"], ["-z"]):
+            folder, told = self.seen_from([self.random.choice(paths)])
+            self.list_files(folder, words + self.random.choice([[], [], ["--"] + told]))
+        for folder in self.repositories:
+            shutil.rmtree(os.path.join(top, folder, b".git"))
+        self.repositories = []
+        for path in gone:
+            write(os.path.join(top, path), tree.files[path])
+        os.remove(os.path.join(top, b".git", b"index"))
+
     def is_in_repository(self, folder, words):
         """Whether the path among the words lies in a repository below the top."""
         told = [word for word in words if isinstance(word, bytes)]
@@ -235,6 +278,8 @@ class Comparison:
 
     def list_files(self, folder, words, named_top=None):
         expected = self.pair.git_files(folder, words, named_top)
+        if os.path.exists(os.path.join(self.pair.top, b".git", b"index")):
+            expected = self.pair.standing(folder, words, expected)
         end = b"\0" if "-z" in words else b"\n"
         names = expected.output.split(end)[:-1]
         self.listings += 1

@@ -25,7 +25,6 @@ IsFileIn folder name path = ((folder ≡ []) × (path ≡ name)) ⊎ (path ≡ f
 abbrev pub GivesFolder : IndexUse → Tracked → List ℕ → Type 0
 GivesFolder uses.Nothing entry folder = ⊥
 GivesFolder uses.Paths entry folder = ((entry.skip_worktree ≡ true) × (entry.stage ≡ 0)) × IsFileIn folder (codes ".gitignore") entry.path
-GivesFolder uses.Patterns entry folder = ((entry.skip_worktree ≡ true) × (entry.stage ≡ 0)) × IsFileIn folder (codes ".gitignore") entry.path
 GivesFolder uses.Attributes entry folder = ((entry.stage ≡ 0) ⊎ (entry.stage ≡ 2)) × IsFileIn folder (codes ".gitattributes") entry.path
 
 -- some entry gives the folder

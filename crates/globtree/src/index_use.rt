@@ -17,10 +17,8 @@ use tree_files::IndexedFiles;
 pub(crate) enum IndexUse {
     /// Nothing.
     Nothing,
-    /// Which paths are tracked.
+    /// Which paths are tracked, and where it has ignore files that the work tree hasn't.
     Paths,
-    /// Nothing but where it has ignore files that the work tree hasn't.
-    Patterns,
     /// Nothing but where it has attribute files that the work tree hasn't.
     Attributes,
 }
@@ -35,7 +33,7 @@ impl IndexUse {
             IndexUse::Attributes if entry.stage == 0 || entry.stage == 2 => {
                 folder_of_file(&entry.path, b".gitattributes")
             }
-            IndexUse::Paths | IndexUse::Patterns if entry.skip_worktree && entry.stage == 0 => {
+            IndexUse::Paths if entry.skip_worktree && entry.stage == 0 => {
                 folder_of_file(&entry.path, b".gitignore")
             }
             _ => None,

@@ -30,22 +30,90 @@ use tree_answers::Form;
 use tree_commands::tracked_files::{write_ignored, write_paths};
 use tree_files::{CheckFault, FileKinds, FolderFiles};
 
-/// Lists the tracked paths that pathspecs match, and notes which of these met one.
-pub(crate) fn list_tracked<O: Write>(
-    alloc: Global,
-    standpoint: &Standpoint,
-    form: Form,
-    tracked: &Index,
-    list: &PathspecList,
-    met: &mut MetElements,
-    output: &mut Watched<O>,
-) -> Result<()>
-    requires { has_failed output.old ≡ false }
-{
-    let paths = matched_paths(alloc, list, tracked.entries())?;
-    note_tracked(alloc, list, tracked.entries(), &paths, met)?;
-    let told = write_paths(alloc, standpoint, form, &paths, output);
-    answer_of(told, |fault| CheckFault::of_ignore(alloc, fault))
+/// A listing of the tracked paths that pathspecs match.
+#[derive(Drop)]
+pub(crate) struct TrackedListing<'a> {
+    pub(crate) alloc: Global,
+    /// Where paths are told from.
+    pub(crate) standpoint: &'a Standpoint,
+    pub(crate) form: Form,
+    pub(crate) tracked: &'a Index,
+    pub(crate) list: &'a PathspecList,
+}
+
+impl<'a> TrackedListing<'a> {
+    /// Lists them, and notes which pathspecs met one.
+    pub(crate) fn list<O: Write>(
+        &self,
+        met: &mut MetElements,
+        output: &mut Watched<O>,
+    ) -> Result<()>
+        requires { has_failed output.old ≡ false }
+    {
+        let paths = self.matched()?;
+        self.note(&paths, met)?;
+        self.write(&paths, output)
+    }
+
+    /// Lists those of them that are ignored, by the patterns of a tree.
+    pub(crate) fn list_ignored<R: Files + Eprint, O: Write>(
+        &self,
+        rt: &R,
+        tree: Tree<GitIgnoreLines, ToldPatterns<FolderFiles<'_, R>>>,
+        met: &mut MetElements,
+        output: &mut Watched<O>,
+    ) -> Result<()>
+        requires working { has_failed output.old ≡ false }
+    {
+        let alloc = self.alloc;
+        let (paths, kinds) = (self.matched()?, FileKinds::of_tracked(rt, alloc));
+        if !met.is_asked {
+            let (_sources, told) = write_ignored(
+                alloc,
+                self.standpoint,
+                self.form,
+                tree,
+                kinds,
+                &paths,
+                output,
+            );
+            return answer_of(told, |fault| CheckFault::of_ignore(alloc, fault));
+        }
+        let mut text = Watched::new(Vec::new(alloc));
+        let top = at_top(self.standpoint)?;
+        let (_sources, told) = write_ignored(
+            alloc,
+            &top,
+            Form::Records,
+            tree,
+            kinds,
+            &paths,
+            &mut text,
+        );
+        answer_of(told, |fault| CheckFault::of_ignore(alloc, fault))?;
+        let text = text.into_inner();
+        let ignored = records_of(alloc, &text)?;
+        self.note(&ignored, met)?;
+        self.write(&ignored, output)
+    }
+
+    /// The paths that the list matches.
+    fn matched(&self) -> Result<Vec<&'a [u8]>, AllocError> {
+        matched_paths(self.alloc, self.list, self.tracked.entries())
+    }
+
+    /// Notes which pathspecs met one of these paths.
+    fn note(&self, paths: &[&[u8]], met: &mut MetElements) -> Result<(), AllocError> {
+        note_tracked(self.alloc, self.list, self.tracked.entries(), paths, met)
+    }
+
+    /// Writes paths.
+    fn write<O: Write>(&self, paths: &[&[u8]], output: &mut Watched<O>) -> Result<()>
+        requires { has_failed output.old ≡ false }
+    {
+        let told = write_paths(self.alloc, self.standpoint, self.form, paths, output);
+        answer_of(told, |fault| CheckFault::of_ignore(self.alloc, fault))
+    }
 }
 
 /// Lists the tracked paths that pathspecs match, where the repository may have no work tree. No file of patterns is read.
@@ -66,55 +134,15 @@ pub(crate) fn list_index<R: Files + Env + Eprint + AllocGlobal, O: Write>(
     let tracked = place.index.read(rt, alloc)?;
     let form = Form::ended_by(asked.nul, place.quoting);
     let mut met = MetElements::none(alloc, &told.list, asked.error_unmatch)?;
-    list_tracked(
+    let listing = TrackedListing {
         alloc,
-        &place.standpoint,
+        standpoint: &place.standpoint,
         form,
-        &tracked,
-        &told.list,
-        &mut met,
-        output,
-    )?;
+        tracked: &tracked,
+        list: &told.list,
+    };
+    listing.list(&mut met, output)?;
     met.tell_unmet(rt, alloc, &told)
-}
-
-/// Lists those of them that are ignored, by the patterns of a tree.
-pub(crate) fn list_tracked_ignored<R: Files + Eprint, O: Write>(
-    rt: &R,
-    alloc: Global,
-    standpoint: &Standpoint,
-    form: Form,
-    tracked: &Index,
-    tree: Tree<GitIgnoreLines, ToldPatterns<FolderFiles<'_, R>>>,
-    list: &PathspecList,
-    met: &mut MetElements,
-    output: &mut Watched<O>,
-) -> Result<()>
-    requires working { has_failed output.old ≡ false }
-{
-    let paths = matched_paths(alloc, list, tracked.entries())?;
-    let kinds = FileKinds::of_tracked(rt, alloc);
-    if !met.is_asked {
-        let (_sources, told) = write_ignored(alloc, standpoint, form, tree, kinds, &paths, output);
-        return answer_of(told, |fault| CheckFault::of_ignore(alloc, fault));
-    }
-    let mut text = Watched::new(Vec::new(alloc));
-    let top = at_top(standpoint)?;
-    let (_sources, told) = write_ignored(
-        alloc,
-        &top,
-        Form::Records,
-        tree,
-        kinds,
-        &paths,
-        &mut text,
-    );
-    answer_of(told, |fault| CheckFault::of_ignore(alloc, fault))?;
-    let text = text.into_inner();
-    let ignored = records_of(alloc, &text)?;
-    note_tracked(alloc, list, tracked.entries(), &ignored, met)?;
-    let told = write_paths(alloc, standpoint, form, &ignored, output);
-    answer_of(told, |fault| CheckFault::of_ignore(alloc, fault))
 }
 
 /// The paths of the entries that a list matches, in the order of the index, each as often as it has stages.

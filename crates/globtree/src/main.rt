@@ -14,6 +14,7 @@ mod lint;
 mod list_files;
 mod list_tracked;
 mod listed_path;
+mod lister;
 mod listing;
 mod match_pathspec;
 mod matching;

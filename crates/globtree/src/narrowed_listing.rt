@@ -5,13 +5,10 @@ ghost use Rattle.globtree.specs.Running.{IsAnswered};
 
 use crate::common_front::common_front;
 use crate::fault::Result;
-use crate::fronts::Fronts;
-use crate::listing::{ended, source_of};
+use crate::lister::Lister;
+use crate::listing::ended;
 use crate::outcomes::ANSWERED;
 use crate::places::from_root;
-use crate::told_pathspecs::ToldPathspecs;
-use crate::told_patterns::ToldPatterns;
-use crate::words::files::ListFiles;
 use byte_streams::Watched;
 use git_index::{FoldedPaths, Index};
 use git_paths::Standpoint;
@@ -25,35 +22,26 @@ use tree_files::{AskedPaths, FileKinds, Narrowed, TrackedFolders};
 
 /// Lists the files that pathspecs ask for, and answers what the command ends with. It begins at the folder in which all of them lie; where no
 /// such folder is there, nothing is listed.
-pub(crate) fn run_narrowed<
-    'a,
-    R: Files + Env + Clock + Eprint + AllocGlobal + Clone + Drop,
-    O: Write,
->(
-    rt: &R,
-    alloc: Global,
+pub(crate) fn run_narrowed<R: Files + Env + Clock + Eprint + AllocGlobal + Clone + Drop, O: Write>(
+    lister: &Lister<'_, R>,
     listing: Listing,
-    asked: &'a ListFiles<'_>,
-    told: &'a ToldPathspecs<'_>,
-    fronts: &'a Fronts,
-    shows_progress: bool,
     output: &mut Watched<O>,
 ) -> Result<u8>
     ensures status { IfOk result IsAnswered }
 {
-    let front = plain_or_top(common_front(&told.list));
-    if !is_there(rt, alloc, front)? {
+    let (alloc, fronts) = (lister.alloc, lister.fronts);
+    let list = &lister.told.list;
+    let front = plain_or_top(common_front(list));
+    if !is_there(lister.rt, alloc, front)? {
         return Ok(ANSWERED);
     }
     let begin = below_top(alloc, &fronts.standpoint, front)?;
     let folded = folded_by(alloc, listing.case, &fronts.tracked)?;
     let paths = AskedPaths {
-        list: &told.list,
+        list,
         tracked: TrackedFolders::new(&fronts.tracked, &folded),
     };
-    let files = source_of(rt, alloc, fronts, shows_progress)?;
-    let source = ToldPatterns::before(alloc, asked, files)?;
-    let mut narrowed = Narrowed::new(alloc, source, paths);
+    let mut narrowed = Narrowed::new(alloc, lister.source()?, paths);
     let outcome = run_files(
         alloc,
         listing,

@@ -24,7 +24,7 @@ use Rattle.tree_answers.specs.declared.form.Form.{Form}
 use Rattle.tree_answers.specs.declared.form.Form.TheVariants.{Lines, Records}
 use Rattle.tree_answers.specs.Lines.{behind, name_text}
 use Rattle.tree_commands.specs.declared.files.choosing.Chosen.{Chosen}
-use Rattle.tree_commands.specs.declared.files.choosing.Chosen.TheVariants.{All, Ignored, Unignored}
+use Rattle.tree_commands.specs.declared.files.choosing.Chosen.TheVariants.{All, Ignored, Unignored, UnignoredOrTracked}
 use Rattle.tree_commands.specs.declared.files.choosing.Folders.{Folders}
 use Rattle.tree_commands.specs.declared.files.choosing.Folders.TheVariants.{Entered, EnteredUnlessFilled, Named, NamedIfAllIgnored, NamedIfEmpty, NamedIfFilled, NamedIfIgnored}
 use Rattle.tree_commands.specs.declared.files.mark.Mark.{Mark}
@@ -78,15 +78,23 @@ IsBelowIgnored basis tree path = (folder : Folder) × IsAbove folder path × IsI
 abbrev pub IsIgnoredAt : Basis → FileTree → List ℕ → Bool → Type 0
 IsIgnoredAt basis tree path is_dir = IsBelowIgnored basis tree path ⊎ IsIgnored (lists_to basis tree path) basis.terms.case path is_dir
 
--- what is passed over, with all that lies in it: a tracked file, and the folder of a submodule
-abbrev pub IsHidden : LookedUp → List ℕ → EntryKind → Type 0
-IsHidden tracked path kinds.Folder = IsOfSubmodule tracked path
-IsHidden tracked path kinds.File = HasEntry tracked path
+-- the index has what stands at a path: a tracked file, or the folder of a submodule
+abbrev pub IsOfIndex : LookedUp → List ℕ → EntryKind → Type 0
+IsOfIndex tracked path kinds.Folder = IsOfSubmodule tracked path
+IsOfIndex tracked path kinds.File = HasEntry tracked path
+
+-- that is passed over, with all that lies in it, unless what is tracked is chosen, too
+abbrev pub IsHidden : Terms → List ℕ → EntryKind → Type 0
+IsHidden terms path kind = (terms.chosen ≢ UnignoredOrTracked) × IsOfIndex terms.tracked path kind
+
+-- and so is the path of a folder that has the very name of a tracked file, in which case always counts
+abbrev pub IsNameHidden : Terms → Folder → Type 0
+IsNameHidden terms folder = (terms.chosen ≢ UnignoredOrTracked) × IsTracked terms.tracked.entries folder
 
 -- what stands at a path is kept: these lists don't ignore it, where what isn't ignored is chosen, and it isn't passed over
 pub record IsKept (lists : List (EntryList (Unit {0}))) (terms : Terms) (path : List ℕ) (kind : EntryKind) : Type 0 where
   pub unignored : terms.chosen ≡ Unignored → ¬ IsIgnored lists terms.case path (is_folder kind)
-  pub shown : ¬ IsHidden terms.tracked path kind
+  pub shown : ¬ IsHidden terms path kind
 
 -- something stands at the path that is kept; `found` is the path, and a slash behind it where a folder stands there
 pub record IsFound (lists : List (EntryList (Unit {0}))) (terms : Terms) (tree : FileTree) (path found : List ℕ) : Type 0 where
@@ -102,13 +110,20 @@ pub record IsEntryOf (basis : Basis) (tree : FileTree) (folder : Folder) (found 
   pub may : IsEntryName basis.terms.case name
   pub here : IsFound (lists_to basis tree (start_of folder)) basis.terms tree (start_of folder ++ name) found
 
--- a folder in which no tracked path lies is told by its name, although it is no repository; `Ignores` says that it is ignored
+-- it counts of what is met that it is ignored
+abbrev pub AsksIgnored : Chosen → Type 0
+AsksIgnored Unignored = ⊥
+AsksIgnored Ignored = Unit {0}
+AsksIgnored UnignoredOrTracked = Unit {0}
+AsksIgnored All = ⊥
+
+-- a folder in which no tracked path lies isn't gone into, although it is no repository; `Ignores` says that it is ignored
 abbrev pub IsNamed : Folders → Chosen → Type 0 → Type 0
 IsNamed Entered chosen Ignores = ⊥
 IsNamed EnteredUnlessFilled chosen Ignores = ⊥
 IsNamed Named chosen Ignores = Unit {0}
 IsNamed NamedIfFilled chosen Ignores = Unit {0}
-IsNamed NamedIfIgnored chosen Ignores = (chosen ≡ Ignored) × Ignores
+IsNamed NamedIfIgnored chosen Ignores = AsksIgnored chosen × Ignores
 IsNamed NamedIfAllIgnored chosen Ignores = (chosen ≡ Ignored) × Ignores
 IsNamed NamedIfEmpty chosen Ignores = ⊥
 
@@ -151,20 +166,27 @@ pub record BeginsBelow (basis : Basis) (tree : FileTree) (path : List ℕ) (is_t
 abbrev pub BeginsAt : Basis → FileTree → List ℕ → Bool → List ℕ → Type 0
 BeginsAt basis tree path is_told start = ((path ≡ []) × (start ≡ [])) ⊎ BeginsBelow basis tree path is_told start
 
--- A path that is met is listed: that of a file or a link, or of a folder that isn't gone into, unless a tracked file has its very name, in
--- which case always counts. It is ignored, where the ignored ones are chosen; but of a folder that is told only if it is filled, what lies
--- in it decides.
+-- What is met is chosen: what is ignored, where that is asked for; or what isn't ignored as `check-ignore` has it, of which nothing is that is
+-- tracked. Else all is: where what isn't ignored is asked for, nothing else is met.
+abbrev pub IsChosen : Chosen → Type 0 → Type 0 → Type 0
+IsChosen Unignored Ignores Tracked = Unit {0}
+IsChosen Ignored Ignores Tracked = Ignores
+IsChosen UnignoredOrTracked Ignores Tracked = ¬ (Ignores × (¬ Tracked))
+IsChosen All Ignores Tracked = Unit {0}
+
+-- A path that is met is listed, if it is chosen: that of a file or a link, or of a folder that isn't gone into, unless that is passed over for
+-- its name. But of a folder that is told only if it is filled, what lies in it decides.
 pub record IsListedFile (terms : Terms) (Ignores : List ℕ → Bool → Type 0) (path : List ℕ) : Type 0 where
   pub some : path ≢ []
   pub whole : ¬ EndsInSlash path
-  pub chosen : terms.chosen ≡ Ignored → Ignores path false
+  pub chosen : IsChosen terms.chosen (Ignores path false) (IsTracked terms.tracked.entries path)
 
 pub record IsListedFolder (terms : Terms) (tree : FileTree) (Ignores : List ℕ → Bool → Type 0) (path : List ℕ) : Type 0 where
   pub folder : Folder
   pub start : path ≡ start_of folder
   pub shut : IsShut terms tree folder (Ignores folder true)
-  pub free : ¬ IsTracked terms.tracked.entries folder
-  pub chosen : terms.chosen ≡ Ignored → terms.folders ≢ NamedIfFilled → Ignores folder true
+  pub free : ¬ IsNameHidden terms folder
+  pub chosen : terms.folders ≢ NamedIfFilled → IsChosen terms.chosen (Ignores folder true) ⊥
 
 abbrev pub IsListedBy : Terms → FileTree → (List ℕ → Bool → Type 0) → List ℕ → Type 0
 IsListedBy terms tree Ignores path = IsListedFile terms Ignores path ⊎ IsListedFolder terms tree Ignores path
@@ -196,6 +218,7 @@ HasListed chosen basis tree folder = HasListedBy Entered chosen basis tree folde
 abbrev pub IsFilledBy : Chosen → Basis → FileTree → Folder → Type 0
 IsFilledBy All basis tree folder = HasListed All basis tree folder
 IsFilledBy Unignored basis tree folder = HasListed Unignored basis tree folder
+IsFilledBy UnignoredOrTracked basis tree folder = HasListed UnignoredOrTracked basis tree folder
 IsFilledBy Ignored basis tree folder = HasListed Ignored basis tree folder × (IsIgnoredAt basis tree folder true ⊎ (¬ HasListed Unignored basis tree folder))
 
 abbrev pub IsFilled : Basis → FileTree → Folder → Type 0
@@ -234,12 +257,12 @@ pub record IsToldAsListed (basis : Basis) (tree : FileTree) (path : List ℕ) : 
   pub listed : IsListed basis tree path
   pub filled : basis.terms.folders ≡ NamedIfFilled → (folder : Folder) → path ≡ start_of folder → IsFilled basis tree folder
 
--- and so is that of a folder that is replaced, unless a tracked file has its name
+-- and so is that of a folder that is replaced, unless it is passed over for its name
 pub record IsToldInPlace (basis : Basis) (tree : FileTree) (path : List ℕ) : Type 0 where
   pub folder : Folder
   pub start : path ≡ start_of folder
   pub replaced : IsReplaced basis tree folder
-  pub free : ¬ IsTracked basis.terms.tracked.entries folder
+  pub free : ¬ IsNameHidden basis.terms folder
 
 -- and that of a folder in which all is ignored is told beside what lies in it
 pub record IsToldBeside (basis : Basis) (tree : FileTree) (path : List ℕ) : Type 0 where

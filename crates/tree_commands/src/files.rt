@@ -1,4 +1,4 @@
-//! The command `files`: which files of a work tree aren't tracked, or are ignored, in order of their paths.
+//! The command `files`: which files of a work tree are chosen, by patterns and by what is tracked, in order of their paths.
 ghost use Rattle.std.specs.Prelude.{◌≡◌, ◌↔◌, ℕ, List, [], Some, None, false, AllPairs, IfErr, IfOk, IsErrOf, OnErr, OnOk, is_ok, map, option_map};
 ghost use Rattle.std.specs.Vec.{vec_items};
 ghost use Rattle.std.specs.Io.KnownBytes.{Appends};
@@ -77,7 +77,8 @@ pub struct Listing {
     pub case: Case,
 }
 
-/// Writes a line for each file of a work tree that is chosen and isn't tracked, at or below a path.
+/// Writes a line for each file of a work tree that is chosen and isn't tracked, at or below a path; where what is tracked is chosen, too, also
+/// for those that are.
 ///
 /// `told` leads from the standpoint to the path at which the listing begins: the top, a folder or a file. Where that, or a folder above it, has
 /// the name of a repository's files or is a submodule, or a folder above it is a repository of its own in which no tracked path lies, nothing is
@@ -85,7 +86,7 @@ pub struct Listing {
 ///
 /// Listed are files and links, and, with a slash at the end, the folders that aren't gone into: those of repositories of their own in which no
 /// tracked path lies, and those that are told by their names, as `folders` of the listing says; and the folders that are told so beside what
-/// lies in them. A submodule's folder is none. Where the paths that aren't ignored are chosen, an ignored folder isn't gone into either. What
+/// lies in them. A submodule's folder is none, unless what is tracked is chosen. Where the paths that aren't ignored are chosen, an ignored folder isn't gone into either. What
 /// isn't gone into is asked for its names only to know whether it is a repository, or what lies in it where that counts, and an ignored folder
 /// isn't. The paths come in the order of their bytes, each once.
 ///

@@ -9,7 +9,7 @@ use Rattle.std.proofs.lemmas.Option.{same_Some}
 use Rattle.git_index.specs.Entries.{Tracked, tracked}
 use Rattle.globtree.specs.Tracked.{GivesFolder, IsFileIn, IsGiven}
 use Rattle.globtree.specs.declared.index_use.IndexUse.{IndexUse}
-use Rattle.globtree.specs.declared.index_use.IndexUse.TheVariants.{Attributes, Paths, Patterns}
+use Rattle.globtree.specs.declared.index_use.IndexUse.TheVariants.{Attributes, Paths}
 use Rattle.git_index.specs.declared.entry.Entry.{Entry}
 
 -- a text of no bytes
@@ -67,10 +67,10 @@ of_attributes index entry path r is ours same told folder = subst (λ asked. (op
   λ gives. (told folder).1 (subst (IsFileIn folder (codes ".gitattributes")) (sym same) gives.1),
 )
 
-pub of_patterns : (index : IndexUse) (entry : Tracked) (path : List ℕ) (r : Option (Bor (List ℕ))) → (index ≡ Paths) ⊎ (index ≡ Patterns) → entry.skip_worktree ≡ true → entry.stage ≡ 0 → path ≡ entry.path
+pub of_patterns : (index : IndexUse) (entry : Tracked) (path : List ℕ) (r : Option (Bor (List ℕ))) → index ≡ Paths → entry.skip_worktree ≡ true → entry.stage ≡ 0 → path ≡ entry.path
     → ((folder : List ℕ) → (option_copied r ≡ Some folder) ↔ IsFileIn folder (codes ".gitignore") path)
     → (folder : List ℕ) → (option_copied r ≡ Some folder) ↔ GivesFolder index entry folder
-of_patterns index entry path r is skips merged same told folder = elim is [ inl paths ↦ subst Tells (sym paths) both | inr patterns ↦ subst Tells (sym patterns) both ] where
+of_patterns index entry path r is skips merged same told folder = subst Tells (sym is) both where
   Tells : IndexUse → Type 0
   Tells asked = (option_copied r ≡ Some folder) ↔ GivesFolder asked entry folder
 

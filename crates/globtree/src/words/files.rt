@@ -90,7 +90,7 @@ impl<'a> ListFiles<'a> {
         None
     }
 
-    /// Whether there is none of them but `-z`: files are listed then that aren't ignored, whether they are tracked or not.
+    /// Whether there is none of them but `-z`: files are listed then that aren't ignored, or are tracked.
     pub(crate) fn are_usual(&self) -> bool {
         !(self.cached
             || self.others
@@ -110,6 +110,19 @@ impl<'a> ListFiles<'a> {
     /// Whether the usual patterns count: those of folders' ignore files, and of the usual files of excludes.
     pub(crate) fn counts_usual(&self) -> bool {
         self.exclude_standard || self.are_usual()
+    }
+
+    /// Whether files are listed that are found: with `-o`, and without options.
+    pub(crate) fn lists_found(&self) -> bool {
+        self.are_usual() || self.others
+    }
+
+    /// The folder that is told where folders are listed by their names: the current one, where none is.
+    pub(crate) fn told_folder(&self) -> &'a str {
+        match self.pathspecs.first() {
+            Some(word) => word,
+            None => ".",
+        }
     }
 
     /// Whether paths are listed that are tracked: by `-c`, and where there are options and none of them is `-o`.

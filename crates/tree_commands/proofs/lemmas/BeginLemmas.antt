@@ -15,7 +15,7 @@ use Rattle.git_paths.specs.declared.standpoint.Standpoint.{Standpoint}
 use Rattle.git_paths.specs.Paths.{names_folder, parts_of}
 use Rattle.git_paths.specs.Standpoints.{led}
 use Rattle.tree_commands.specs.declared.files.choosing.Chosen.{Chosen}
-use Rattle.tree_commands.specs.declared.files.choosing.Chosen.TheVariants.{All, Ignored, Unignored}
+use Rattle.tree_commands.specs.declared.files.choosing.Chosen.TheVariants.{All, Ignored, Unignored, UnignoredOrTracked}
 use Rattle.tree_commands.specs.declared.files.pending.Pending.{Pending}
 use Rattle.tree_commands.specs.declared.files.source.EntryKind.{EntryKind}
 use Rattle.tree_commands.specs.declared.files.source.EntryKind.TheVariants as kinds
@@ -183,7 +183,7 @@ module _ (Known : FileTree → Type 0) (basis : Basis) (is_told : Bool) (lists :
           at,
     )
 
-    module _ (plain : IsPlainPath path) (whole : ¬ EndsInSlash path) (kind : EntryKind) (shown : ¬ IsHidden basis.terms.tracked path kind) (next : Pending) (is : path_of next ≡ path ++ (if is_folder kind then slash ∷ [] else [])) (count : next.list_count ≡ length lists)
+    module _ (plain : IsPlainPath path) (whole : ¬ EndsInSlash path) (kind : EntryKind) (shown : ¬ IsHidden basis.terms path kind) (next : Pending) (is : path_of next ≡ path ++ (if is_folder kind then slash ∷ [] else [])) (count : next.list_count ≡ length lists)
         (there : (tree : FileTree) → Known tree → StandsAtStart tree path is_told (Some kind)) (clear : (tree : FileTree) → Known tree → IsClear basis.terms tree path)
         (puts : (tree : FileTree) → Known tree → PutsListsTo basis tree path lists next.is_below) (kept : ¬ LeavesOut basis.terms lists path (is_folder kind) next.is_below) where
       stands : (tree : FileTree) → Known tree → (tree.kind path ≡ Some kind) × (is_told ≡ true → is_folder kind ≡ true)
@@ -234,6 +234,7 @@ module _ (Known : FileTree → Type 0) (basis : Basis) (is_told : Bool) (lists :
       level_by : (tree : FileTree) (chosen : Chosen) → basis.terms.chosen ≡ chosen → Known tree → PutsLists chosen basis tree path lists next.is_below → IsLevel chosen basis tree lists next.is_below path
       level_by tree All told known tells = tt
       level_by tree Ignored told known tells = tells
+      level_by tree UnignoredOrTracked told known tells = tells
       level_by tree Unignored told known tells = let way = open_way tree known told in way.0
 
       standing : (tree : FileTree) → Known tree → Stands basis tree lists next

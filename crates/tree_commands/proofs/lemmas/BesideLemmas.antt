@@ -5,7 +5,7 @@ use Rattle.std.proofs.lemmas.Bool.{false≢true}
 use Rattle.git_index.specs.Entries.{IsTracked}
 use Rattle.gix_glob.specs.EntryLists.{EntryList}
 use Rattle.glob_trees.specs.Ways.{Folder, start_of}
-use Rattle.tree_commands.specs.declared.files.choosing.Chosen.TheVariants.{Ignored, Unignored}
+use Rattle.tree_commands.specs.declared.files.choosing.Chosen.TheVariants.{Ignored}
 use Rattle.tree_commands.specs.declared.files.choosing.Folders.{Folders}
 use Rattle.tree_commands.specs.declared.files.choosing.Folders.TheVariants.{EnteredUnlessFilled, NamedIfAllIgnored, NamedIfEmpty}
 use Rattle.tree_commands.specs.declared.files.pending.Pending.{Pending}
@@ -17,9 +17,6 @@ use Rattle.tree_commands.specs.Private.Listing.{FlagsFolder, IsFree, IsIgnoredNe
 -- a test that came out false says so
 pub says_false : {P : Type 0} → ¬ P → IsTrue false ↔ P
 says_false other = ((λ yes. absurd (false≢true yes)), (λ it. absurd (other it)))
-
-unignored_is_other : Unignored ≢ Ignored
-unignored_is_other is = absurd (cc)
 
 beside_is_not_in_place : NamedIfAllIgnored ≢ EnteredUnlessFilled
 beside_is_not_in_place is = absurd (cc)
@@ -62,8 +59,8 @@ module _ (basis : Basis) (tree : FileTree) (folder : Folder) (it : IsAllIgnored 
           folder = folder;
           start = refl;
           shut = record { below = it.below; free = it.free; why = inl (inl git) };
-          free = it.name;
-          chosen = λ told. absurd (unignored_is_other told);
+          free = λ hidden. it.name hidden.1;
+          chosen = λ other. tt;
         });
       }))
       (λ (empty : (basis.terms.folders ≡ NamedIfEmpty) × IsEmpty basis.terms.case tree folder). absurd (beside_is_not_empty (sym it.asks.0 ∙ empty.0)))

@@ -147,8 +147,8 @@ module _ (lists : List (EntryList (Unit {0}))) (terms : Terms) (tree : FileTree)
   pub met_none : IsChosenThere lists terms tree path None → IsMetThere lists terms tree path None
   met_none chosen = λ kind there kept. (let ignored = chosen kind there in kept.unignored ignored.0 ignored.1)
 
-  pub met_hidden : (kind : EntryKind) → IsChosenThere lists terms tree path (Some kind) → IsHidden terms.tracked path kind → IsMetThere lists terms tree path None
-  met_hidden kind chosen hidden = λ other there kept. (let same = same_Some kind other (sym chosen.0 ∙ there) in kept.shown (subst (λ k. IsHidden terms.tracked path k) same hidden))
+  pub met_hidden : (kind : EntryKind) → IsChosenThere lists terms tree path (Some kind) → IsHidden terms path kind → IsMetThere lists terms tree path None
+  met_hidden kind chosen hidden = λ other there kept. (let same = same_Some kind other (sym chosen.0 ∙ there) in kept.shown (subst (λ k. IsHidden terms path k) same hidden))
 
-  pub met_kept : (kind : EntryKind) → IsChosenThere lists terms tree path (Some kind) → ¬ IsHidden terms.tracked path kind → IsMetThere lists terms tree path (Some kind)
+  pub met_kept : (kind : EntryKind) → IsChosenThere lists terms tree path (Some kind) → ¬ IsHidden terms path kind → IsMetThere lists terms tree path (Some kind)
   met_kept kind chosen shown = (chosen.0, record { unignored = chosen.1; shown = shown })

@@ -9,7 +9,7 @@ use Rattle.gix_glob.specs.Bytes.{EndsInSlash, slash}
 use Rattle.gix_glob.specs.EntryLists.{EntryList}
 use Rattle.glob_trees.specs.Ways.{Folder, GivesOnly, start_of}
 use Rattle.tree_commands.specs.declared.files.choosing.Chosen.{Chosen}
-use Rattle.tree_commands.specs.declared.files.choosing.Chosen.TheVariants.{All, Ignored, Unignored}
+use Rattle.tree_commands.specs.declared.files.choosing.Chosen.TheVariants.{All, Ignored, Unignored, UnignoredOrTracked}
 use Rattle.tree_commands.specs.declared.files.choosing.Folders.{Folders}
 use Rattle.tree_commands.specs.declared.files.choosing.Folders.TheVariants.{EnteredUnlessFilled, NamedIfEmpty, NamedIfFilled}
 use Rattle.tree_commands.specs.declared.files.pending.Pending.{Pending}
@@ -19,7 +19,7 @@ use Rattle.tree_commands.specs.Private.Filling.{MaySearch, OfStanding, Tells}
 use Rattle.tree_commands.specs.Private.Listing.{Among, FlagsFolder, IsFree, IsIgnoredNext, IsLevel, IsMarked, MayVisit, Stands, Visits, path_of}
 use Rattle.tree_commands.specs.Private.UnderWay.{Beginning, IsHalfway, IsUnderWay, IsWriting, OfKnown, WritesAll}
 use Rattle.tree_commands.proofs.lemmas.AmongLemmas.{among_cases, among_last, among_left, of_all}
-use Rattle.tree_commands.proofs.lemmas.LevelLemmas.{next_ignored}
+use Rattle.tree_commands.proofs.lemmas.LevelLemmas.{ignored_asks, next_ignored}
 use Rattle.tree_commands.proofs.lemmas.ListingRuns.{all_is_written, asked_is_met, told_is_met, writes_on}
 use Rattle.tree_commands.proofs.lemmas.PathLemmas.{one_folder, some_append, start_ends, start_marked}
 use Rattle.tree_commands.proofs.lemmas.SourceLemmas.{gives_further}
@@ -225,16 +225,19 @@ module _ (basis : Basis) (tree : FileTree) (folder : Folder) where
   pub filled_has : (chosen : Chosen) → IsFilledBy chosen basis tree folder → HasListed chosen basis tree folder
   filled_has All filled = filled
   filled_has Unignored filled = filled
+  filled_has UnignoredOrTracked filled = filled
   filled_has Ignored filled = filled.0
 
   pub filled_ignored : (chosen : Chosen) → chosen ≡ Ignored → HasListed chosen basis tree folder → IsIgnoredAt basis tree folder true ⊎ (¬ HasListed Unignored basis tree folder) → IsFilledBy chosen basis tree folder
   filled_ignored All is has wholly = absurd (cc)
   filled_ignored Unignored is has wholly = absurd (cc)
+  filled_ignored UnignoredOrTracked is has wholly = absurd (cc)
   filled_ignored Ignored is has wholly = (has, wholly)
 
   pub filled_wholly : (chosen : Chosen) → chosen ≡ Ignored → IsFilledBy chosen basis tree folder → IsIgnoredAt basis tree folder true ⊎ (¬ HasListed Unignored basis tree folder)
   filled_wholly All is filled = absurd (cc)
   filled_wholly Unignored is filled = absurd (cc)
+  filled_wholly UnignoredOrTracked is filled = absurd (cc)
   filled_wholly Ignored is filled = filled.1
 
 -- ---- a folder that is told only if it is filled
@@ -256,7 +259,7 @@ module _ (basis : Basis) (tree : FileTree) (folder : Folder) (chosen : Chosen) (
 -- a folder is ignored, by what is known of what is pending
 pub stands_ignored : (basis : Basis) (tree : FileTree) (lists : List (EntryList (Unit {0}))) (place : Pending) → Stands basis tree lists place → basis.terms.chosen ≡ Ignored → (folder : Folder) → path_of place ≡ start_of folder → folder ≢ [] → ¬ EndsInSlash folder
     → IsIgnoredNext basis.terms lists place folder true ↔ IsIgnoredAt basis tree folder true
-stands_ignored basis tree lists place stands told folder is some unended = next_ignored basis tree lists place stands told folder true (some, unended, is ∙ start_marked folder some)
+stands_ignored basis tree lists place stands told folder is some unended = next_ignored basis tree lists place stands (ignored_asks basis.terms.chosen told) folder true (some, unended, is ∙ start_marked folder some)
 
 -- ---- what is known where a listing stands
 
@@ -324,7 +327,7 @@ pub flag_says : (terms other : Terms) (lists more : List (EntryList (Unit {0})))
 flag_says terms other lists more place flag as_terms as_lists told ends flags folder is =
     let it = subst (λ (t : Terms). FlagsFolder t lists place folder flag) as_terms (subst (λ (ls : List (EntryList (Unit {0}))). FlagsFolder other ls place folder flag) as_lists (flags folder is)) in
     let known = it.below (ends_below (path_of place) folder ends is) in
-    known.asked told
+    known.asked (ignored_asks terms.chosen told)
 
 -- ---- what searches ask for
 

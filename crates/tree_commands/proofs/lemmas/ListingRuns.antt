@@ -5,15 +5,13 @@ use Rattle.std.specs.Io.KnownBytes.{Appends}
 use Rattle.std.specs.List.{flat_map}
 use Rattle.std.proofs.lemmas.Option.{same_Some}
 use Rattle.std.proofs.lemmas.List.{flat_map_more, length-take-le, take-take, take_at}
-use Rattle.git_index.specs.Entries.{IsTracked}
 use Rattle.gix_glob.specs.Bytes.{EndsInSlash}
 use Rattle.gix_glob.specs.EntryLists.{EntryList}
 use Rattle.byte_streams.specs.Transfers.{AppendsFront}
 use Rattle.glob_trees.specs.Ways.{Folder, GivesOnly, start_of}
-use Rattle.tree_commands.specs.declared.files.choosing.Chosen.TheVariants.{Ignored}
 use Rattle.tree_commands.specs.declared.files.pending.Pending.{Pending}
 use Rattle.tree_commands.specs.FileTrees.{FileTree}
-use Rattle.tree_commands.specs.Files.{Basis, IsAllIgnored, IsIgnoredAt, IsListed, IsListedBy, IsListedFile, IsListedFolder, IsMet, IsReplaced, IsSearched, IsShut, IsTold, IsToldAsListed, MayAsk, Terms}
+use Rattle.tree_commands.specs.Files.{AsksIgnored, Basis, IsAllIgnored, IsIgnoredAt, IsListed, IsListedBy, IsListedFile, IsListedFolder, IsMet, IsNameHidden, IsReplaced, IsSearched, IsShut, IsTold, IsToldAsListed, MayAsk, Terms}
 use Rattle.tree_commands.specs.Private.Filling.{IsNamedBeside, IsNamedInPlace, IsToTell, IsUnfilled, OfStanding, Steps, StepsOnce}
 use Rattle.tree_commands.specs.Private.Listing.{Among, Enters, FlagsFolder, IsEnd, IsEntered, IsIgnoredNext, IsLevel, IsMarked, IsPassedOver, Stands, WritesOut, path_of, with_line}
 use Rattle.tree_commands.specs.Private.UnderWay.{Beginning, IsHalfway, IsWriting, OfKnown, WritesAll, WritesFront}
@@ -82,16 +80,16 @@ module _ (line : List ℕ → List ℕ) (Known : FileTree → Type 0) (terms : T
       now_halfway : IsHalfway basis tree start it.listed (pending ++ next ∷ []) lists
       now_halfway = it.halfway tree known basis same start halfway
 
-      says_ignored : basis.terms.chosen ≡ Ignored → (path : List ℕ) (is_dir : Bool) → IsMarked path is_dir (path_of next) → IsIgnoredNext basis.terms lists next path is_dir ↔ IsIgnoredAt basis tree path is_dir
+      says_ignored : AsksIgnored basis.terms.chosen → (path : List ℕ) (is_dir : Bool) → IsMarked path is_dir (path_of next) → IsIgnoredNext basis.terms lists next path is_dir ↔ IsIgnoredAt basis tree path is_dir
       says_ignored = next_ignored basis tree lists next (let now = now_halfway in now.standing next (among_last pending next))
 
       to_listed : IsListedBy terms tree (IsIgnoredNext terms lists next) (path_of next) → IsListed basis tree (path_of next)
-      to_listed listed = listed_as basis.terms tree (IsIgnoredNext basis.terms lists next) (IsIgnoredAt basis tree) (path_of next) unended (λ told path is_dir marked. (let both = says_ignored told path is_dir marked in both.0))
+      to_listed listed = listed_as basis.terms tree (IsIgnoredNext basis.terms lists next) (IsIgnoredAt basis tree) (path_of next) unended says_ignored
           (subst (λ (t : Terms). IsListedBy t tree (IsIgnoredNext t lists next) (path_of next)) (sym same) listed)
 
       from_listed : IsListed basis tree (path_of next) → IsListedBy terms tree (IsIgnoredNext terms lists next) (path_of next)
       from_listed listed = subst (λ (t : Terms). IsListedBy t tree (IsIgnoredNext t lists next) (path_of next)) same
-          (listed_as basis.terms tree (IsIgnoredAt basis tree) (IsIgnoredNext basis.terms lists next) (path_of next) unended (λ told path is_dir marked. (let both = says_ignored told path is_dir marked in both.1)) listed)
+          (listed_as basis.terms tree (IsIgnoredAt basis tree) (IsIgnoredNext basis.terms lists next) (path_of next) unended (λ told path is_dir marked. (let both = says_ignored told path is_dir marked in (both.1, both.0))) listed)
 
       stands_next : Stands basis tree lists next
       stands_next = let now = now_halfway in now.standing next (among_last pending next)
@@ -107,7 +105,7 @@ module _ (line : List ℕ → List ℕ) (Known : FileTree → Type 0) (terms : T
           ends_listed basis tree (path_of next) (to_listed (subst (IsListedBy terms tree (IsIgnoredNext terms lists next)) is.listed.same (is.listed.listed tree (stays tree known))))
 
       to_end : IsEnd terms tree (IsIgnoredNext terms lists next) (path_of next) → IsEnd basis.terms tree (IsIgnoredAt basis tree) (path_of next)
-      to_end ends = end_as basis.terms tree (IsIgnoredNext basis.terms lists next) (IsIgnoredAt basis tree) (path_of next) unended (λ told path is_dir marked. (let both = says_ignored told path is_dir marked in both.0))
+      to_end ends = end_as basis.terms tree (IsIgnoredNext basis.terms lists next) (IsIgnoredAt basis tree) (path_of next) unended says_ignored
           (subst (λ (t : Terms). IsEnd t tree (IsIgnoredNext t lists next) (path_of next)) (sym same) ends)
 
     -- a path is told as listed, or else in place of what lies in its folder, or beside that
@@ -120,17 +118,17 @@ module _ (line : List ℕ → List ℕ) (Known : FileTree → Type 0) (terms : T
     not_told tree known basis same start halfway unlisted unnamed (inr (inl told)) = (unnamed told.folder told.start).0 told.replaced
     not_told tree known basis same start halfway unlisted unnamed (inr (inr told)) = (unnamed told.folder told.start).1 told.ignored
 
-    hidden_at : (basis : Basis) → basis.terms ≡ terms → (folder other : Folder) → start_of folder ≡ start_of other → IsTracked terms.tracked.entries folder → IsTracked basis.terms.tracked.entries other
-    hidden_at basis same folder other is hidden = subst (λ (t : Terms). IsTracked t.tracked.entries other) (sym same) (subst (IsTracked terms.tracked.entries) (one_folder folder other is) hidden)
+    hidden_at : (basis : Basis) → basis.terms ≡ terms → (folder other : Folder) → start_of folder ≡ start_of other → IsNameHidden terms folder → IsNameHidden basis.terms other
+    hidden_at basis same folder other is hidden = subst (λ (t : Terms). IsNameHidden t other) (sym same) (subst (IsNameHidden terms) (one_folder folder other is) hidden)
 
     -- a tracked file has the name of the folder
-    hidden_name : (tree : FileTree) (known : Known tree) (basis : Basis) (same : basis.terms ≡ terms) (folder : Folder) → path_of next ≡ start_of folder → folder ≢ [] → IsTracked terms.tracked.entries folder → ¬ IsTold basis tree (path_of next)
+    hidden_name : (tree : FileTree) (known : Known tree) (basis : Basis) (same : basis.terms ≡ terms) (folder : Folder) → path_of next ≡ start_of folder → folder ≢ [] → IsNameHidden terms folder → ¬ IsTold basis tree (path_of next)
     hidden_name tree known basis same folder is below hidden (inl told) = ⊎_elim
         (λ (file : IsListedFile basis.terms (IsIgnoredAt basis tree) (path_of next)). file.whole (record { front = folder; joined = is ∙ start_marked folder below }))
         (λ (at : IsListedFolder basis.terms tree (IsIgnoredAt basis tree) (path_of next)). at.free (hidden_at basis same folder at.folder (sym is ∙ at.start) hidden))
         told.listed
     hidden_name tree known basis same folder is below hidden (inr (inl told)) = told.free (hidden_at basis same folder told.folder (sym is ∙ told.start) hidden)
-    hidden_name tree known basis same folder is below hidden (inr (inr told)) = told.ignored.name (hidden_at basis same folder told.folder (sym is ∙ told.start) hidden)
+    hidden_name tree known basis same folder is below hidden (inr (inr told)) = told.ignored.name (hidden_at basis same folder told.folder (sym is ∙ told.start) hidden).1
 
     -- the next path was listed, and its line is written or is left
     pub writes_listed : (new : Option (List ℕ)) (new_pending : List Pending) (new_lists : List (EntryList (Unit {0}))) (path more left written : List ℕ) → path ≡ path_of next → new_lists ≡ lists → new_pending ≡ pending
@@ -366,7 +364,7 @@ module _ (line : List ℕ → List ℕ) (Known : FileTree → Type 0) (terms : T
           folder = named.folder;
           start = named.start;
           replaced = replaced;
-          free = λ tracked. named.told_if.1 (subst (λ (t : Terms). IsTracked t.tracked.entries named.folder) same tracked);
+          free = λ hidden. named.told_if.1 (subst (λ (t : Terms). IsNameHidden t named.folder) same hidden);
         })),
         inr (named.folder, named.start, replaced),
       ))

@@ -1,5 +1,5 @@
 -- The way to the path at which a listing begins.
-use Rattle.std.proofs.Common.{◌≡◌, ◌≢◌, ◌⊎◌, inl, inr, ⊎_elim, ℕ, zero, suc, ◌+◌, ◌<◌, ◌≤◌, true, false, List, [], ◌∷◌, ◌++◌, length, map, take, refl, sym, ap, subst, ◌∙◌, arith}
+use Rattle.std.proofs.Common.{◌≡◌, ◌≢◌, inl, inr, ⊎_elim, ℕ, zero, suc, ◌+◌, ◌<◌, ◌≤◌, true, false, List, [], ◌∷◌, ◌++◌, length, map, take, refl, sym, ap, subst, ◌∙◌, arith}
 use Rattle.std.specs.Prelude.{◌↔◌, Bool, IsTrue, MatchBool, slice_index}
 use Rattle.std.proofs.lemmas.Bool.{cases_lt, false≢true}
 use Rattle.std.proofs.lemmas.List.{length-take-le, take_all, take_more}
@@ -13,7 +13,7 @@ use Rattle.glob_trees.proofs.lemmas.Folders.{above_is_front, above_is_shorter, a
 use Rattle.glob_trees.proofs.lemmas.WayLemmas.{folders_other}
 use Rattle.git_paths.specs.Paths.{IsLastName}
 use Rattle.tree_commands.specs.declared.files.choosing.Chosen.{Chosen}
-use Rattle.tree_commands.specs.declared.files.choosing.Chosen.TheVariants.{All, Ignored, Unignored}
+use Rattle.tree_commands.specs.declared.files.choosing.Chosen.TheVariants.{All, Ignored, Unignored, UnignoredOrTracked}
 use Rattle.tree_commands.specs.FileTrees.{FileTree}
 use Rattle.tree_commands.specs.Files.{Basis, IsBelowIgnored, LetsPass, Terms, is_git, lists_to}
 use Rattle.tree_commands.specs.Ignoring.{IsIgnored}
@@ -130,6 +130,7 @@ module _ (basis : Basis) (tree : FileTree) (path : List ℕ) where
       → PutsLists chosen basis tree path lists is_below
   puts_by lists All some is_below tells = absurd (some refl)
   puts_by lists Ignored some is_below tells = tells
+  puts_by lists UnignoredOrTracked some is_below tells = tells
   puts_by lists Unignored some is_below tells = tells
 
   pub puts_all : (lists : List (EntryList (Unit {0}))) (chosen : Chosen) → chosen ≡ All → PutsLists chosen basis tree path lists false

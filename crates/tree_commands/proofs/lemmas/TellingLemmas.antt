@@ -2,14 +2,13 @@
 use Rattle.std.proofs.Common.{◌≡◌, ◌≢◌, ◌⊎◌, inl, inr, ⊎_elim, ℕ, Bool, true, false, List, [], ◌∷◌, ◌++◌, refl, sym, ap, subst, ◌∙◌}
 use Rattle.std.specs.Prelude.{◌↔◌, IsTrue, MatchOption, Option, None, Some, not}
 use Rattle.std.proofs.lemmas.Bool.{false≢true}
-use Rattle.git_index.specs.Entries.{IsTracked}
 use Rattle.gix_glob.specs.Bytes.{EndsInSlash, slash}
 use Rattle.gix_glob.specs.EntryLists.{EntryList}
 use Rattle.glob_trees.specs.Ways.{Folder, GivesOnly, start_of}
 use Rattle.tree_commands.specs.declared.files.choosing.Folders.TheVariants.{NamedIfFilled}
 use Rattle.tree_commands.specs.declared.files.pending.Pending.{Pending}
 use Rattle.tree_commands.specs.FileTrees.{FileTree}
-use Rattle.tree_commands.specs.Files.{Basis, IsAllIgnored, IsFilled, IsListedBy, IsMet, IsReplaced, IsSearched, Terms, entering}
+use Rattle.tree_commands.specs.Files.{Basis, IsAllIgnored, IsFilled, IsListedBy, IsMet, IsNameHidden, IsReplaced, IsSearched, Terms, entering}
 use Rattle.tree_commands.specs.Private.Filling.{EntersBeside, IsToTell, MayBeAllIgnored, OfStanding, Steps, StepsOnce, Tells}
 use Rattle.tree_commands.specs.Private.Listing.{IsIgnoredNext, IsToList, if_listed, path_of}
 use Rattle.tree_commands.proofs.lemmas.FillingLemmas.{IsAsked, SaysFilled, SaysReplaced, standing_as, stands_as}
@@ -151,17 +150,17 @@ module _ {Known Now : FileTree → Type 0} (stays : (tree : FileTree) → Known 
     (next : Pending) {says : Bool} where
   module _ (replaces : SaysReplaced Known terms lists next says) where
     -- a folder that is replaced is told by its name, unless a tracked file has that
-    pub named_in_place : IsTrue says → (starts : (folder : Folder) × (path_of next ≡ start_of folder) × (folder ≢ [])) → (hides : Bool) → IsTrue hides ↔ IsTracked other.tracked.entries starts.0 → StepsOnce Known terms next lists more old middle (if_listed (not hides) (path_of next))
+    pub named_in_place : IsTrue says → (starts : (folder : Folder) × (path_of next ≡ start_of folder) × (folder ≢ [])) → (hides : Bool) → IsTrue hides ↔ IsNameHidden other starts.0 → StepsOnce Known terms next lists more old middle (if_listed (not hides) (path_of next))
     named_in_place affirmed starts hides tracked = inl (record {
       lists = as_lists;
       pending = as_pending;
       folder = starts.0;
       start = starts.1;
       replaced = holds_here IsReplaced replaces affirmed starts.0 starts.1;
-      told_if = by_name hides (subst (λ (t : Terms). IsTrue hides ↔ IsTracked t.tracked.entries starts.0) as_terms tracked);
+      told_if = by_name hides (subst (λ (t : Terms). IsTrue hides ↔ IsNameHidden t starts.0) as_terms tracked);
     })
       where
-        by_name : (hides : Bool) → IsTrue hides ↔ IsTracked terms.tracked.entries starts.0 → MatchOption (if_listed (not hides) (path_of next)) (IsTracked terms.tracked.entries starts.0) (λ path. (path ≡ path_of next) × (¬ IsTracked terms.tracked.entries starts.0))
+        by_name : (hides : Bool) → IsTrue hides ↔ IsNameHidden terms starts.0 → MatchOption (if_listed (not hides) (path_of next)) (IsNameHidden terms starts.0) (λ path. (path ≡ path_of next) × (¬ IsNameHidden terms starts.0))
         by_name true tracked = tracked.0 refl
         by_name false tracked = (refl, λ hidden. false≢true (tracked.1 hidden))
 

@@ -8,14 +8,13 @@ use Rattle.gix_glob.specs.Bytes.{EndsInSlash}
 use Rattle.gix_glob.specs.EntryLists.{EntryList}
 use Rattle.glob_lists.specs.Paths.{IsPlainPath}
 use Rattle.glob_trees.specs.Ways.{Folder, start_of}
-use Rattle.tree_commands.specs.declared.files.choosing.Chosen.TheVariants.{Ignored}
 use Rattle.tree_commands.specs.declared.files.pending.Pending.{Pending}
 use Rattle.tree_commands.specs.declared.files.source.EntryKind.{EntryKind}
 use Rattle.tree_commands.specs.FileTrees.{FileTree}
-use Rattle.tree_commands.specs.Files.{IsHidden, IsListedBy, IsListedFile, IsListedFolder, IsNamed, IsShut, ShutsItself, Terms}
-use Rattle.tree_commands.specs.Private.Listing.{AddsOwn, Enters, FlagsFolder, IsClear, IsEnd, IsFoundAmong, IsFree, IsIgnoredNext, IsToldBy, ListsFile, ListsFolder, MayBegin, StandsAtStart, Visits, if_listed, path_of}
+use Rattle.tree_commands.specs.Files.{AsksIgnored, IsChosen, IsHidden, IsListedBy, IsListedFile, IsListedFolder, IsNameHidden, IsNamed, IsShut, ShutsItself, Terms}
+use Rattle.tree_commands.specs.Private.Listing.{AddsOwn, Enters, Flags, FlagsFolder, IsClear, IsEnd, IsFoundAmong, IsFree, IsIgnoredNext, IsToldBy, ListsFile, ListsFolder, MayBegin, StandsAtStart, Visits, if_listed, path_of}
 use Rattle.tree_commands.proofs.lemmas.BeginLemmas.{begins_at_something}
-use Rattle.tree_commands.proofs.lemmas.LevelLemmas.{shut_as}
+use Rattle.tree_commands.proofs.lemmas.LevelLemmas.{chosen_as, shut_as}
 use Rattle.tree_commands.proofs.lemmas.PathLemmas.{one_folder, start_ends}
 
 -- what follows of more trees follows of fewer
@@ -40,7 +39,7 @@ found_as lists terms other tree start front names texts path as_terms as_start a
     (subst (λ (s : List ℕ). A ↔ IsFoundAmong lists terms tree s texts path) as_start
     (subst (λ (ns : List (List ℕ)). A ↔ IsFoundAmong lists terms tree start ns path) as_names same))
 
-pub may_begin : (Known : FileTree → Type 0) (terms : Terms) (path : List ℕ) (is_told : Bool) (kind : EntryKind) → IsPlainPath path → ¬ EndsInSlash path → ¬ IsHidden terms.tracked path kind
+pub may_begin : (Known : FileTree → Type 0) (terms : Terms) (path : List ℕ) (is_told : Bool) (kind : EntryKind) → IsPlainPath path → ¬ EndsInSlash path → ¬ IsHidden terms path kind
     → ((tree : FileTree) → Known tree → StandsAtStart tree path is_told (Some kind)) → ((tree : FileTree) → Known tree → IsClear terms tree path) → MayBegin Known terms path is_told (Some kind)
 may_begin Known terms path is_told kind plain whole shown there clear = (plain, whole, shown, there, clear)
 
@@ -49,12 +48,12 @@ pub may_not_begin : (Known : FileTree → Type 0) (terms : Terms) (path : List �
 may_not_begin Known terms path is_told there = λ tree known basis same start below. begins_at_something basis tree path is_told start below (there tree known)
 
 -- or what stands there is passed over
-pub hidden_begin : (Known : FileTree → Type 0) (terms : Terms) (path : List ℕ) (is_told : Bool) (kind : EntryKind) → IsHidden terms.tracked path kind → ((tree : FileTree) → Known tree → StandsAtStart tree path is_told (Some kind)) → MayBegin Known terms path is_told None
+pub hidden_begin : (Known : FileTree → Type 0) (terms : Terms) (path : List ℕ) (is_told : Bool) (kind : EntryKind) → IsHidden terms path kind → ((tree : FileTree) → Known tree → StandsAtStart tree path is_told (Some kind)) → MayBegin Known terms path is_told None
 hidden_begin Known terms path is_told kind hidden there = λ tree known basis same start below.
     let at = there tree known in
     let stands = at.there kind refl in
     let one : kind ≡ below.here.kind = same_Some kind below.here.kind (sym stands.0 ∙ below.here.there) in
-    below.here.kept.shown (subst (λ k. IsHidden basis.terms.tracked path k) one (subst (λ (t : Terms). IsHidden t.tracked path kind) (sym same) hidden))
+    below.here.kept.shown (subst (λ k. IsHidden basis.terms path k) one (subst (λ (t : Terms). IsHidden t path kind) (sym same) hidden))
 
 -- ---- folders that aren't gone into
 
@@ -72,6 +71,14 @@ module _ (terms : Terms) (tree : FileTree) (folder : Folder) (is_ignored : Bool)
       shut.why
 
 -- ---- how a visit ends
+
+-- by a flag that says whether it is ignored, a file is chosen or isn't
+pub file_chosen : (terms : Terms) (lists : List (EntryList (Unit {0}))) (next : Pending) (path : List ℕ) (flag is_listed : Bool) → Flags terms lists next path false flag → IsTrue is_listed ↔ IsChosen terms.chosen (IsTrue flag) (IsTracked terms.tracked.entries path)
+    → IsTrue is_listed ↔ IsChosen terms.chosen (IsIgnoredNext terms lists next path false) (IsTracked terms.tracked.entries path)
+file_chosen terms lists next path flag is_listed flags known = (
+  (λ yes. chosen_as terms.chosen (IsTrue flag) (IsIgnoredNext terms lists next path false) (IsTracked terms.tracked.entries path) flags.asked (known.0 yes)),
+  (λ it. known.1 (chosen_as terms.chosen (IsIgnoredNext terms lists next path false) (IsTrue flag) (IsTracked terms.tracked.entries path) (λ told. (let both = flags.asked told in (both.1, both.0))) it)),
+)
 
 module _ (Known : FileTree → Type 0) (terms : Terms) (next : Pending) (lists : List (EntryList (Unit {0}))) (pending : List Pending) where
   -- with a path that isn't gone into, which is listed or not
@@ -107,7 +114,7 @@ module _ (Known : FileTree → Type 0) (terms : Terms) (next : Pending) (lists :
 
   -- that of a folder
   module _ (folder : Folder) (is_start : path_of next ≡ start_of folder) (below : folder ≢ []) (is_ignored : Bool) (flag : FlagsFolder terms lists next folder is_ignored) where
-    told_ignored : terms.chosen ≡ Ignored → IsTrue is_ignored ↔ IsIgnoredNext terms lists next folder true
+    told_ignored : AsksIgnored terms.chosen → IsTrue is_ignored ↔ IsIgnoredNext terms lists next folder true
     told_ignored told = let it = flag.below below in it.asked told
 
     pub folder_ends : (tree : FileTree) → IsShut terms tree folder (IsTrue is_ignored) → IsEnd terms tree (IsIgnoredNext terms lists next) (path_of next)
@@ -120,7 +127,7 @@ module _ (Known : FileTree → Type 0) (terms : Terms) (next : Pending) (lists :
         start = is_start;
         shut = shut_as terms tree folder (IsTrue is_ignored) (IsIgnoredNext terms lists next folder true) (λ told. (let known = told_ignored told in known.0)) shut;
         free = it.1;
-        chosen = λ told other. (let known = told_ignored told in known.0 (it.0 told other));
+        chosen = λ other. chosen_as terms.chosen (IsTrue is_ignored) (IsIgnoredNext terms lists next folder true) ⊥ told_ignored (it.0 other);
       })),
       λ by. ⊎_elim
           (λ (file : IsListedFile terms (IsIgnoredNext terms lists next) (path_of next)).
@@ -128,8 +135,9 @@ module _ (Known : FileTree → Type 0) (terms : Terms) (next : Pending) (lists :
           (λ (at : IsListedFolder terms tree (IsIgnoredNext terms lists next) (path_of next)).
           let same : at.folder ≡ folder = one_folder at.folder folder (sym at.start ∙ is_start) in
           lists_it.1 (
-            (λ told other. (let known = told_ignored told in known.1 (subst (λ f. IsIgnoredNext terms lists next f true) same (at.chosen told other)))),
-            subst (λ f. ¬ IsTracked terms.tracked.entries f) same at.free,
+            (λ other. chosen_as terms.chosen (IsIgnoredNext terms lists next folder true) (IsTrue is_ignored) ⊥ (λ told. (let known = told_ignored told in (known.1, known.0)))
+                (subst (λ f. IsChosen terms.chosen (IsIgnoredNext terms lists next f true) ⊥) same (at.chosen other))),
+            subst (λ f. ¬ IsNameHidden terms f) same at.free,
           ))
           by,
     )

@@ -9,7 +9,7 @@ use Rattle.tree_commands.specs.declared.files.choosing.Folders.TheVariants.{Name
 use Rattle.tree_commands.specs.declared.files.pending.Pending.{Pending}
 use Rattle.tree_commands.specs.FileTrees.{FileTree}
 use Rattle.git_index.specs.Entries.{IsTracked}
-use Rattle.tree_commands.specs.Files.{Basis, IsAllIgnored, IsFilled, IsReplaced, Terms, search_of}
+use Rattle.tree_commands.specs.Files.{Basis, IsAllIgnored, IsFilled, IsNameHidden, IsReplaced, Terms, search_of}
 use Rattle.tree_commands.specs.Private.Listing.{Among, Enters, IsEntered, IsIgnoredNext, IsPassedOver, IsToList, Stands, path_of}
 use Rattle.tree_commands.specs.Lookups.{HasEntryBelow}
 use Rattle.tree_commands.specs.Private.UnderWay.{Beginning}
@@ -44,14 +44,14 @@ Tells Known terms next old_lists new_lists old new told = MatchOption told
     (IsUnfilled Known terms next old_lists new_lists old new ⊎ (IsEntered Known terms next old_lists new_lists old new ⊎ IsPassedOver Known terms next old_lists new_lists old new))
     (IsToTell Known terms next old_lists new_lists old new)
 
--- a folder was replaced by its name, which is told, unless a tracked file has it
+-- a folder was replaced by its name, which is told, unless it is passed over for it
 pub record IsNamedInPlace (Known : FileTree → Type 0) (terms : Terms) (next : Pending) (old_lists new_lists : List (EntryList (Unit {0}))) (old new : List Pending) (told : Option (List ℕ)) : Type 0 where
   pub lists : new_lists ≡ old_lists
   pub pending : new ≡ old
   pub folder : Folder
   pub start : path_of next ≡ start_of folder
   pub replaced : OfStanding Known terms old_lists next (λ basis tree. IsReplaced basis tree folder)
-  pub told_if : MatchOption told (IsTracked terms.tracked.entries folder) (λ path. (path ≡ path_of next) × (¬ IsTracked terms.tracked.entries folder))
+  pub told_if : MatchOption told (IsNameHidden terms folder) (λ path. (path ≡ path_of next) × (¬ IsNameHidden terms folder))
 
 -- or it wasn't, and was visited
 pub record IsVisited (Known : FileTree → Type 0) (terms : Terms) (next : Pending) (old_lists new_lists : List (EntryList (Unit {0}))) (old new : List Pending) (told : Option (List ℕ)) : Type 0 where

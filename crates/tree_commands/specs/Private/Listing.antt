@@ -12,7 +12,7 @@ use Rattle.glob_trees.specs.Trees.{IsAbove}
 use Rattle.glob_trees.specs.Ways.{Folder, start_of, unless_empty}
 use Rattle.git_paths.specs.Paths.{IsLastName}
 use Rattle.tree_commands.specs.declared.files.choosing.Chosen.{Chosen}
-use Rattle.tree_commands.specs.declared.files.choosing.Chosen.TheVariants.{All, Ignored, Unignored}
+use Rattle.tree_commands.specs.declared.files.choosing.Chosen.TheVariants.{All, Ignored, Unignored, UnignoredOrTracked}
 use Rattle.tree_commands.specs.declared.files.choosing.Folders.{Folders}
 use Rattle.tree_commands.specs.declared.files.choosing.Folders.TheVariants.{NamedIfFilled}
 use Rattle.tree_commands.specs.declared.files.lookup.Lookup.{Lookup}
@@ -20,7 +20,7 @@ use Rattle.tree_commands.specs.declared.files.pending.Pending.{Pending}
 use Rattle.tree_commands.specs.declared.files.source.EntryKind.{EntryKind}
 use Rattle.tree_commands.specs.declared.files.terms.Terms as held
 use Rattle.tree_commands.specs.FileTrees.{FileTree, names_in}
-use Rattle.tree_commands.specs.Files.{Basis, BeginsAt, BeginsBelow, ComesBefore, IsBelowIgnored, IsEntryName, IsFound, IsHidden, IsKept, IsListedBy, IsNamed, IsShut, LetsPass, ShutsItself, Terms, is_folder, is_git, lists_to}
+use Rattle.tree_commands.specs.Files.{AsksIgnored, Basis, BeginsAt, BeginsBelow, ComesBefore, IsBelowIgnored, IsChosen, IsEntryName, IsFound, IsHidden, IsKept, IsListedBy, IsNameHidden, IsNamed, IsShut, LetsPass, ShutsItself, Terms, is_folder, is_git, lists_to}
 use Rattle.tree_commands.specs.Ignoring.{IsIgnored}
 use Rattle.tree_commands.specs.Lookups.{HasEntryBelow, LookedUp}
 use Rattle.tree_commands.specs.Private.FoldedPaths.{case_by}
@@ -139,6 +139,7 @@ pub record PutsInOrder (paths : List (List ℕ)) (count : ℕ) (is_below : Bool)
 abbrev pub reads_list : Chosen → Bool → Bool
 reads_list Unignored is_ignored = true
 reads_list Ignored is_ignored = not is_ignored
+reads_list UnignoredOrTracked is_ignored = not is_ignored
 reads_list All is_ignored = false
 
 -- behind the lists stands that of the folder, if it has entries
@@ -159,10 +160,10 @@ pub record Enters (Known : FileTree → Type 0) (terms : Terms) (folder : Folder
 abbrev pub IsIgnoredNext : Terms → List (EntryList (Unit {0})) → Pending → List ℕ → Bool → Type 0
 IsIgnoredNext terms lists next path is_dir = IsTrue next.is_below ⊎ IsIgnored (take next.list_count lists) terms.case path is_dir
 
--- the flag says that it is, where ignored paths are chosen
+-- the flag says that it is, where that counts
 pub record Flags (terms : Terms) (lists : List (EntryList (Unit {0}))) (next : Pending) (path : List ℕ) (is_dir flag : Bool) : Type 0 where
-  pub asked : terms.chosen ≡ Ignored → IsTrue flag ↔ IsIgnoredNext terms lists next path is_dir
-  pub unasked : terms.chosen ≢ Ignored → flag ≡ false
+  pub asked : AsksIgnored terms.chosen → IsTrue flag ↔ IsIgnoredNext terms lists next path is_dir
+  pub unasked : (¬ AsksIgnored terms.chosen) → flag ≡ false
 
 pub record FlagsFolder (terms : Terms) (lists : List (EntryList (Unit {0}))) (next : Pending) (folder : Folder) (flag : Bool) : Type 0 where
   pub top : folder ≡ [] → flag ≡ false
@@ -184,10 +185,10 @@ IsToldBy terms folder is_ignored = IsNamedBy terms.folders terms.chosen is_ignor
 
 -- whether the path of a file is listed; or that of a folder that isn't gone into
 abbrev pub ListsFile : Terms → List (EntryList (Unit {0})) → Pending → Bool → Type 0
-ListsFile terms lists next is_listed = IsTrue is_listed ↔ (terms.chosen ≡ Ignored → IsIgnoredNext terms lists next next.path.items false)
+ListsFile terms lists next is_listed = IsTrue is_listed ↔ IsChosen terms.chosen (IsIgnoredNext terms lists next next.path.items false) (IsTracked terms.tracked.entries next.path.items)
 
 abbrev pub ListsFolder : Terms → Folder → Bool → Bool → Type 0
-ListsFolder terms folder is_ignored is_listed = IsTrue is_listed ↔ ((terms.chosen ≡ Ignored → terms.folders ≢ NamedIfFilled → IsTrue is_ignored) × (¬ IsTracked terms.tracked.entries folder))
+ListsFolder terms folder is_ignored is_listed = IsTrue is_listed ↔ ((terms.folders ≢ NamedIfFilled → IsChosen terms.chosen (IsTrue is_ignored) ⊥) × (¬ IsNameHidden terms folder))
 
 abbrev pub if_listed : Bool → List ℕ → Option (List ℕ)
 if_listed is_listed path = if is_listed then Some path else None
@@ -241,13 +242,14 @@ pub record StandsAtStart (tree : FileTree) (path : List ℕ) (is_told : Bool) (f
 abbrev pub MayBegin : (FileTree → Type 0) → Terms → List ℕ → Bool → Option EntryKind → Type 0
 MayBegin Known terms path is_told found = MatchOption found
     ((tree : FileTree) → Known tree → (basis : Basis) → basis.terms ≡ terms → (start : List ℕ) → ¬ BeginsBelow basis tree path is_told start)
-    (λ kind. IsPlainPath path × (¬ EndsInSlash path) × (¬ IsHidden terms.tracked path kind)
+    (λ kind. IsPlainPath path × (¬ EndsInSlash path) × (¬ IsHidden terms path kind)
     × ((tree : FileTree) → Known tree → StandsAtStart tree path is_told (Some kind)) × ((tree : FileTree) → Known tree → IsClear terms tree path))
 
 -- a folder above the path is ignored, where patterns count; or none is, and the lists are those to the path
 abbrev pub PutsLists : Chosen → Basis → FileTree → List ℕ → List (EntryList (Unit {0})) → Bool → Type 0
 PutsLists All basis tree path lists is_below = is_below ≡ false
 PutsLists Ignored basis tree path lists is_below = MatchBool is_below (IsBelowIgnored basis tree path) ((lists ≡ lists_to basis tree path) × (¬ IsBelowIgnored basis tree path))
+PutsLists UnignoredOrTracked basis tree path lists is_below = MatchBool is_below (IsBelowIgnored basis tree path) ((lists ≡ lists_to basis tree path) × (¬ IsBelowIgnored basis tree path))
 PutsLists Unignored basis tree path lists is_below = MatchBool is_below (IsBelowIgnored basis tree path) ((lists ≡ lists_to basis tree path) × (¬ IsBelowIgnored basis tree path))
 
 abbrev pub PutsListsTo : Basis → FileTree → List ℕ → List (EntryList (Unit {0})) → Bool → Type 0
@@ -277,6 +279,7 @@ abbrev pub IsLevel : Chosen → Basis → FileTree → List (EntryList (Unit {0}
 IsLevel All basis tree lists is_below path = Unit {0}
 IsLevel Unignored basis tree lists is_below path = lists ≡ lists_to basis tree path
 IsLevel Ignored basis tree lists is_below path = MatchBool is_below (IsBelowIgnored basis tree path) ((lists ≡ lists_to basis tree path) × (¬ IsBelowIgnored basis tree path))
+IsLevel UnignoredOrTracked basis tree lists is_below path = MatchBool is_below (IsBelowIgnored basis tree path) ((lists ≡ lists_to basis tree path) × (¬ IsBelowIgnored basis tree path))
 
 -- so of the lists that decide about what is pending
 pub record Stands (basis : Basis) (tree : FileTree) (lists : List (EntryList (Unit {0}))) (next : Pending) : Type 0 where

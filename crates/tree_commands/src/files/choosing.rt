@@ -7,6 +7,9 @@ pub enum Chosen {
     Unignored,
     /// Those that are ignored. A folder is gone into whether it is or not, and what lies in an ignored one is.
     Ignored,
+    /// Those that `check-ignore` doesn't call ignored: those that aren't, and those of tracked files. A folder is gone into whether it is
+    /// ignored or not.
+    UnignoredOrTracked,
     /// Each path: no pattern counts.
     All,
 }
@@ -18,7 +21,8 @@ pub enum Folders {
     Entered,
     /// It is told by its name, and isn't gone into.
     Named,
-    /// It is told by its name where it is ignored, and the ignored paths are chosen; else it is gone into.
+    /// Where the ignored paths are chosen, it is told by its name if it is ignored. Where those are chosen that aren't, or are tracked, it isn't
+    /// gone into then. Else it is gone into.
     NamedIfIgnored,
     /// It is told by its name where nothing lies in it; else it is gone into.
     NamedIfEmpty,

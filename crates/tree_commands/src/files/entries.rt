@@ -193,7 +193,7 @@ fn what_is_met<S: FileSource>(
     let Some(kind) = unignored_kind(source, on_way, path)? else {
         return Ok(None);
     };
-    if is_hidden(&on_way.terms.tracked, path, kind) {
+    if is_hidden(&on_way.terms, path, kind) {
         return Ok(None);
     }
     Ok(Some(kind))

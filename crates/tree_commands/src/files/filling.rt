@@ -1,13 +1,12 @@
 //! Folders that are told only if they are filled: listings from there that go into all folders, and end at the first path.
 ghost use Rattle.std.specs.Prelude.{◌≡◌, ◌≢◌, ◌↔◌, ◌≤◌, ◌⊎◌, ◌∷◌, [], ℕ, List, false, length, IfErr, IfOk, IsTrue, OnOk, option_map};
 ghost use Rattle.std.specs.Vec.{vec_items};
-ghost use Rattle.git_index.specs.Entries.{IsTracked};
 ghost use Rattle.gix_glob.specs.Bytes.{EndsInSlash, slash};
 ghost use Rattle.glob_lists.specs.Deciding.{BasesAreFolders};
 ghost use Rattle.glob_trees.specs.Ways.{Folder, GivesOnly, start_of};
 ghost use Rattle.tree_commands.specs.declared.files.choosing.Chosen.{Chosen};
 ghost use Rattle.tree_commands.specs.FileTrees.{StaysKnown};
-ghost use Rattle.tree_commands.specs.Files.{AsksSearches, HasListedBy, IsFilled, IsMet, IsReplaced, IsSearched, IsTold, entering, search_of};
+ghost use Rattle.tree_commands.specs.Files.{AsksSearches, HasListedBy, IsFilled, IsMet, IsNameHidden, IsReplaced, IsSearched, IsTold, entering, search_of};
 ghost use Rattle.tree_commands.specs.Private.Filling.{KeepsLists, MaySearch, OfStanding, StepsOnce, Tells};
 ghost use Rattle.tree_commands.specs.Private.Listing.{FlagsFolder, MayVisit, seen_lists, terms_of};
 ghost use Rattle.tree_commands.specs.Private.ListingFaults.{is_of_start};
@@ -20,7 +19,7 @@ use crate::files::lister::{Lister, folder_at, is_free, is_ignored_folder, only_i
 use crate::files::pending::Pending;
 use crate::files::source::FileSource;
 use crate::files::start::ends_in_slash;
-use crate::files::terms::{Terms, asks_filled, replaces_filled, wants_ignored};
+use crate::files::terms::{Terms, asks_filled, is_name_hidden, replaces_filled, wants_ignored};
 use glob_lines::GitIgnoreLines;
 use glob_lists::PreparedList;
 use std::alloc::AllocError;
@@ -47,7 +46,7 @@ impl<'a> Lister<'a> {
         if !is_replaced {
             return self.tell_visited(source, next);
         }
-        let is_told = !has_tracked_name(&self.on_way.terms, &next.path);
+        let is_told = !has_hidden_name(&self.on_way.terms, &next.path);
         Ok(only_if(is_told, next.path))
     }
 
@@ -196,13 +195,13 @@ impl<'a> Lister<'a> {
     }
 }
 
-/// Whether a tracked file has the name of the folder of this path.
-fn has_tracked_name(terms: &Terms<'_>, path: &[u8]) -> bool
+/// Whether a tracked file hides the folder of this path.
+fn has_hidden_name(terms: &Terms<'_>, path: &[u8]) -> bool
     requires { path.now ≢ slash ∷ [] }
-    ensures { (folder : Folder) → path.now ≡ start_of folder → folder ≢ [] → IsTrue result ↔ IsTracked (terms_of terms.now).tracked.entries folder }
+    ensures { (folder : Folder) → path.now ≡ start_of folder → folder ≢ [] → IsTrue result ↔ IsNameHidden (terms_of terms.now) folder }
 {
     match folder_at(path) {
-        Some(folder) => terms.tracked.has_very_entry(folder),
+        Some(folder) => is_name_hidden(terms, folder),
         None => false,
     }
 }

@@ -14,7 +14,10 @@ use crate::files::entries::{ListsOnWay, entries_of, has_no_entry};
 use crate::files::ignoring::is_ignored_by;
 use crate::files::pending::{Pending, put_in_order};
 use crate::files::source::{FileSource, FolderNames};
-use crate::files::terms::{Terms, asks_filled, is_named, tells_empty, wants_ignored};
+use crate::files::terms::{
+    Terms, asks_filled, asks_ignored, is_chosen, is_chosen_file, is_name_hidden, is_named,
+    tells_empty,
+};
 use gix_glob::search::pattern::List;
 use glob_lines::GitIgnoreLines;
 use glob_lists::PreparedList;
@@ -138,14 +141,14 @@ pub(crate) fn only_if(is_listed: bool, path: Vec<u8>) -> Option<Vec<u8>>
     None
 }
 
-/// Whether a path is ignored, where ignored paths are chosen; else that isn't asked.
+/// Whether a path is ignored, where that counts; else it isn't asked.
 fn is_ignored(on_way: &ListsOnWay<'_>, next: &Pending, path: &[u8], is_dir: bool) -> bool
     requires folders { BasesAreFolders (seen_lists on_way.now.lists.items) }
     requires plain { IsPlainPath path.now }
     requires count { next.now.list_count ≤ length on_way.now.lists.items }
     ensures { Flags (terms_of on_way.now.terms) (seen_lists on_way.now.lists.items) next.now path.now is_dir result }
 {
-    if !wants_ignored(on_way.terms.chosen) {
+    if !asks_ignored(on_way.terms.chosen) {
         return false;
     }
     if next.is_below {
@@ -176,18 +179,16 @@ fn lists_file(on_way: &ListsOnWay<'_>, next: &Pending) -> bool
     requires count { next.now.list_count ≤ length on_way.now.lists.items }
     ensures { ListsFile (terms_of on_way.now.terms) (seen_lists on_way.now.lists.items) next.now result }
 {
-    if !wants_ignored(on_way.terms.chosen) {
-        return true;
-    }
-    is_ignored(on_way, next, &next.path, false)
+    let is_ignored = is_ignored(on_way, next, &next.path, false);
+    is_chosen_file(&on_way.terms, &next.path, is_ignored)
 }
 
 /// Whether the path of a folder is listed that isn't gone into.
 fn lists_folder(terms: &Terms<'_>, folder: &[u8], is_ignored: bool) -> bool
     ensures { ListsFolder (terms_of terms.now) folder.now is_ignored result }
 {
-    let is_chosen = is_ignored || !wants_ignored(terms.chosen) || asks_filled(terms.folders);
-    is_chosen && !terms.tracked.has_very_entry(folder)
+    (asks_filled(terms.folders) || is_chosen(terms.chosen, is_ignored))
+        && !is_name_hidden(terms, folder)
 }
 
 /// Whether a folder is told by its name, whatever lies in it that isn't tracked.
@@ -239,7 +240,7 @@ fn reads_list(chosen: Chosen, is_ignored: bool) -> bool
 {
     match chosen {
         Chosen::Unignored => true,
-        Chosen::Ignored => !is_ignored,
+        Chosen::Ignored | Chosen::UnignoredOrTracked => !is_ignored,
         Chosen::All => false,
     }
 }

@@ -106,7 +106,7 @@ fn kind_to_begin<S: FileSource>(
     let Some(kind) = kind_at_start(source, path, is_told_folder)? else {
         return Ok(None);
     };
-    if is_hidden(&terms.tracked, path, kind) {
+    if is_hidden(terms, path, kind) {
         return Ok(None);
     }
     Ok(Some(kind))

@@ -5,7 +5,7 @@ usage: globtree [OPTION..] files [-c] [-o] [-i] [--exclude-standard] [--error-un
                                  [--exclude PATTERN].. [--exclude-from FILE].. [--] [PATHSPEC..]
        globtree [OPTION..] files -o --directory [--no-empty-directory] [OPTION..] [DIR]
 
-Prints the files that the pathspecs match and that aren't ignored, tracked or not; without one, those
+Prints the files that the pathspecs match and that aren't ignored or are tracked; without one, those
 below the current folder. With options, prints what git ls-files prints with the same ones.
 
 options:

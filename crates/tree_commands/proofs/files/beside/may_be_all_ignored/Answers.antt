@@ -4,6 +4,7 @@ use Rattle.git_index.specs.Entries.{IsTracked}
 use Rattle.gix_glob.specs.Bytes.{EndsInSlash}
 use Rattle.tree_commands.specs.Private.Listing.{FlagsFolder, IsFree, seen_lists, terms_of}
 use Rattle.tree_commands.proofs.lemmas.BesideLemmas.{may_by_flag, says_false}
+use Rattle.tree_commands.proofs.lemmas.LevelLemmas.{ignored_asks}
 use Rattle.tree_commands.proofs.lemmas.PathLemmas.{one_folder, start_ends}
 use Rattle.tree_commands.proofs.files.beside.may_be_all_ignored.Goals as goal
 
@@ -41,7 +42,7 @@ returns-clause-each c folder is =
     let free = subst (IsFree terms) at (c.is_free.ensures.0 c.if-not-is_free.false) in
     let asks = c.tells_beside.ensures.0 c.if-not-tells_beside.false in
     let flag = subst (λ f. FlagsFolder terms lists place f c.is_ignored_folder.result) at c.is_ignored_folder.ensures in
-    let known = (let flags = flag.below free.0 in flags.asked asks.1) in
+    let known = (let flags = flag.below free.0 in flags.asked (ignored_asks terms.chosen asks.1)) in
     may_by_flag terms lists place folder asks free (λ tracked. false≢true (sym c.if-has_very_entry.false ∙ c.has_very_entry.ensures.1 (subst (IsTracked terms.tracked.entries) (sym at) tracked))) c.is_ignored_folder.result known
 
 pub returns-clause-some : goal.returns-clause-some

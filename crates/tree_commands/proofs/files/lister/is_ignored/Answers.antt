@@ -26,5 +26,5 @@ returns c =
         (λ is. inr (subst is_ignored (sym taken) (c.is_ignored_by.ensures.0 is))),
         (λ either. ⊎_elim (λ (below : IsTrue c.args.next.now.is_below). absurd (false≢true (sym c.if-next.false ∙ below))) (λ (is : is_ignored (take count lists)). c.is_ignored_by.ensures.1 (subst is_ignored taken is)) either),
       );
-      unasked = λ other. absurd (other (c.wants_ignored.ensures.0 c.if-not-wants_ignored.false));
+      unasked = λ other. absurd (other (c.asks_ignored.ensures.0 c.if-not-asks_ignored.false));
     }

@@ -1,6 +1,7 @@
 use Rattle.std.proofs.Common.{◌≡◌, [], ◌∷◌, ◌++◌, ℕ, List, length, refl, sym, ap, subst, ◌∙◌}
 use Rattle.std.specs.Prelude.{Option}
 use Rattle.std.proofs.lemmas.Bool.{false≢true}
+use Rattle.glob_lists.specs.Deciding.{BasesAreFolders}
 use Rattle.tree_commands.specs.declared.files.entries.ListsOnWay.{ListsOnWay}
 use Rattle.tree_commands.specs.declared.files.pending.Pending.{Pending}
 use Rattle.tree_commands.specs.declared.files.source.EntryKind.{EntryKind}
@@ -64,6 +65,9 @@ returns-clause-begins g c =
     subst (λ (way : ListsOnWay). Begins known basis path told (seen_lists way.lists.items) c.put_start.new.self.pending.items) (sym c.put_start.ensures.on_way)
     (begins_somewhere known basis told lists path c.requires.below may.0 may.1 c.in-Some.kind may.2 next c.in_ok-append_mark.ensures (sym (seen_length c.put_lists_to.new.on_way.lists.items)) may.3 may.4
     puts kept c.put_start.new.self.pending.items one)
+
+pub returns-clause-folders : goal.returns-clause-folders
+returns-clause-folders g c = subst (λ (way : ListsOnWay). BasesAreFolders (seen_lists way.lists.items)) (sym c.put_start.ensures.on_way) c.in_ok-is_below.ensures.folders
 
 pub returns-clause-stays : goal.returns-clause-stays
 returns-clause-stays g c = stays_further g.S.FileSource.shows c.args.source.now c.kind_to_begin.new.source c.put_lists_to.new.source c.kind_to_begin.ensures.stays c.put_lists_to.ensures.stays

@@ -33,7 +33,7 @@ returns-clause-steps g c =
     let starts = c.in_ok-is_replaced.ensures.starts c.if-not-is_replaced.false in
     rw c.only_if.ensures
     (named_in_place c.is_replaced.ensures.stays (ap terms_of c.is_replaced.ensures.terms) c.in_ok-is_replaced.ensures.lists (ap (λ ps. ps.items) c.is_replaced.ensures.pending) c.args.next
-    c.in_ok-is_replaced.ensures.replaced c.if-not-is_replaced.false starts c.has_tracked_name-is_told.result (c.has_tracked_name-is_told.ensures starts.0 (c.deref.ensures.value ∙ starts.1) starts.2))
+    c.in_ok-is_replaced.ensures.replaced c.if-not-is_replaced.false starts c.has_hidden_name-is_told.result (c.has_hidden_name-is_told.ensures starts.0 (c.deref.ensures.value ∙ starts.1) starts.2))
 
 pub returns-clause-folders : goal.returns-clause-folders
 returns-clause-folders g c = rw c.in_ok-is_replaced.ensures.lists c.requires.folders
