@@ -1,5 +1,5 @@
 -- Trees of folders and files, as plain data.
-use Rattle.std.specs.Prelude.{◌≡◌, ℕ, ◌==◌, Bool, false, List, [], Option}
+use Rattle.std.specs.Prelude.{◌≡◌, ℕ, ◌==◌, Bool, false, List, [], ◌∷◌, Option}
 use Rattle.std.specs.List.{slice_split}
 use Rattle.gix_glob.specs.EntryLists.{EntryList}
 use Rattle.glob_trees.specs.Ways.{Folder}
@@ -14,9 +14,10 @@ pub record FileTree : Type 0 where
   pub kind : List ℕ → Option EntryKind
   pub list : Folder → EntryList (Unit {0})
 
--- the names that bytes have, with a byte 0 between each two
+-- the names that bytes have, with a byte 0 between each two: no bytes have none
 abbrev pub names_in : List ℕ → List (List ℕ)
-names_in bytes = slice_split (λ b. b == 0) bytes
+names_in [] = []
+names_in (b ∷ bytes) = slice_split (λ b. b == 0) (b ∷ bytes)
 
 -- what was found in a folder is what the tree has there
 pub record AreFoundIn (tree : FileTree) (folder : Folder) (found : FolderNames) : Type 0 where

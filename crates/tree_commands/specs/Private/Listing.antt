@@ -1,6 +1,6 @@
 -- What the functions of a listing say to one another.
-use Rattle.std.specs.Prelude.{◌≡◌, ◌≢◌, ◌⊎◌, ◌↔◌, ℕ, ◌≤◌, Bool, true, false, not, if◌then◌else◌, IsTrue, List, [], ◌∷◌, ◌++◌, length, map, take, Option, None, Some, IsSome, MatchBool, MatchOption}
-use Rattle.std.specs.List.{AllByRecursion}
+use Rattle.std.specs.Prelude.{◌≡◌, ◌≢◌, ◌⊎◌, ◌↔◌, ℕ, ◌≤◌, ◌==◌, Bool, true, false, not, if◌then◌else◌, IsTrue, List, [], ◌∷◌, ◌++◌, length, map, take, Option, None, Some, IsSome, MatchBool, MatchOption}
+use Rattle.std.specs.List.{AllByRecursion, slice_split}
 use Rattle.std.specs.Io.KnownBytes.{Appends}
 use Rattle.git_index.specs.Entries.{IsTracked}
 use Rattle.gix_glob.specs.declared.pattern.Case.{Case}
@@ -19,7 +19,7 @@ use Rattle.tree_commands.specs.declared.files.lookup.Lookup.{Lookup}
 use Rattle.tree_commands.specs.declared.files.pending.Pending.{Pending}
 use Rattle.tree_commands.specs.declared.files.source.EntryKind.{EntryKind}
 use Rattle.tree_commands.specs.declared.files.terms.Terms as held
-use Rattle.tree_commands.specs.FileTrees.{FileTree, names_in}
+use Rattle.tree_commands.specs.FileTrees.{FileTree}
 use Rattle.tree_commands.specs.Files.{AsksIgnored, Basis, BeginsAt, BeginsBelow, ComesBefore, IsBelowIgnored, IsChosen, IsEntryName, IsFound, IsHidden, IsKept, IsListedBy, IsNameHidden, IsNamed, IsShut, LetsPass, ShutsItself, Terms, is_folder, is_git, lists_to}
 use Rattle.tree_commands.specs.Ignoring.{IsIgnored}
 use Rattle.tree_commands.specs.Lookups.{HasEntryBelow, LookedUp}
@@ -67,10 +67,14 @@ IsMetThere lists terms tree path found = MatchOption found
 
 -- ---- the entries of a folder
 
+-- what stands between bytes 0
+abbrev pub between_zeros : List ℕ → List (List ℕ)
+between_zeros bytes = slice_split (λ b. b == 0) bytes
+
 -- those of the names that are left, where some are
 abbrev pub names_left : Option (List ℕ) → List (List ℕ)
 names_left None = []
-names_left (Some left) = names_in left
+names_left (Some left) = between_zeros left
 
 -- what stands at the path is added, if it is kept: the path, and a slash behind that of a folder
 pub record AddsFound (Known : FileTree → Type 0) (lists : List (EntryList (Unit {0}))) (terms : Terms) (path : List ℕ) (old new : List (List ℕ)) : Type 0 where

@@ -13,7 +13,7 @@ ghost use Rattle.tree_commands.specs.Private.Listing.{AddsFound, Among, EndsInNa
 
 use crate::files::asking::kind_at;
 use crate::files::ignoring::{Ignoring, ignoring_by, is_ignored_by};
-use crate::files::names::first_name;
+use crate::files::names::{first_name, names_of};
 use crate::files::source::{EntryKind, FileSource};
 use crate::files::terms::{Terms, is_hidden, leaves_out};
 use gix_glob::pattern::Case;
@@ -47,7 +47,7 @@ pub(crate) fn entries_of<S: FileSource>(
     ensures asks { GivesOnly (λ _. ⊥) (S.asked source.old) (S.asked source.new) }
 {
     let mut paths = Vec::new(alloc);
-    let mut rest = Some(names);
+    let mut rest = names_of(names);
     'names: while let Some(left) = rest {
         let (name, behind) = first_name(left);
         if is_entry_name(on_way.terms.case, name) {
@@ -70,7 +70,7 @@ pub(crate) fn has_no_entry<S: FileSource>(
     ensures stays { StaysKnown S.shows source.old source.new }
     ensures asks { GivesOnly (λ _. ⊥) (S.asked source.old) (S.asked source.new) }
 {
-    let mut others = Some(names);
+    let mut others = names_of(names);
     'names: while let Some(left) = others {
         let (name, behind) = first_name(left);
         let is_there = has_entry(alloc, source, case, start, name)?;

@@ -3,7 +3,7 @@ ghost use Rattle.std.specs.Prelude.{◌≡◌, ◌↔◌, IsTrue, codes};
 ghost use Rattle.std.specs.List.{Contains};
 ghost use Rattle.tree_commands.specs.FileTrees.{names_in};
 
-use crate::files::names::first_name;
+use crate::files::names::{first_name, names_of};
 use gix_glob::search::pattern::List;
 use glob_lines::GitIgnoreLines;
 
@@ -36,7 +36,7 @@ impl FolderNames {
         ensures patterns { IsTrue result.has_patterns ↔ Contains (names_in bytes.items) (codes ".gitignore") }
     {
         let (mut has_git, mut has_patterns) = (false, false);
-        let mut rest = Some(bytes.as_slice());
+        let mut rest = names_of(bytes.as_slice());
         'names: while let Some(left) = rest {
             let (name, behind) = first_name(left);
             has_git |= name == b".git".as_slice();

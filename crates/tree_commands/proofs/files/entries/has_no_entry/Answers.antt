@@ -1,4 +1,4 @@
-use Rattle.std.proofs.Common.{◌≡◌, [], ◌∷◌, ℕ, List, inl, refl, ap, subst, ◌∙◌}
+use Rattle.std.proofs.Common.{◌≡◌, [], ◌∷◌, ℕ, List, inl, refl, sym, ap, subst, ◌∙◌}
 use Rattle.std.specs.Prelude.{Option}
 use Rattle.std.specs.Borrow.{Bor}
 use Rattle.std.specs.Option.{option_copied}
@@ -11,7 +11,7 @@ use Rattle.tree_commands.proofs.files.entries.has_no_entry.Goals as goal
 
 pub names-init : goal.names-init
 names-init g c = record {
-  none = none_starts (g.S.FileSource.shows c.args.source.now) c.args.case c.args.start.now (names_in c.args.names.now);
+  none = subst (IsNoneSoFar (g.S.FileSource.shows c.args.source.now) c.args.case c.args.start.now (names_in c.args.names.now)) (sym c.names_of-others.ensures) (none_starts (g.S.FileSource.shows c.args.source.now) c.args.case c.args.start.now (names_in c.args.names.now));
   stays = λ tree known. known;
   asks = λ folder given. inl given;
 }
