@@ -31,16 +31,6 @@ module _ (way : Way) where
       differ.other (sym (end_byte value x.front x.end left differ.place x.joined x.alike differ.in_left)
       ∙ end_byte value y.front y.end right differ.place y.joined y.alike differ.in_right)
 
-  pub bare_first : (row : Row) → row.place ≤ length row.text → IsBareSince way row row row.place
-  bare_first row inside = record {
-    same_text = refl;
-    low = omega arith;
-    inside = inside;
-    at = λ value cut.
-        let none : row.place - row.place ≡ 0 = omega arith in
-        record { front = []; middle = []; rest = value; joined = refl; alike = ap (λ n. folding_of way (take n (drop row.place row.text))) (sym none); behind = cut };
-  }
-
   module _ (row later after : Row) (from : ℕ) (next_kind : TokenKind) (since : IsBareSince way row later from) (x : IsNext way later next_kind after) where
     -- another token: the bytes begin anew
     pub bare_anew : later.place ≤ length later.text → IsBareSince way row after after.place

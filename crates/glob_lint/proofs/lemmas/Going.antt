@@ -73,9 +73,6 @@ module _ {V : Type 0} (rules : Rules) (lists : List (EntryList V)) where
   needs_more stay by pair (BelowIgnored other) needs = tt
   needs_more stay by pair TakesNothingBack needs = tt
 
-  pub no_line_goes : MayAllGo rules lists [] []
-  no_line_goes = record { reasons = λ pair h. cc; apart = λ pair h. cc }
-
   module _ (gone stay : List (ℕ × ℕ)) (may : MayAllGo rules lists gone stay) (pair : ℕ × ℕ) (why : Why) (reason : IsReason rules lists pair why) (unneeded : is_among stay pair.0 pair.1 ≡ false) where
     -- a line goes that needs none
     pub one_more : Needs rules lists stay pair why → MayAllGo rules lists (gone ++ pair ∷ []) stay

@@ -77,14 +77,6 @@ sign_of lists pair there negative is = (
   λ h. (not_true negative).1 (is ∙ entry_of_positive lists pair there.0 there.1 h),
 )
 
--- the signs of two lines, where neither is negative without the other
-pub same_sign : {V : Type 0} (lists : List (EntryList V)) (pair other : ℕ × ℕ) (here : HasEntryAt lists pair) (there : HasEntryAt lists other)
-    → is_negative here.0.mode ≡ is_negative there.0.mode → IsPositiveAt lists pair ↔ IsPositiveAt lists other
-same_sign lists pair other here there same = (
-  λ h. positive_by_entry lists other there.0 there.1 (sym same ∙ entry_of_positive lists pair here.0 here.1 h),
-  λ h. positive_by_entry lists pair here.0 here.1 (same ∙ entry_of_positive lists other there.0 there.1 h),
-)
-
 -- where a line matches, it stands
 pub stands : {V : Type 0} (lists : List (EntryList V)) (pair : ℕ × ℕ) (rules : Rules) (path : List ℕ) (is_dir : Bool) → PairAnswers lists path is_dir rules pair.0 pair.1 → HasEntryAt lists pair
 stands lists pair rules path is_dir h =

@@ -46,9 +46,6 @@ module _ {V : Type 0} (rules : Rules) (lists : List (EntryList V)) where
         (those pair h);
   }
 
-  pub found_none : AreFindings rules lists 0 []
-  found_none = record { told = λ k d within. absurd (omega arith); each = λ pair there none. absurd (omega arith) }
-
   -- those of one list more
   pub found_more : (at : ℕ) (findings new : List Finding) → AreFindings rules lists at findings → AddsFindings rules lists (λ pair. HasEntryAt lists pair × (pair.0 ≡ at)) findings new → AreFindings rules lists (at + 1) new
   found_more at findings new found a = record {

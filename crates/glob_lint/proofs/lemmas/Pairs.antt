@@ -27,10 +27,3 @@ module _ {V : Type 0} (lists : List (EntryList V)) (pair : ℕ × ℕ) (entry : 
     there = at.of_lists;
     answers = record { entry = entry; there = at.of_list; answers = record { rest = m.rest; left = m.left; answers = m.answers } };
   }
-
--- a line that covers another, as pairs
-pub pair_covered : {V : Type 0} (lists : List (EntryList V)) (pair by : ℕ × ℕ) (entry other : Entry V) (at : IsEntryAt lists pair entry) (there : IsEntryAt lists by other)
-    (rules : Rules) → Covers rules (line_of at.list entry) (line_of there.list other)
-    → (path : List ℕ) (is_dir : Bool) → IsReal path → PairAnswers lists path is_dir rules pair.0 pair.1 → PairAnswers lists path is_dir rules by.0 by.1
-pair_covered lists pair by entry other at there rules covers path is_dir real x =
-    meets_pair lists by other there rules path is_dir (covers path is_dir real (pair_meets lists pair entry at rules path is_dir x))

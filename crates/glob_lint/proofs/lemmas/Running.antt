@@ -68,9 +68,6 @@ module _ (way : Way) where
         });
   }
 
-  pub star_within : (token : Token) → kind.Local ≡ kind_of token → KeepsWithin way token
-  star_within token same = subst (KeepsWithin way) (sym (token_is token (sym same))) (record { at = λ piece takes. takes })
-
   -- a star takes nothing
   pub local_takes_none : (token : Token) → kind.Local ≡ kind_of token → Lang way token []
   local_takes_none token same = subst (λ (t : Token). Lang way t []) (sym (token_is token (sym same))) (record { at = λ m low below is. omega arith })
@@ -153,9 +150,6 @@ module _ (way : Way) where
           (λ piece more takes z. subst (λ (t : Token). Lang way t (piece ++ more)) (sym (token_is y.token (sym y.same_kind ∙ is))) tt)
 
   -- ---- reading on in one row
-
-  pub reaches_first : (row : Row) → Reaches way row row
-  reaches_first row = record { at = λ value cut. record { piece = []; rest = value; joined = refl; takes = tt; later = cut } }
 
   module _ (row later after : Row) (next_kind : TokenKind) (reached : Reaches way row later) (x : IsNext way later next_kind after) where
     pub reaches_next : Reaches way row after

@@ -60,9 +60,6 @@ module _ (texts : List (List ℕ)) (path : List ℕ) where
         inr (ends_before_it text front.0 has (joined ∙ ap (λ w. text ++ w) front.1)))
   ]
 
-  pub top_above : Contains texts [] → LiesBelow texts path
-  top_above has = ([], path, has, refl, refl)
-
   pub ends_below : (k : ℕ) → k < length path → EndsAt texts path k → LiesBelow texts path
   ends_below k low (byte, inl has) =
       let rest : drop k path ≡ slash ∷ drop (k + 1) path = drop_more path k 0 low ∙ ap (λ b. b ∷ drop (k + 1) path) byte in

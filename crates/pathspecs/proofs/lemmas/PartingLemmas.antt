@@ -12,12 +12,6 @@ use Rattle.pathspecs.specs.Private.Asking.{AreParted, Says, SaysText, is_plain}
 use Rattle.pathspecs.proofs.lemmas.PlainLemmas.{says_text, text_says}
 
 module _ (items : List PathspecItem) where
-  pub none_parted : AreParted items 0 [] []
-  none_parted = record {
-    only = λ text has. absurd (omega (arith, has.1));
-    plain = λ k item low. absurd (omega (arith, low));
-    others = λ k item low. absurd (omega (arith, low));
-  }
 
   module _ (i : ℕ) (texts : List (List ℕ)) (places : List ℕ) (parted : AreParted items i texts places) (item : PathspecItem) (low : i < length items) (is : item ≡ slice_index_or items i item) where
     -- before the place, or there

@@ -352,13 +352,6 @@ pub held_as_asked : (tracked own : List Tracked) (asked : List ℕ) (literal fro
 held_as_asked tracked own asked literal front same here is_held held =
     subst (λ (t : List Tracked). IsTrue is_held ↔ IsHeld t asked literal) same (subst (λ (n : ℕ). IsTrue is_held ↔ IsHeld own asked n) here held)
 
--- ---- faults
-
--- why a record names no path
-pub unnamed_told : {F : Type 0} (question : Question) (unnamed : NameFault) (fault : IgnoreFault F) → IsOfName unnamed fault → IsRecordFault question fault
-unnamed_told question name.Memory fault same = inl ([], subst (Refuses question []) (sym same) tt)
-unnamed_told question name.BadlyQuoted fault same = inr same
-
 -- ---- before the first path
 
 -- no word was answered, and no line counted
