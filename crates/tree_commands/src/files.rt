@@ -86,9 +86,9 @@ pub struct Listing {
 ///
 /// Listed are files and links, and, with a slash at the end, the folders that aren't gone into: those of repositories of their own in which no
 /// tracked path lies, and those that are told by their names, as `folders` of the listing says; and the folders that are told so beside what
-/// lies in them. A submodule's folder is none, unless what is tracked is chosen. Where the paths that aren't ignored are chosen, an ignored folder isn't gone into either. What
-/// isn't gone into is asked for its names only to know whether it is a repository, or what lies in it where that counts, and an ignored folder
-/// isn't. The paths come in the order of their bytes, each once.
+/// lies in them. A submodule's folder is none, unless what is tracked is chosen. Where the paths that aren't ignored are chosen, an ignored
+/// folder isn't gone into either. What isn't gone into is asked for its names only to know whether it is a repository, or what lies in it where
+/// that counts, and an ignored folder isn't. The paths come in the order of their bytes, each once.
 ///
 /// `tracked` is the index; an empty one tracks nothing. Of its entries count those alone whose paths begin with the bytes of the folder in
 /// which the path is told: of the path itself, where it is told as a folder's, and else of what stands before its last slash.
