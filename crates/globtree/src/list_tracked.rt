@@ -111,8 +111,9 @@ impl<'a> TrackedListing<'a> {
     fn write<O: Write>(&self, paths: &[&[u8]], output: &mut Watched<O>) -> Result<()>
         requires { has_failed output.old ≡ false }
     {
-        let told = write_paths(self.alloc, self.standpoint, self.form, paths, output);
-        answer_of(told, |fault| CheckFault::of_ignore(self.alloc, fault))
+        let alloc = self.alloc;
+        let told = write_paths(alloc, self.standpoint, self.form, paths, output);
+        answer_of(told, |fault| CheckFault::of_ignore(alloc, fault))
     }
 }
 

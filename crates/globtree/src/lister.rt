@@ -109,9 +109,9 @@ impl<'a, R: Files + Env + Clock + Eprint + AllocGlobal + Clone + Drop> Lister<'a
         if output.failed() {
             return Err(Fault::Unwritten);
         }
-        let standpoint = &self.fronts.standpoint;
-        let told = write_paths(self.alloc, standpoint, self.form(), paths, output);
-        answer_of(told, |fault| CheckFault::of_ignore(self.alloc, fault))
+        let (alloc, standpoint) = (self.alloc, &self.fronts.standpoint);
+        let told = write_paths(alloc, standpoint, self.form(), paths, output);
+        answer_of(told, |fault| CheckFault::of_ignore(alloc, fault))
     }
 
     /// The listing that is asked for.
