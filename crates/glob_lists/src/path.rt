@@ -106,6 +106,14 @@ impl<'a> RepositoryPath<'a> {
         self.bytes
     }
 
+    /// A law: the bytes begin with no slash. The call does nothing, and is made to know this.
+    #[inline(always)]
+    pub fn begins_with_no_slash(&self)
+        ensures { ¬ HasByte self.now.bytes 0 slash }
+    {
+        let _bytes = self.bytes;
+    }
+
     /// Where the last part of the path begins: the place, in bytes from 0, past the last slash; `None` where there is no slash.
     #[inline(always)]
     pub fn basename_start(&self) -> Option<usize>

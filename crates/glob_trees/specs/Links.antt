@@ -1,4 +1,4 @@
--- How a folder is found by its name in another one.
+-- How a folder is found by its name in another one, or in the top.
 use Rattle.std.specs.Prelude.{ℕ, List, slice_get, Option, None, Some, Vec}
 use Rattle.std.specs.Ordering.{nat_cmp}
 use Rattle.std.specs.Cmp.Lexicographic.{slice_cmp}
@@ -10,6 +10,7 @@ module _ {Z : Type 0} where
   named_in None name = None
   named_in (Some inner) name = get_by (λ key. slice_cmp nat_cmp name key.items) inner
 
-  -- the place of the folder of this name in the one at a place
-  abbrev pub link : List (BTreeMap (Vec ℕ Z) ℕ) → ℕ → List ℕ → Option ℕ
-  link inner outer name = named_in (slice_get inner outer) name
+  -- the place of the folder of this name in the one at a place, or in the top
+  abbrev pub link : BTreeMap (Vec ℕ Z) ℕ → List (BTreeMap (Vec ℕ Z) ℕ) → Option ℕ → List ℕ → Option ℕ
+  link top inner None name = named_in (Some top) name
+  link top inner (Some outer) name = named_in (slice_get inner outer) name

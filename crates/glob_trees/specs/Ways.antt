@@ -30,10 +30,14 @@ abbrev pub folders_from : List ℕ → List ℕ → List (List ℕ)
 folders_from front [] = []
 folders_from front (b ∷ rest) = folder_before b front ++ folders_from (front ++ b ∷ []) rest
 
--- the folders on the way to a path, from the top down: the top, and what stands before each slash past the first byte
+-- the folders on the way to a path but the top, from the top down: what stands before each slash past the first byte
+abbrev pub folders_below : List ℕ → List (List ℕ)
+folders_below [] = []
+folders_below (b ∷ rest) = folders_from (b ∷ []) rest
+
+-- the folders on the way to a path, from the top down
 abbrev pub folders_to : List ℕ → List (List ℕ)
-folders_to [] = [] ∷ []
-folders_to (b ∷ rest) = [] ∷ folders_from (b ∷ []) rest
+folders_to path = [] ∷ folders_below path
 
 -- the list is one that a source shows for the folder, and its base is the folder's
 pub record IsListOf {V : Type 0} (shows : List ℕ → EntryList V → Type 0) (folder : List ℕ) (list : EntryList V) : Type 0 where

@@ -2,18 +2,20 @@
 #![tactic(auto)]
 
 mod deciding;
-mod entered;
 mod fault;
 mod folders;
-mod keeping;
+mod found;
+mod ignore_lists;
 mod known;
 pub mod laws;
 mod on_way;
 mod tree;
+mod walk;
 
 pub use deciding::{IgnoredFolder, decide_in_tree, decide_in_tree_by, ignored_folder_by};
 pub use fault::TreeFault;
 pub use folders::{FolderLists, list_in_folder};
+pub use found::{FolderValues, Found};
 pub use known::KnownFolders;
-pub use on_way::{FolderOnWay, common_length};
 pub use tree::{Decision, Tree};
+pub use walk::Walk;

@@ -3,26 +3,26 @@ ghost use Rattle.std.specs.Prelude.{◌≡◌, ◌≤◌, length, take};
 
 /// A folder on the way to a path.
 #[derive(Clone, Copy)]
-pub struct FolderOnWay {
+pub(crate) struct FolderOnWay {
     /// Its place among the known folders.
-    pub place: usize,
+    pub(crate) place: usize,
     /// How many bytes of a path name it, with the slash at its end; 0 for the top.
-    pub length: usize,
-    /// Whether its list has patterns, and so is on the way too.
-    pub has_list: bool,
+    pub(crate) length: usize,
+    /// Whether it has a value, which is on the way too.
+    pub(crate) has_value: bool,
 }
 
 impl FolderOnWay {
-    /// The top, without a list.
-    pub const TOP: FolderOnWay = FolderOnWay {
+    /// The top.
+    pub(crate) const TOP: FolderOnWay = FolderOnWay {
         place: 0,
         length: 0,
-        has_list: false,
+        has_value: false,
     };
 }
 
 /// How many bytes from the front two texts have alike.
-pub fn common_length(left: &[u8], right: &[u8]) -> usize
+pub(crate) fn common_length(left: &[u8], right: &[u8]) -> usize
     ensures left { result ≤ length left.now }
     ensures right { result ≤ length right.now }
     ensures alike { take result left.now ≡ take result right.now }

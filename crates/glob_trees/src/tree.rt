@@ -6,15 +6,15 @@ ghost use Rattle.glob_trees.specs.TreeParts.{HasMappingAt, StandAt};
 ghost use Rattle.glob_trees.specs.Trees.{DecidesInTree};
 ghost use Rattle.glob_trees.specs.Ways.{AreOnTheWay, Folder, GivesOnly, GoesOn, IsAskedFor};
 
-use crate::entered::Entered;
 use crate::fault::TreeFault;
 use crate::folders::FolderLists;
-use crate::known::KnownFolders;
+use crate::ignore_lists::{IgnoreLists, ask_for_top};
+use crate::walk::Walk;
 use gix_glob::search;
 use gix_glob::search::pattern::{List, Mapping};
-use glob_lists::{PreparedList, RepositoryPath, Rules};
+use glob_lists::{PreparedList, RepositoryPath, Rules, decide_prepared};
 use std::alloc::Global;
-use std::marker::Model;
+use std::marker::{Model, PhantomData};
 
 /// A work tree: lists that stand before those of all folders, and a source that has the list of each folder, and is asked for it
 /// when a path first lies there. What the source gave is kept up to a bound, so that each folder is asked for once until it is
@@ -24,23 +24,27 @@ use std::marker::Model;
 /// folders, and whether the case of letters counts.
 #[derive(Drop)]
 pub struct Tree<T: search::Pattern, S: FolderLists<T>> {
-    entered: Entered<T, S>,
+    walk: Walk<IgnoreLists<T, S>>,
+    /// How many lists stand before those of all folders.
+    front_count: usize,
+    /// Whether the list of the top was asked for. It stands behind those, where it has patterns.
+    has_top: bool,
 }
 
 impl<T: search::Pattern, S: FolderLists<T>> Model for Tree<T, S> {
     ghost use Rattle.glob_trees.specs.TreeParts.{TreeParts};
-    ghost use Rattle.glob_trees.specs.Private.Entered.{IsReady};
+    ghost use Rattle.glob_trees.specs.Private.Trees.{IsTree};
 
     ghost Value = { TreeParts S T T.Value };
 
     ghost view = { λ tree. record {
-      source = tree.entered.source;
-      front_count = tree.entered.front_count;
-      lists = tree.entered.lists.items;
-      rules = tree.entered.rules;
+      source = tree.walk.source.source;
+      front_count = tree.front_count;
+      lists = tree.walk.values.items;
+      rules = tree.walk.source.rules;
     } };
 
-    ghost invariant = { λ tree. IsReady (S.shows T.Seen) S.gave T.seen tree.entered };
+    ghost invariant = { λ tree. IsTree (S.shows T.Seen) S.gave T.seen tree.walk tree.front_count tree.has_top };
 }
 
 /// The pattern that decides about a path, and its list.
@@ -69,20 +73,19 @@ impl<T: search::Pattern, S: FolderLists<T> + Drop> Tree<T, S> {
         if !are_of_folders(&fronts) {
             return None;
         }
-        let entered = Entered {
+        let front_count = fronts.len();
+        let lists = IgnoreLists {
             alloc,
             source,
             rules,
-            front_count: fronts.len(),
-            lists: fronts,
-            folder: Vec::new(alloc),
-            way: Vec::new(alloc),
-            known: KnownFolders::new(alloc),
-            kept: Vec::new(alloc),
-            bytes: 0,
-            most_bytes: usize::MAX,
+            patterns: PhantomData,
         };
-        Some(Tree { entered })
+        let walk = Walk::new(alloc, lists, fronts);
+        Some(Tree {
+            walk,
+            front_count,
+            has_top: false,
+        })
     }
 
     /// Sets about how many bytes may be kept of the folders that were asked for, besides those on the way to one path: beyond it all
@@ -90,7 +93,7 @@ impl<T: search::Pattern, S: FolderLists<T> + Drop> Tree<T, S> {
     pub fn keep_at_most(&mut self, bytes: usize)
         ensures { self.new ≡ self.old }
     {
-        self.entered.most_bytes = bytes;
+        self.walk.most_bytes = bytes;
     }
 
     /// Which pattern decides about a path, as [`decide_in_tree`](crate::decide_in_tree) answers it over the lists that stand before
@@ -118,7 +121,15 @@ impl<T: search::Pattern, S: FolderLists<T> + Drop> Tree<T, S> {
         // Each folder that the source is asked for is on the way, and neither ignored nor below an ignored one.
         ensures asks { GivesOnly (IsAskedFor (map (entry_list_of T.seen) self.new.lists) self.new.rules path.now.bytes) (S.gave self.old.source) (S.gave self.new.source) }
     {
-        self.entered.find(path)
+        path.begins_with_no_slash();
+        if !self.has_top {
+            ask_for_top(&mut self.walk)?;
+            self.has_top = true;
+        }
+        if let Some(pair) = self.walk.go_to(path)? {
+            return Ok(Some(pair));
+        }
+        Ok(decide_prepared(&self.walk.values, path, self.walk.source.rules))
     }
 
     /// The lists in which the last answer of [`Tree::find`] has its places: those that stand before all folders, and those of the
@@ -126,7 +137,7 @@ impl<T: search::Pattern, S: FolderLists<T> + Drop> Tree<T, S> {
     pub fn lists(&self) -> &[PreparedList<T>]
         ensures { result.now ≡ self.now.lists }
     {
-        &self.entered.lists
+        &self.walk.values
     }
 
     /// The pattern at a pair of places, as [`Tree::find`] answered it last, and its list; `None` exactly where none stands there.
@@ -136,7 +147,7 @@ impl<T: search::Pattern, S: FolderLists<T> + Drop> Tree<T, S> {
             (¬ HasMappingAt self.now.lists pair)
             (λ decision. StandAt self.now.lists pair decision.list.now decision.mapping.now) }
     {
-        let list = self.entered.lists.get(pair.0)?.list();
+        let list = self.walk.values.get(pair.0)?.list();
         let mapping = list.patterns.get(pair.1)?;
         Some(Decision { list, mapping })
     }
@@ -144,28 +155,28 @@ impl<T: search::Pattern, S: FolderLists<T> + Drop> Tree<T, S> {
     /// The path of the folder that was entered last on the way to the path asked last, with a slash at its end; no bytes where it
     /// is the top, or none was entered.
     pub fn folder(&self) -> &[u8] {
-        &self.entered.folder
+        &self.walk.folder
     }
 
     /// The rules by which patterns are matched.
     pub fn rules(&self) -> Rules
         ensures { result ≡ self.now.rules }
     {
-        self.entered.rules
+        self.walk.source.rules
     }
 
     /// The source.
     pub fn source(&self) -> &S
         ensures { result.now ≡ self.now.source }
     {
-        &self.entered.source
+        &self.walk.source.source
     }
 
     /// Gives the source back.
     pub fn into_source(self) -> S
         ensures { result ≡ self.source }
     {
-        self.entered.source
+        self.walk.source.source
     }
 }
 

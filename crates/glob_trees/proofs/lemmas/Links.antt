@@ -1,5 +1,5 @@
 -- One folder more is found by its name, and each other one as before.
-use Rattle.std.proofs.Common.{◌≡◌, ⊎_elim, ℕ, zero, suc, ◌<◌, Bool, true, List, [], ◌∷◌, ◌++◌, length, Option, None, Some, Result, Ok, Err, Vec, refl, sym, ap, subst, ◌∙◌, length-append, arith}
+use Rattle.std.proofs.Common.{◌≡◌, ⊎_elim, ℕ, zero, suc, ◌<◌, ◌≤◌, Bool, true, List, [], ◌∷◌, ◌++◌, length, Option, None, Some, Result, Ok, Err, Vec, refl, sym, ap, subst, ◌∙◌, length-append, arith}
 use Rattle.std.specs.Prelude.{IfSome, OnErr, OnOk, slice_get, slice_set}
 use Rattle.std.specs.declared.cmp.Ordering.{Ordering}
 use Rattle.std.specs.Ordering.{eq_by_cmp, nat_cmp}
@@ -16,7 +16,7 @@ use Rattle.std.proofs.lemmas.Slice.Eq.{bytes_eq-Decides}
 use Rattle.glob_trees.specs.Known.{AddsFolder, FolderNames, KnowsNone}
 use Rattle.glob_trees.specs.Links.{link, named_in}
 use Rattle.glob_trees.specs.Private.Known.{AreInside}
-use Rattle.glob_trees.proofs.lemmas.Cases.{cases_bytes}
+use Rattle.glob_trees.proofs.lemmas.Cases.{cases_bytes, cases_places}
 
 -- ---- the folders of which one changes
 
@@ -62,86 +62,108 @@ module _ {Z : Type 0} where
   )
 
   -- an empty folder more changes nothing
-  link_more : (inner : List (BTreeMap (Vec ℕ Z) ℕ)) (empty : BTreeMap (Vec ℕ Z) ℕ) → empty.entries ≡ [] → (outer : ℕ) (name : List ℕ) → link (inner ++ empty ∷ []) outer name ≡ link inner outer name
-  link_more [] empty none zero name = ap (lookup (at_name name)) none
-  link_more [] empty none (suc outer) name = refl
-  link_more (m ∷ inner) empty none zero name = refl
-  link_more (m ∷ inner) empty none (suc outer) name = link_more inner empty none outer name
+  get_more : (inner : List (BTreeMap (Vec ℕ Z) ℕ)) (empty : BTreeMap (Vec ℕ Z) ℕ) → empty.entries ≡ [] → (outer : ℕ) (name : List ℕ) → named_in (slice_get (inner ++ empty ∷ []) outer) name ≡ named_in (slice_get inner outer) name
+  get_more [] empty none zero name = ap (lookup (at_name name)) none
+  get_more [] empty none (suc outer) name = refl
+  get_more (m ∷ inner) empty none zero name = refl
+  get_more (m ∷ inner) empty none (suc outer) name = get_more inner empty none outer name
+
+  link_more : (top : BTreeMap (Vec ℕ Z) ℕ) (inner : List (BTreeMap (Vec ℕ Z) ℕ)) (empty : BTreeMap (Vec ℕ Z) ℕ) → empty.entries ≡ [] → (outer : Option ℕ) (name : List ℕ) → link top (inner ++ empty ∷ []) outer name ≡ link top inner outer name
+  link_more top inner empty none None name = refl
+  link_more top inner empty none (Some outer) name = get_more inner empty none outer name
 
   -- what is known by these names
-  abbrev pub names_by : List (BTreeMap (Vec ℕ Z) ℕ) → FolderNames
-  names_by inner = record { count = length inner; found = link inner }
+  abbrev pub names_by : BTreeMap (Vec ℕ Z) ℕ → List (BTreeMap (Vec ℕ Z) ℕ) → FolderNames
+  names_by top inner = record { count = length inner; found = link top inner }
 
-  none_found : (empty : BTreeMap (Vec ℕ Z) ℕ) → empty.entries ≡ [] → (outer : ℕ) (name : List ℕ) → link (empty ∷ []) outer name ≡ None
-  none_found empty none zero name = ap (lookup (at_name name)) none
-  none_found empty none (suc outer) name = refl
+  pub knows_none : (top : BTreeMap (Vec ℕ Z) ℕ) (inner : List (BTreeMap (Vec ℕ Z) ℕ)) → top.entries ≡ [] → inner ≡ [] → KnowsNone (names_by top inner)
+  knows_none top inner none few = subst (λ ls. KnowsNone (names_by top ls)) (sym few) (record { count = refl; none = none_found })
+    where
+      none_found : (outer : Option ℕ) (name : List ℕ) → link top [] outer name ≡ None
+      none_found None name = ap (lookup (at_name name)) none
+      none_found (Some outer) name = refl
 
-  pub knows_top : (inner all : List (BTreeMap (Vec ℕ Z) ℕ)) (empty : BTreeMap (Vec ℕ Z) ℕ) → length inner ≡ 0 → empty.entries ≡ [] → all ≡ inner ++ empty ∷ [] → KnowsNone (names_by all) 1
-  knows_top [] all empty few none pushed = subst (λ ls. KnowsNone (names_by ls) 1) (sym pushed) (record { count = refl; none = none_found empty none })
-  knows_top (m ∷ inner) all empty few none pushed = absurd (omega arith)
+  pub inside_none : (top : BTreeMap (Vec ℕ Z) ℕ) (inner : List (BTreeMap (Vec ℕ Z) ℕ)) → top.entries ≡ [] → inner ≡ [] → AreInside top inner
+  inside_none top inner none few outer name place found =
+      let knows = knows_none top inner none few in
+      let clash : None ≡ Some place = sym (knows.none outer name) ∙ found in
+      absurd (cc)
 
-  -- each folder that is found is known
-  pub inside_more : (inner : List (BTreeMap (Vec ℕ Z) ℕ)) (empty : BTreeMap (Vec ℕ Z) ℕ) → empty.entries ≡ [] → AreInside inner → AreInside (inner ++ empty ∷ [])
-  inside_more inner empty none inside outer name place found =
-      let before : place < length inner = inside outer name place (sym (link_more inner empty none outer name) ∙ found) in
-      omega (arith, before, length-append inner (empty ∷ []))
+  pub if_inside : (top : BTreeMap (Vec ℕ Z) ℕ) (inner : List (BTreeMap (Vec ℕ Z) ℕ)) (outer : Option ℕ) (name : List ℕ) (result : Option ℕ) → result ≡ link top inner outer name → AreInside top inner → IfSome result (λ place. place < length inner)
+  if_inside top inner outer name None is all = tt
+  if_inside top inner outer name (Some place) is all = all outer name place (sym is)
 
-  same_links : (inner : List (BTreeMap (Vec ℕ Z) ℕ)) (outer : ℕ) (before after : BTreeMap (Vec ℕ Z) ℕ) → outer < length inner → slice_get inner outer ≡ Some before → after.entries ≡ before.entries
-      → (other : ℕ) (name : List ℕ) → link (slice_set inner outer after) other name ≡ link inner other name
-  same_links inner outer before after inside there same other name = ⊎_elim
-      (λ (it : other ≡ outer).
-      ap (λ k. link (slice_set inner outer after) k name) it ∙ ap (λ o. named_in o name) (set_there inner outer after inside) ∙ ap (lookup (at_name name)) same ∙ sym (ap (λ o. named_in o name) there) ∙ ap (λ k. link inner k name) (sym it))
-      (λ (elsewhere : other ≡ outer → ⊥). ap (λ o. named_in o name) (set_apart inner outer other after elsewhere))
-      (cases_eq other outer)
+  -- a name is put into the folder at a place, or into the top
+  module _ (top : BTreeMap (Vec ℕ Z) ℕ) (old : List (BTreeMap (Vec ℕ Z) ℕ)) (empty before after : BTreeMap (Vec ℕ Z) ℕ) (key : Vec ℕ Z) (name : List ℕ) (place : ℕ) (none : empty.entries ≡ []) (is : key.items ≡ name) (next : place ≡ length old) where
+    pub adds_in : (outer : ℕ) → outer < length old → slice_get (old ++ empty ∷ []) outer ≡ Some before → Updates key_cmp before after key (Some place) → AddsFolder (names_by top old) (names_by top (slice_set (old ++ empty ∷ []) outer after)) (Some outer) name place
+    adds_in outer inside there updates =
+        let then = named_then key name is before after place updates in
+        let long = length-append old (empty ∷ []) in
+        let here : slice_get (slice_set (old ++ empty ∷ []) outer after) outer ≡ Some after = set_there (old ++ empty ∷ []) outer after (omega (arith, long)) in
+        record {
+          next = next;
+          count = length-set (old ++ empty ∷ []) outer after ∙ long;
+          here = ap (λ o. named_in o name) here ∙ then.0;
+          others = others_at outer then here there;
+        }
+      where
+        others_at : (outer : ℕ) → (named_in (Some after) name ≡ Some place) × ((other : List ℕ) → ¬ (other ≡ name) → named_in (Some after) other ≡ named_in (Some before) other)
+            → slice_get (slice_set (old ++ empty ∷ []) outer after) outer ≡ Some after → slice_get (old ++ empty ∷ []) outer ≡ Some before
+            → (other : Option ℕ) (text : List ℕ) → ¬ ((other ≡ Some outer) × (text ≡ name)) → link top (slice_set (old ++ empty ∷ []) outer after) other text ≡ link top old other text
+        others_at outer then here there None text apart = refl
+        others_at outer then here there (Some other) text apart = ⊎_elim
+            (λ (same : other ≡ outer).
+            let differs : ¬ (text ≡ name) = λ too. apart (ap Some same, too) in
+            ap (λ k. named_in (slice_get (slice_set (old ++ empty ∷ []) outer after) k) text) same ∙ ap (λ o. named_in o text) here ∙ then.1 text differs ∙ ap (λ o. named_in o text) (sym there) ∙ get_more old empty none outer text ∙ ap (λ k. named_in (slice_get old k) text) (sym same))
+            (λ (elsewhere : other ≡ outer → ⊥). ap (λ o. named_in o text) (set_apart (old ++ empty ∷ []) outer other after elsewhere) ∙ get_more old empty none other text)
+            (cases_eq other outer)
 
-  inside_same : (inner : List (BTreeMap (Vec ℕ Z) ℕ)) (outer : ℕ) (before after : BTreeMap (Vec ℕ Z) ℕ) → outer < length inner → slice_get inner outer ≡ Some before → after.entries ≡ before.entries → AreInside inner → AreInside (slice_set inner outer after)
-  inside_same inner outer before after inside there same all other name place found =
-      let was : place < length inner = all other name place (sym (same_links inner outer before after inside there same other name) ∙ found) in
-      omega (arith, was, length-set inner outer after)
+    pub same_in : (outer : ℕ) → outer < length old → slice_get (old ++ empty ∷ []) outer ≡ Some before → after.entries ≡ before.entries → (other : Option ℕ) (text : List ℕ) → link top (slice_set (old ++ empty ∷ []) outer after) other text ≡ link top old other text
+    same_in outer inside there same None text = refl
+    same_in outer inside there same (Some other) text = ⊎_elim
+        (λ (it : other ≡ outer).
+        ap (λ k. named_in (slice_get (slice_set (old ++ empty ∷ []) outer after) k) text) it ∙ ap (λ o. named_in o text) (set_there (old ++ empty ∷ []) outer after (omega (arith, length-append old (empty ∷ [])))) ∙ ap (lookup (at_name text)) same ∙ ap (λ o. named_in o text) (sym there) ∙ get_more old empty none outer text ∙ ap (λ k. named_in (slice_get old k) text) (sym it))
+        (λ (elsewhere : other ≡ outer → ⊥). ap (λ o. named_in o text) (set_apart (old ++ empty ∷ []) outer other after elsewhere) ∙ get_more old empty none other text)
+        (cases_eq other outer)
 
-  inside_adds : (old new : List (BTreeMap (Vec ℕ Z) ℕ)) (outer : ℕ) (name : List ℕ) (place : ℕ) → AddsFolder (names_by old) (names_by new) outer name place → AreInside old → AreInside new
-  inside_adds old new outer name place adds all other text found_place found = ⊎_elim
+    pub same_top : before ≡ top → after.entries ≡ before.entries → (other : Option ℕ) (text : List ℕ) → link after (old ++ empty ∷ []) other text ≡ link top old other text
+    same_top it same None text = ap (lookup (at_name text)) (same ∙ ap (λ (m : BTreeMap (Vec ℕ Z) ℕ). m.entries) it)
+    same_top it same (Some other) text = get_more old empty none other text
+
+    pub adds_top : before ≡ top → Updates key_cmp before after key (Some place) → AddsFolder (names_by top old) (names_by after (old ++ empty ∷ [])) None name place
+    adds_top it updates =
+        let then = named_then key name is before after place updates in
+        record {
+          next = next;
+          count = length-append old (empty ∷ []);
+          here = then.0;
+          others = others_at then it;
+        }
+      where
+        others_at : (named_in (Some after) name ≡ Some place) × ((other : List ℕ) → ¬ (other ≡ name) → named_in (Some after) other ≡ named_in (Some before) other) → before ≡ top
+            → (other : Option ℕ) (text : List ℕ) → ¬ ((other ≡ None) × (text ≡ name)) → link after (old ++ empty ∷ []) other text ≡ link top old other text
+        others_at then it None text apart = then.1 text (λ too. apart (refl, too)) ∙ ap (λ m. named_in (Some m) text) it
+        others_at then it (Some other) text apart = get_more old empty none other text
+
+  -- each folder that is found is known then
+  pub inside_adds : (top then : BTreeMap (Vec ℕ Z) ℕ) (old new : List (BTreeMap (Vec ℕ Z) ℕ)) (outer : Option ℕ) (name : List ℕ) (place : ℕ) → AddsFolder (names_by top old) (names_by then new) outer name place → AreInside top old → AreInside then new
+  inside_adds top then old new outer name place adds all other text at found = ⊎_elim
       (λ (same : text ≡ name). ⊎_elim
       (λ (there : other ≡ outer).
-      let it : found_place ≡ place = same_Some found_place place (sym found ∙ ap (λ k. link new k text) there ∙ ap (link new outer) same ∙ adds.here) in
+      let it : at ≡ place = same_Some at place (sym found ∙ ap (λ k. link then new k text) there ∙ ap (link then new outer) same ∙ adds.here) in
       omega (arith, it, adds.next, adds.count))
-      (λ (elsewhere : other ≡ outer → ⊥). stays other text found_place (λ both. elsewhere both.0) found)
-      (cases_eq other outer))
-      (λ (differs : text ≡ name → ⊥). stays other text found_place (λ both. differs both.1) found)
+      (λ (elsewhere : other ≡ outer → ⊥). stays other text at (λ both. elsewhere both.0) found)
+      (cases_places other outer))
+      (λ (differs : text ≡ name → ⊥). stays other text at (λ both. differs both.1) found)
       (cases_bytes text name)
     where
-      stays : (other : ℕ) (text : List ℕ) (at : ℕ) → ¬ ((other ≡ outer) × (text ≡ name)) → link new other text ≡ Some at → at < length new
+      stays : (other : Option ℕ) (text : List ℕ) (at : ℕ) → ¬ ((other ≡ outer) × (text ≡ name)) → link then new other text ≡ Some at → at < length new
       stays other text at apart found =
           let was : at < length old = all other text at (sym (adds.others other text apart) ∙ found) in
           omega (arith, was, adds.count)
 
-  pub adds : (old : List (BTreeMap (Vec ℕ Z) ℕ)) (empty before after : BTreeMap (Vec ℕ Z) ℕ) (outer : ℕ) (key : Vec ℕ Z) (name : List ℕ) (place : ℕ) → empty.entries ≡ [] → outer < length old → slice_get (old ++ empty ∷ []) outer ≡ Some before
-      → key.items ≡ name → place ≡ length old → Updates key_cmp before after key (Some place) → AddsFolder (names_by old) (names_by (slice_set (old ++ empty ∷ []) outer after)) outer name place
-  adds old empty before after outer key name place none inside there is next updates =
-      let all = old ++ empty ∷ [] in
-      let then = named_then key name is before after place updates in
-      let long = length-append old (empty ∷ []) in
-      let here : slice_get (slice_set all outer after) outer ≡ Some after = set_there all outer after (omega (arith, long)) in
-      record {
-        next = next;
-        count = length-set all outer after ∙ long;
-        here = ap (λ o. named_in o name) here ∙ then.0;
-        others = λ other text apart. ⊎_elim
-            (λ (same : other ≡ outer).
-            let differs : ¬ (text ≡ name) = λ too. apart (same, too) in
-            ap (λ k. link (slice_set all outer after) k text) same ∙ ap (λ o. named_in o text) here ∙ then.1 text differs ∙ ap (λ o. named_in o text) (sym there) ∙ link_more old empty none outer text ∙ ap (λ k. link old k text) (sym same))
-            (λ (elsewhere : other ≡ outer → ⊥). ap (λ o. named_in o text) (set_apart all outer other after elsewhere) ∙ link_more old empty none other text)
-            (cases_eq other outer);
-      }
-
-  -- a name is put into a folder, or memory for it was refused
-  pub inside_put : {A E : Type 0} (result : Result A E) (old : List (BTreeMap (Vec ℕ Z) ℕ)) (empty before after : BTreeMap (Vec ℕ Z) ℕ) (outer : ℕ) (key : Vec ℕ Z) (place : ℕ) → empty.entries ≡ [] → outer < length old → slice_get (old ++ empty ∷ []) outer ≡ Some before
-      → place ≡ length old → OnOk result (Updates key_cmp before after key (Some place)) → OnErr result (after.entries ≡ before.entries) → AreInside old → AreInside (slice_set (old ++ empty ∷ []) outer after)
-  inside_put (Ok a) old empty before after outer key place none inside there next updates same all =
-      inside_adds old (slice_set (old ++ empty ∷ []) outer after) outer key.items place (adds old empty before after outer key key.items place none inside there refl next updates) all
-  inside_put (Err e) old empty before after outer key place none inside there next updates same all =
-      inside_same (old ++ empty ∷ []) outer before after (omega (arith, inside, length-append old (empty ∷ []))) there same (inside_more old empty none all)
-
-  pub if_inside : (inner : List (BTreeMap (Vec ℕ Z) ℕ)) (outer : ℕ) (name : List ℕ) (result : Option ℕ) → result ≡ link inner outer name → AreInside inner → IfSome result (λ place. place < length inner)
-  if_inside inner outer name None is all = tt
-  if_inside inner outer name (Some place) is all = all outer name place (sym is)
+  -- the same where memory may be refused
+  pub inside_put : {A E : Type 0} (result : Result A E) (top then : BTreeMap (Vec ℕ Z) ℕ) (old new : List (BTreeMap (Vec ℕ Z) ℕ)) (outer : Option ℕ) (name : List ℕ) (place : ℕ) → length old ≤ length new → OnOk result (AddsFolder (names_by top old) (names_by then new) outer name place)
+      → OnErr result ((other : Option ℕ) (text : List ℕ) → link then new other text ≡ link top old other text) → AreInside top old → AreInside then new
+  inside_put (Ok a) top then old new outer name place more adds same all = inside_adds top then old new outer name place adds all
+  inside_put (Err e) top then old new outer name place more adds same all = λ other text at found. let was : at < length old = all other text at (sym (same other text) ∙ found) in omega (arith, was, more)

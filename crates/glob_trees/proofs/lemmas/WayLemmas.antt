@@ -4,7 +4,7 @@ use Rattle.std.specs.List.{AllZip}
 use Rattle.std.proofs.lemmas.Bool.{cases_eq}
 use Rattle.gix_glob.specs.Bytes.{slash}
 use Rattle.glob_trees.specs.Trees.{IsAbove}
-use Rattle.glob_trees.specs.Ways.{folder_before, folders_from, folders_to}
+use Rattle.glob_trees.specs.Ways.{folder_before, folders_below, folders_from, folders_to}
 
 -- ---- the folders of a text with more behind it
 
@@ -36,6 +36,9 @@ folders_other (x ∷ xs) b other =
 
 pub folders_slash : (x : ℕ) (xs : List ℕ) → folders_to ((x ∷ xs) ++ slash ∷ []) ≡ folders_to (x ∷ xs) ++ (x ∷ xs) ∷ []
 folders_slash x xs = folders_more (x ∷ xs) (slash ∷ [])
+
+pub below_slash : (x : ℕ) (xs : List ℕ) → folders_below ((x ∷ xs) ++ slash ∷ []) ≡ folders_below (x ∷ xs) ++ (x ∷ xs) ∷ []
+below_slash x xs = folders_from_more (x ∷ []) xs (slash ∷ [])
 
 -- ---- the folders above a text with one more byte
 

@@ -1,11 +1,10 @@
 -- Lists that have entries, and those that have none.
 use Rattle.std.proofs.Common.{◌≡◌, ◌⊎◌, inl, inr, List, [], ◌∷◌, ◌++◌, Option, None, Some, map, refl, sym, ap, ◌∙◌, append_assoc, append-nil}
-use Rattle.std.specs.Prelude.{◌↔◌, IsTrue, is_some, option_to_list}
-use Rattle.std.proofs.lemmas.Bool.{false≢true}
+use Rattle.std.specs.Prelude.{option_to_list}
 use Rattle.gix_glob.specs.declared.search.pattern.list.List as patterns
 use Rattle.gix_glob.specs.Entries.{Entry, entry_of}
 use Rattle.gix_glob.specs.EntryLists.{EntryList, entry_list_of}
-use Rattle.glob_trees.specs.Private.Keeping.{IsIfAny}
+use Rattle.glob_trees.specs.Private.Trees.{IsIfAny}
 use Rattle.glob_trees.specs.Ways.{if_any, unless_empty, with_entries}
 
 module _ {V : Type 0} where
@@ -21,9 +20,6 @@ module _ {V : Type 0} where
   pub empty_or_not : (list : EntryList V) → (unless_empty list ≡ []) ⊎ (unless_empty list ≡ list ∷ [])
   empty_or_not list = any_cases list.entries list
 
-  pub not_both : (list : EntryList V) → unless_empty list ≡ [] → ¬ (unless_empty list ≡ list ∷ [])
-  not_both list none some = let both : [] ≡ list ∷ [] = sym none ∙ some in absurd (cc)
-
 module _ {T X V : Type 0} (seen : X → V) (list : patterns.List T X) where
   view_any : (items : List _) → list.patterns.items ≡ items → ¬ (items ≡ []) → unless_empty (entry_list_of seen list) ≡ entry_list_of seen list ∷ []
   view_any [] is some = absurd (some refl)
@@ -33,8 +29,3 @@ module _ {T X V : Type 0} (seen : X → V) (list : patterns.List T X) where
   pub if_any_view : (kept : Option (patterns.List T X)) → IsIfAny list kept → map (entry_list_of seen) (option_to_list kept) ≡ unless_empty (entry_list_of seen list)
   if_any_view None none = sym (ap (λ l. if_any (map (entry_of seen) l) (entry_list_of seen list)) none)
   if_any_view (Some other) some = ap (λ l. entry_list_of seen l ∷ []) some.0 ∙ sym (view_any list.patterns.items refl some.1)
-
-  -- some list is kept of a list exactly where it has entries
-  pub if_any_listed : (kept : Option (patterns.List T X)) → IsIfAny list kept → IsTrue (is_some kept) ↔ (unless_empty (entry_list_of seen list) ≡ entry_list_of seen list ∷ [])
-  if_any_listed None none = ((λ never. absurd (false≢true never)), (λ some. absurd (not_both (entry_list_of seen list) (ap (λ l. if_any (map (entry_of seen) l) (entry_list_of seen list)) none) some)))
-  if_any_listed (Some other) some = ((λ _. view_any list.patterns.items refl some.1), (λ _. refl))
