@@ -17,6 +17,7 @@ pub mod OneWay
 pub mod Stepping
 pub mod Standing
 pub mod Topmost
+pub mod Walking
 pub mod Walks
 pub mod WayLemmas
 pub mod WithEntries

@@ -1,5 +1,5 @@
 //! The walk over the folders on a path's way: here they are entered and left, for any value that a folder has.
-ghost use Rattle.std.specs.Prelude.{◌≡◌, ◌<◌, ◌++◌, ◌∷◌, [], None, Some, IfOk, IfSome, IsTrue, OnErr, OnOk, length, option_to_list, slice_get, take};
+ghost use Rattle.std.specs.Prelude.{◌≡◌, ◌<◌, ◌++◌, ◌∷◌, [], None, Some, IfOk, IfSome, IsTrue, OnErr, OnOk, length, option_to_list, slice_get, take, true};
 ghost use Rattle.std.specs.List.{All, Contains};
 ghost use Rattle.gix_glob.specs.Bytes.{slash};
 ghost use Rattle.glob_trees.specs.Private.Walks.{HasEntered, HasFronts, HasSameFronts, HasStayed, IsBefore, IsFresh, IsIn, IsNamed, IsOpenAt, IsUnderWay, KeepsOn, KeepsValue, Knows, PutsValue, gave_but, last_length, last_place};
@@ -71,10 +71,8 @@ impl<S: FolderValues> Walk<S> {
         ensures source { self.new.source ≡ self.old.source }
         ensures fails { OnErr result (HasSameFronts self.old self.new) }
     {
-        if let Some(value) = value {
-            self.values.push(value)?;
-        }
-        self.front_count = self.values.len();
+        push_if_any(&mut self.values, value)?;
+        self.front_count = self.values.as_slice().len();
         Ok(())
     }
 
@@ -259,6 +257,7 @@ impl<S: FolderValues> Walk<S> {
         requires under { IsUnderWay S.finds S.gave S.fits self.old }
         requires holds { S.holds self.old.source }
         requires before { IsBefore self.old.folder.items folder.now.bytes }
+        requires dir { folder.now.is_dir ≡ true }
         ensures entered { IfOk result (HasEntered S.finds self.old self.new folder.now.bytes) }
         ensures stays { OnErr result (HasStayed S.gave self.old self.new) }
         ensures under { IsUnderWay S.finds S.gave S.fits self.new }
@@ -278,6 +277,7 @@ impl<S: FolderValues> Walk<S> {
         requires under { IsUnderWay S.finds S.gave S.fits self.old }
         requires holds { S.holds self.old.source }
         requires before { IsBefore self.old.folder.items folder.now.bytes }
+        requires dir { folder.now.is_dir ≡ true }
         ensures knows { IfOk result (Knows S.finds S.gave S.fits self.new folder.now.bytes) }
         ensures same { OnOk result (self.new.folder.items ≡ self.old.folder.items) }
         ensures stays { OnErr result (HasStayed S.gave self.old self.new) }
@@ -287,12 +287,20 @@ impl<S: FolderValues> Walk<S> {
         ensures asks { IfOk result (λ place. GivesOnly (λ given. (given ≡ folder.now.bytes) × IsOpenAt self.new place) (S.gave self.old.source) (S.gave self.new.source)) }
         ensures fails { OnErr result (GivesOnly (λ _. ⊥) (S.gave self.old.source) (S.gave self.new.source)) }
     {
-        let name = &folder.bytes()[self.folder.as_slice().len()..];
-        if let Some(known) = self.known.place_in(self.last_place(), name) {
+        if let Some(known) = self.known_place(folder.bytes()) {
             return Ok(known);
         }
         let found = self.source.look(&self.values, folder)?;
         self.know(folder.bytes(), found)
+    }
+
+    /// The place of a folder that lies right in the one entered last, where it is known.
+    fn known_place(&self, folder: &[u8]) -> Option<usize>
+        requires before { IsBefore self.now.folder.items folder.now }
+        ensures { IsNamed self.now folder.now result }
+    {
+        let name = &folder[self.folder.as_slice().len()..];
+        self.known.place_in(self.last_place(), name)
     }
 
     /// Keeps what a folder was found to be that lies right in the one entered last, and answers its place.
@@ -433,7 +441,18 @@ fn put_value<V: Drop, R: Copy>(
     ensures puts { OnOk result (PutsValue place values.old.items values.new.items found.old.items found.new.items) }
     ensures fails { OnErr result (values.new.items ≡ values.old.items) }
 {
-    if let Some(value) = found[place].take() {
+    push_if_any(values, found[place].take())
+}
+
+/// Puts a value, if any, behind the others.
+///
+/// # Errors
+/// Only where memory was refused. The value is let go then.
+fn push_if_any<V: Drop>(values: &mut Vec<V>, value: Option<V>) -> Result<(), AllocError>
+    ensures put { OnOk result (values.new.items ≡ values.old.items ++ option_to_list value) }
+    ensures fails { OnErr result (values.new.items ≡ values.old.items) }
+{
+    if let Some(value) = value {
         values.push(value)?;
     }
     Ok(())

@@ -1,34 +1,8 @@
 -- What a source was asked for: only for folders on the way, of which none is ignored, and none below an ignored one.
-use Rattle.std.proofs.Common.{◌≡◌, inl, inr, ⊎_elim, ℕ, List, [], ◌∷◌, ◌++◌, sym, subst}
+use Rattle.std.proofs.Common.{◌≡◌, inl, inr, ⊎_elim, ℕ, List, [], sym, subst}
 use Rattle.std.specs.List.{Contains}
-use Rattle.glob_lists.specs.declared.rules.Rules.{Rules}
-use Rattle.gix_glob.specs.Bytes.{slash}
-use Rattle.gix_glob.specs.EntryLists.{EntryList}
-use Rattle.glob_trees.specs.Private.Entered.{AreEntered}
-use Rattle.glob_trees.specs.Trees.{HasNoneIgnored, IsAbove}
-use Rattle.glob_trees.specs.Ways.{GivesOnly, IsAskedFor, folders_to}
-use Rattle.glob_trees.proofs.lemmas.Folders.{above_above}
-use Rattle.glob_trees.proofs.lemmas.OnWay.{on_way_is_above, top_on_way}
-use Rattle.glob_trees.proofs.lemmas.WayLemmas.{above_more}
-
-module _ {V : Type 0} (shows : List ℕ → EntryList V → Type 0) (n : ℕ) (lists : List (EntryList V)) (rules : Rules) (path : List ℕ) (own : List (EntryList V)) where
-  none_ignored : (front folder : List ℕ) → AreEntered shows n lists rules front own → IsAbove folder front → HasNoneIgnored lists rules (folder ++ slash ∷ [])
-  none_ignored front folder e above top pair high = ⊎_elim
-      (λ (here : (top ≡ folder) × (slash ≡ slash)). e.none top pair (subst (λ f. IsAbove f front) (sym here.0) above))
-      (λ (higher : IsAbove top folder). e.none top pair (above_above top folder front higher above))
-      (above_more top folder slash high)
-
-  pub asked_above : (front folder : List ℕ) → AreEntered shows n lists rules front own → IsAbove front path → Contains (folders_to front) folder → IsAskedFor lists rules path folder
-  asked_above front folder e above h = ⊎_elim
-      (λ (top : folder ≡ []). inl top)
-      (λ (higher : IsAbove folder front). inr (above_above folder front path higher above, none_ignored front folder e higher))
-      (on_way_is_above front folder h)
-
-  pub asked_to_path : (folder : List ℕ) → AreEntered shows n lists rules path own → Contains (folders_to path) folder → IsAskedFor lists rules path folder
-  asked_to_path folder e h = ⊎_elim
-      (λ (top : folder ≡ []). inl top)
-      (λ (higher : IsAbove folder path). inr (higher, none_ignored path folder e higher))
-      (on_way_is_above path folder h)
+use Rattle.glob_trees.specs.Ways.{GivesOnly, folders_to}
+use Rattle.glob_trees.proofs.lemmas.OnWay.{top_on_way}
 
 -- ---- of which folders lists were given
 

@@ -155,6 +155,11 @@ above_are_before (x ∷ rest) pre f post is = let e : ([] ∷ folders_below f) �
 
 -- ---- the state of a walk
 
+pub no_value : {V R : Type 0} (one : Found V R) → is_valued one ≡ false → value_of one ≡ []
+no_value (Open None) none = refl
+no_value (Open (Some value)) none = absurd (cc)
+no_value (Refused reason) none = refl
+
 module _ {V R : Type 0} (own : Folder → Found V R) where
   pub values_more : (folders : List Folder) (folder : Folder) → values_of own (folders ++ folder ∷ []) ≡ values_of own folders ++ value_of (own folder)
   values_more folders folder = flat_map-append (λ f. value_of (own f)) folders (folder ∷ []) ∙ ap (λ l. values_of own folders ++ l) (append-nil (value_of (own folder)))
@@ -252,6 +257,9 @@ module _ {V R : Type 0} (finds : List V → Folder → Found V R → Type 0) (ga
 
     all_values : take n values ++ values_of u.own (folders_below start) ≡ values
     all_values = ap (λ l. take n values ++ l) (sym u.standing) ∙ take-append-drop n values
+
+    pub place_within : (place : ℕ) (folder : Folder) → slice_get u.below place ≡ Some folder → place < length found
+    place_within place folder at = let level = u.level in let inside = slice_get_within u.below place folder at in omega (arith, level, inside)
 
     -- ---- a folder that lies right in the last one
 
@@ -452,7 +460,7 @@ module _ {V R : Type 0} (finds : List V → Folder → Found V R → Type 0) (ga
       front = sym (ap (λ k. take k start) (ap length cut ∙ sym length_up))
 
       pub place_inside : left.place < length found
-      place_inside = let here = left_here in let level = u.level in let inside = slice_get_within u.below left.place u.last here.at in omega (arith, level, inside)
+      place_inside = let here = left_here in place_within left.place u.last here.at
 
       all_split : values ≡ (take n values ++ values_of u.own (folders_below u.last)) ++ value_of (u.own u.last)
       all_split = sym all_values ∙ ap (λ fs. take n values ++ values_of u.own fs) way_less ∙ ap (λ vs. take n values ++ vs) (values_more u.own (folders_below u.last) u.last) ∙ sym (append_assoc (take n values) (values_of u.own (folders_below u.last)) (value_of (u.own u.last)))
@@ -504,11 +512,6 @@ module _ {V R : Type 0} (finds : List V → Folder → Found V R → Type 0) (ga
       module _ (unvalued : left.has_value ≡ false) where
         none_listed : values ≡ values ++ value_of (u.own u.last)
         none_listed = sym (append-nil values) ∙ ap (λ vs. values ++ vs) (sym (no_value (u.own u.last) (let here = left_here in sym here.listed ∙ unvalued)))
-          where
-            no_value : (one : Found V R) → is_valued one ≡ false → value_of one ≡ []
-            no_value (Open None) none = refl
-            no_value (Open (Some value)) none = absurd (cc)
-            no_value (Refused reason) none = refl
 
         pub leaves_none : AreUnderWay finds gave fits n values (take (last_length rest) start) rest names found
         leaves_none = leaves values none_listed found refl (λ k o is. ⊎_elim

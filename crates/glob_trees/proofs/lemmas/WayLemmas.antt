@@ -8,7 +8,7 @@ use Rattle.glob_trees.specs.Ways.{folder_before, folders_below, folders_from, fo
 
 -- ---- the folders of a text with more behind it
 
-folders_from_more : (front rest more : List ℕ) → folders_from front (rest ++ more) ≡ folders_from front rest ++ folders_from (front ++ rest) more
+pub folders_from_more : (front rest more : List ℕ) → folders_from front (rest ++ more) ≡ folders_from front rest ++ folders_from (front ++ rest) more
 folders_from_more front [] more = ap (λ f. folders_from f more) (sym (append-nil front))
 folders_from_more front (b ∷ rest) more =
     ap (λ fs. folder_before b front ++ fs) (folders_from_more (front ++ b ∷ []) rest more ∙ ap (λ f. folders_from (front ++ b ∷ []) rest ++ folders_from f more) (append_assoc front (b ∷ []) rest))

@@ -1,0 +1,1 @@
+use Rattle.glob_trees.proofs.walk.Walk.forget.Goals as goal
