@@ -25,6 +25,10 @@ module _ {V R : Type 0} where
 abbrev pub FindsOn : {S V R : Type 0} → (S → List V → Folder → Found V R → Type 0) → S → S → Type 0
 FindsOn {S} {V} {R} finds old new = (above : List V) (folder : Folder) (found : Found V R) → finds old above folder found → finds new above folder found
 
+-- what a source showed it shows on
+abbrev pub ShowsOn : {S X : Type 0} → (S → X → Type 0) → S → S → Type 0
+ShowsOn {S} {X} shows old new = (fact : X) → shows old fact → shows new fact
+
 -- Where a walk has gone: the folder entered last, told with a slash at its end, is on the way to a path. The values past the first
 -- `front_count` are those of the folders down to it. Without a reason no folder lies further on the way; with one, the next one is
 -- refused for it.

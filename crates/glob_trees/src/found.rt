@@ -40,7 +40,7 @@ pub trait FolderValues {
     ghost use Rattle.std.specs.Prelude.{◌≡◌, IfOk, List, OnErr, true};
     ghost use Rattle.std.specs.List.{All};
     ghost use Rattle.glob_trees.specs.declared.found.Found.{Found};
-    ghost use Rattle.glob_trees.specs.Walks.{FindsOn, IsOpen, value_of};
+    ghost use Rattle.glob_trees.specs.Walks.{FindsOn, IsOpen, ShowsOn, value_of};
     ghost use Rattle.glob_trees.specs.Ways.{Folder, GivesOnly};
 
     /// What a folder has.
@@ -57,6 +57,11 @@ pub trait FolderValues {
 
     // What a folder may be found to be, given the values that stand before those of all folders and those of the folders above it.
     ghost finds: { Self → List Self.Value → Folder → Found Self.Value Self.Refusal → Type 0 };
+
+    // What the source shows on, whatever it is asked.
+    ghost Fact: { Type 0 };
+
+    ghost shows: { Self → Fact → Type 0 };
 
     // Whether the source was asked for a folder, and it was open, since it was told to forget last. One that keeps no account of it may say
     // so of none: `λ _ _. ⊥`.
@@ -83,6 +88,7 @@ pub trait FolderValues {
         ensures fit { IfOk result (λ found. All fits (value_of found)) }
         ensures holds { holds self.new }
         ensures goes_on { FindsOn finds self.old self.new }
+        ensures shows_on { ShowsOn shows self.old self.new }
         ensures gives { IfOk result (λ found. GivesOnly (λ given. (given ≡ folder.now.bytes) × IsOpen found) (gave self.old) (gave self.new)) }
         ensures fails { OnErr result (GivesOnly (λ _. ⊥) (gave self.old) (gave self.new)) };
 
@@ -94,5 +100,6 @@ pub trait FolderValues {
         requires holds { holds self.old }
         ensures holds { holds self.new }
         ensures goes_on { FindsOn finds self.old self.new }
+        ensures shows_on { ShowsOn shows self.old self.new }
         ensures none { (folder : Folder) → ¬ gave self.new folder };
 }

@@ -1,16 +1,12 @@
 //! What the folders of a work tree are found to be by lists of patterns: ignored, or not, and then they have lists of their own.
-ghost use Rattle.std.specs.Prelude.{◌≡◌, [], OnErr, OnOk, length};
-ghost use Rattle.gix_glob.specs.EntryLists.{entry_list_of};
-ghost use Rattle.glob_lists.specs.Deciding.{HasFolder};
-ghost use Rattle.glob_trees.specs.Private.Trees.{IsFoundIn, IsIfAny, PutsTop};
-ghost use Rattle.glob_trees.specs.Private.Walks.{IsFresh};
-ghost use Rattle.glob_trees.specs.Ways.{GivesOnly};
+ghost use Rattle.std.specs.Prelude.{◌≡◌, [], OnErr, OnOk};
+ghost use Rattle.glob_trees.specs.Private.Trees.{IsIfAny, IsNew, PutsTop};
+ghost use Rattle.glob_trees.specs.Ways.{GivesOnly, GoesOn};
 
 use crate::deciding::ignoring;
 use crate::fault::TreeFault;
 use crate::folders::FolderLists;
 use crate::found::{FolderValues, Found};
-use crate::known::KnownFolders;
 use crate::walk::Walk;
 use gix_glob::search;
 use gix_glob::search::pattern::List;
@@ -34,7 +30,7 @@ pub(crate) struct IgnoreLists<T: search::Pattern, S: FolderLists<T>> {
 impl<T: search::Pattern, S: FolderLists<T>> FolderValues for IgnoreLists<T, S> {
     ghost use Rattle.gix_glob.specs.EntryLists.{entry_list_of};
     ghost use Rattle.glob_lists.specs.Deciding.{HasFolder};
-    ghost use Rattle.glob_trees.specs.Private.Trees.{IsFoundIn};
+    ghost use Rattle.glob_trees.specs.Private.Trees.{Fact, IsFoundIn, ShowsFact};
 
     type Value = PreparedList<T>;
     type Refusal = (usize, usize);
@@ -44,7 +40,11 @@ impl<T: search::Pattern, S: FolderLists<T>> FolderValues for IgnoreLists<T, S> {
 
     ghost finds = { λ lists. IsFoundIn (S.shows T.Seen lists.source) T.seen lists.rules };
 
-    ghost gave = { λ lists folder. S.gave lists.source folder };
+    ghost Fact = { Fact T.Seen };
+
+    ghost shows = { λ lists. ShowsFact (S.shows T.Seen lists.source) lists.rules };
+
+    ghost gave = { λ lists. S.gave lists.source };
 
     ghost holds = { λ _. Unit {0} };
 
@@ -83,9 +83,9 @@ impl<T: search::Pattern, S: FolderLists<T>> FolderValues for IgnoreLists<T, S> {
 pub(crate) fn ask_for_top<T: search::Pattern, S: FolderLists<T>>(
     walk: &mut Walk<IgnoreLists<T, S>>,
 ) -> Result<(), TreeFault<S::Fault>>
-    requires fresh { IsFresh (λ lists. S.gave lists.source) (λ list. HasFolder (entry_list_of T.seen list)) walk.old }
+    requires fresh { IsNew S.gave T.seen walk.old }
     ensures puts { OnOk result (PutsTop (S.shows T.Seen) S.gave T.seen walk.old walk.new) }
-    ensures fresh { OnErr result (IsFresh (λ lists. S.gave lists.source) (λ list. HasFolder (entry_list_of T.seen list)) walk.new) }
+    ensures fresh { OnErr result (IsNew S.gave T.seen walk.new) }
     ensures fails { OnErr result (walk.new.values.items ≡ walk.old.values.items) }
     ensures count { OnErr result (walk.new.front_count ≡ walk.old.front_count) }
     ensures rules { walk.new.source.rules ≡ walk.old.source.rules }

@@ -100,7 +100,7 @@ impl<S: FolderValues> Walk<S> {
         ensures begins { self.new.folder.items ≡ take (length self.new.folder.items) path.now.bytes }
         ensures under { IsUnderWay S.finds S.gave S.fits self.new }
         ensures holds { S.holds self.new.source }
-        ensures keeps { KeepsOn S.finds self.old self.new }
+        ensures keeps { KeepsOn S.finds S.shows self.old self.new }
         ensures asks { GivesOnly (Contains (folders_below self.new.folder.items)) (S.gave self.old.source) (S.gave self.new.source) }
     {
         // most paths lie in the folder of the one before, and the way of these is kept short
@@ -137,7 +137,7 @@ impl<S: FolderValues> Walk<S> {
         ensures begins { self.new.folder.items ≡ take (length self.new.folder.items) path.now.bytes }
         ensures under { IsUnderWay S.finds S.gave S.fits self.new }
         ensures holds { S.holds self.new.source }
-        ensures keeps { KeepsOn S.finds self.old self.new }
+        ensures keeps { KeepsOn S.finds S.shows self.old self.new }
         ensures asks { GivesOnly (Contains (folders_below self.new.folder.items)) (S.gave self.old.source) (S.gave self.new.source) }
     {
         path.begins_with_no_slash();
@@ -163,7 +163,7 @@ impl<S: FolderValues> Walk<S> {
         requires holds { S.holds self.old.source }
         ensures under { IsUnderWay S.finds S.gave S.fits self.new }
         ensures holds { S.holds self.new.source }
-        ensures keeps { KeepsOn S.finds self.old self.new }
+        ensures keeps { KeepsOn S.finds S.shows self.old self.new }
         ensures asks { GivesOnly (λ _. ⊥) (S.gave self.old.source) (S.gave self.new.source) }
     {
         if self.bytes > self.most_bytes {
@@ -178,7 +178,7 @@ impl<S: FolderValues> Walk<S> {
         requires holds { S.holds self.old.source }
         ensures fresh { IsFresh S.gave S.fits self.new }
         ensures holds { S.holds self.new.source }
-        ensures keeps { KeepsOn S.finds self.old self.new }
+        ensures keeps { KeepsOn S.finds S.shows self.old self.new }
     {
         self.values.truncate(self.front_count);
         self.folder.clear();
@@ -195,7 +195,7 @@ impl<S: FolderValues> Walk<S> {
         requires under { IsUnderWay S.finds S.gave S.fits self.old }
         ensures begins { self.new.folder.items ≡ take (length self.new.folder.items) path.now }
         ensures under { IsUnderWay S.finds S.gave S.fits self.new }
-        ensures keeps { KeepsOn S.finds self.old self.new }
+        ensures keeps { KeepsOn S.finds S.shows self.old self.new }
         ensures source { self.new.source ≡ self.old.source }
     {
         let alike = common_length(&self.folder, path);
@@ -212,7 +212,7 @@ impl<S: FolderValues> Walk<S> {
         ensures under { IsUnderWay S.finds S.gave S.fits self.new }
         ensures less { length self.new.folder.items < length self.old.folder.items }
         ensures front { self.new.folder.items ≡ take (length self.new.folder.items) self.old.folder.items }
-        ensures keeps { KeepsOn S.finds self.old self.new }
+        ensures keeps { KeepsOn S.finds S.shows self.old self.new }
         ensures source { self.new.source ≡ self.old.source }
     {
         let Some(left) = self.way.pop() else {
@@ -262,7 +262,7 @@ impl<S: FolderValues> Walk<S> {
         ensures stays { OnErr result (HasStayed S.gave self.old self.new) }
         ensures under { IsUnderWay S.finds S.gave S.fits self.new }
         ensures holds { S.holds self.new.source }
-        ensures keeps { KeepsOn S.finds self.old self.new }
+        ensures keeps { KeepsOn S.finds S.shows self.old self.new }
         ensures asks { GivesOnly (Contains (folders_below self.new.folder.items)) (S.gave self.old.source) (S.gave self.new.source) }
     {
         let place = self.place_of(folder)?;
@@ -283,7 +283,7 @@ impl<S: FolderValues> Walk<S> {
         ensures stays { OnErr result (HasStayed S.gave self.old self.new) }
         ensures under { IsUnderWay S.finds S.gave S.fits self.new }
         ensures holds { S.holds self.new.source }
-        ensures keeps { KeepsOn S.finds self.old self.new }
+        ensures keeps { KeepsOn S.finds S.shows self.old self.new }
         ensures asks { IfOk result (λ place. GivesOnly (λ given. (given ≡ folder.now.bytes) × IsOpenAt self.new place) (S.gave self.old.source) (S.gave self.new.source)) }
         ensures fails { OnErr result (GivesOnly (λ _. ⊥) (S.gave self.old.source) (S.gave self.new.source)) }
     {
@@ -324,7 +324,7 @@ impl<S: FolderValues> Walk<S> {
         ensures source { OnOk result (self.new.source ≡ self.old.source) }
         ensures forgot { OnErr result (IsFresh S.gave S.fits self.new) }
         ensures holds { S.holds self.new.source }
-        ensures keeps { KeepsOn S.finds self.old self.new }
+        ensures keeps { KeepsOn S.finds S.shows self.old self.new }
     {
         match self.add(folder, found) {
             Ok(place) => Ok(place),
@@ -382,7 +382,7 @@ impl<S: FolderValues> Walk<S> {
         ensures source { OnOk result (self.new.source ≡ self.old.source) }
         ensures forgot { OnErr result (IsFresh S.gave S.fits self.new) }
         ensures holds { S.holds self.new.source }
-        ensures keeps { KeepsOn S.finds self.old self.new }
+        ensures keeps { KeepsOn S.finds S.shows self.old self.new }
     {
         if let Found::Refused(reason) = &self.found[place] {
             return Ok(Some(*reason));
@@ -406,7 +406,7 @@ impl<S: FolderValues> Walk<S> {
         requires opened { IsOpenAt self.old place }
         ensures under { OnOk result (IsUnderWay S.finds S.gave S.fits self.new) }
         ensures folder { OnOk result (self.new.folder.items ≡ folder.now ++ slash ∷ []) }
-        ensures keeps { OnOk result (KeepsOn S.finds self.old self.new) }
+        ensures keeps { OnOk result (KeepsOn S.finds S.shows self.old self.new) }
         ensures source { self.new.source ≡ self.old.source }
         ensures fails { OnErr result (HasSameFronts self.old self.new) }
     {

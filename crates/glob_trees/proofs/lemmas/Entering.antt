@@ -1,217 +1,261 @@
--- Folders that are entered and left: their lists stay those of the folders on the way, and none of the folders is ignored.
-use Rattle.std.proofs.Common.{◌≡◌, ◌⊎◌, inl, inr, ⊎_elim, ℕ, ◌<◌, ◌≤◌, List, [], ◌∷◌, ◌++◌, length, drop, None, Some, refl, sym, ap, subst, ◌∙◌, append_assoc, append-nil, length-append, length-drop, arith}
-use Rattle.std.specs.Prelude.{All}
-use Rattle.std.specs.List.{AllZip}
-use Rattle.std.proofs.Math.Seq.{drop-append_seam, drop-length, take-append_seam}
-use Rattle.std.proofs.lemmas.List.{drop-append-le}
-use Rattle.std.proofs.lemmas.List.Elements.{All-push, All-take}
+-- Folders that are entered: their lists are those of the folders on the way, and none of the folders is ignored.
+use Rattle.std.proofs.Common.{◌≡◌, ◌≢◌, ◌⊎◌, inl, inr, ⊎_elim, ℕ, ◌<◌, ◌≤◌, List, [], ◌∷◌, ◌++◌, length, map, take, drop, Option, None, Some, refl, sym, ap, subst, ◌∙◌, append_assoc, append-nil, length-append, arith}
+use Rattle.std.specs.Option.{option_to_list}
+use Rattle.std.specs.List.{All, AllByRecursion, AllZip, Contains}
+use Rattle.std.proofs.lemmas.Bool.{cases_eq}
+use Rattle.std.proofs.lemmas.List.{append_cancel_left, drop-map, map-append, take-append-drop}
+use Rattle.std.proofs.lemmas.List.Elements.{Contains-append_cases, Contains-append_left, Contains-append_right, Contains-push, Contains-push_cases}
 use Rattle.std.proofs.lemmas.Option.{same_Some}
 use Rattle.glob_lists.specs.declared.rules.Rules.{Rules}
-use Rattle.gix_glob.specs.Bytes.{slash}
-use Rattle.gix_glob.specs.EntryLists.{EntryList}
+use Rattle.gix_glob.specs.declared.search.pattern.list.List as patterns
+use Rattle.gix_glob.specs.Bytes.{HasByte, slash}
+use Rattle.gix_glob.specs.EntryLists.{EntryList, entry_list_of}
 use Rattle.gix_glob.specs.Stripping.{NothingLeft}
-use Rattle.glob_lists.specs.Deciding.{BasesAreFolders, HasFolder}
-use Rattle.glob_trees.specs.Private.Entered.{AreEntered}
-use Rattle.glob_trees.specs.Trees.{HasNoneIgnored, Ignores, IsAbove}
-use Rattle.glob_trees.specs.Ways.{Folder, IsListOf, base_of_folder, folders_to, start_of, unless_empty, with_entries}
+use Rattle.glob_lists.specs.Deciding.{HasFolder}
+use Rattle.glob_trees.specs.declared.found.Found.{Found}
+use Rattle.glob_trees.specs.declared.found.Found.TheVariants.{Open, Refused}
+use Rattle.glob_trees.specs.Private.Trees.{IsFoundIn}
+use Rattle.glob_trees.specs.Trees.{HasNoneIgnored, Ignores, IsAbove, IsBelowIgnored}
+use Rattle.glob_trees.specs.Walks.{AreOpen, HasGone, IsOpen, value_of}
+use Rattle.glob_trees.specs.Ways.{AreOnTheWay, Folder, IsAskedFor, IsListOf, base_of_folder, folders_below, folders_from, folders_to, unless_empty, with_entries}
 use Rattle.glob_trees.proofs.lemmas.Emptied.{nothing_left_shorter}
-use Rattle.glob_trees.proofs.lemmas.Folders.{above_above, above_is_shorter}
-use Rattle.glob_trees.proofs.lemmas.OneMore.{ignores_less, ignores_more}
-use Rattle.glob_trees.proofs.lemmas.WayLemmas.{HasLastFolder, above_more, folders_other, folders_slash, last_folder, last_same, zip_last, zip_more}
-use Rattle.glob_trees.proofs.lemmas.WithEntries.{empty_or_not, with_entries_more}
+use Rattle.glob_trees.proofs.lemmas.Folders.{above_above}
+use Rattle.glob_trees.proofs.lemmas.OneMore.{ignores_less}
+use Rattle.glob_trees.proofs.lemmas.OneWay.{longer_from}
+use Rattle.glob_trees.proofs.lemmas.OnWay.{none_contained, on_way_is_above}
+use Rattle.glob_trees.proofs.lemmas.Stepping.{joined_at}
+use Rattle.glob_trees.proofs.lemmas.Walks.{above_are_before}
+use Rattle.glob_trees.proofs.lemmas.WayLemmas.{above_more, before_other, folders_from_more}
+use Rattle.glob_trees.proofs.lemmas.WithEntries.{empty_or_not}
 
 none_is_some : {L : Type 0} (list : L) → ¬ (None ≡ Some list)
 none_is_some list is = absurd (cc)
 
--- ---- a list more, where it has entries
-
-module _ {V : Type 0} (lists : List (EntryList V)) (list : EntryList V) where
-  pub bases_more : BasesAreFolders lists → HasFolder list → BasesAreFolders (lists ++ unless_empty list)
-  bases_more bases folder = ⊎_elim
-      (λ (none : unless_empty list ≡ []). subst (λ ls. BasesAreFolders (lists ++ ls)) (sym none) (subst BasesAreFolders (sym (append-nil lists)) bases))
-      (λ (some : unless_empty list ≡ list ∷ []). subst (λ ls. BasesAreFolders (lists ++ ls)) (sym some) (All-push HasFolder lists list bases folder))
-      (empty_or_not list)
-
-  bases_less : BasesAreFolders (lists ++ unless_empty list) → BasesAreFolders lists
-  bases_less bases = subst (All HasFolder) (take-append_seam lists (unless_empty list)) (All-take HasFolder (length lists) (lists ++ unless_empty list) bases)
-
-  module _ (rules : Rules) (path : List ℕ) (nothing : NothingLeft rules.case list.base path) (pair : ℕ × ℕ) where
-    pub ignores_with : Ignores lists rules path pair → Ignores (lists ++ unless_empty list) rules path pair
-    ignores_with ignored = ⊎_elim
-        (λ (none : unless_empty list ≡ []). subst (λ ls. Ignores (lists ++ ls) rules path pair) (sym none) (subst (λ ls. Ignores ls rules path pair) (sym (append-nil lists)) ignored))
-        (λ (some : unless_empty list ≡ list ∷ []). subst (λ ls. Ignores (lists ++ ls) rules path pair) (sym some) (ignores_more lists list rules path nothing pair ignored))
-        (empty_or_not list)
-
-    pub ignores_without : Ignores (lists ++ unless_empty list) rules path pair → Ignores lists rules path pair
-    ignores_without ignored = ⊎_elim
-        (λ (none : unless_empty list ≡ []). subst (λ ls. Ignores ls rules path pair) (append-nil lists) (subst (λ ls. Ignores (lists ++ ls) rules path pair) none ignored))
-        (λ (some : unless_empty list ≡ list ∷ []). ignores_less lists list rules path nothing pair (subst (λ ls. Ignores (lists ++ ls) rules path pair) some ignored))
-        (empty_or_not list)
-
--- what ends alike begins alike
-pub front_same : {X : Type 0} (xs ys : List X) (x : X) (ends : List X) → (ends ≡ []) ⊎ (ends ≡ x ∷ []) → xs ++ ends ≡ ys ++ ends → xs ≡ ys
-front_same xs ys x ends (inl none) same = sym (append-nil xs) ∙ subst (λ l. xs ++ l ≡ ys ++ l) none same ∙ append-nil ys
-front_same xs ys x ends (inr some) same = (last_same xs ys x x (subst (λ l. xs ++ l ≡ ys ++ l) some same)).0
-
--- ---- a byte more
-
-module _ {V : Type 0} (shows : Folder → EntryList V → Type 0) (rules : Rules) (lists : List (EntryList V)) (front : List ℕ) where
-  pub none_more : (b : ℕ) → HasNoneIgnored lists rules front → ((pair : ℕ × ℕ) → ¬ Ignores lists rules front pair) → HasNoneIgnored lists rules (front ++ b ∷ [])
-  none_more b none kept folder pair above ignored = ⊎_elim
-      (λ (here : (folder ≡ front) × (b ≡ slash)). kept pair (subst (λ f. Ignores lists rules f pair) here.0 ignored))
-      (λ (higher : IsAbove folder front). none folder pair higher ignored)
-      (above_more folder front b above)
-
-  pub entered_byte : (n b : ℕ) (own : List (EntryList V)) → ¬ (b ≡ slash) → AreEntered shows n lists rules front own → AreEntered shows n lists rules (front ++ b ∷ []) own
-  entered_byte n b own other e = record {
-    many = e.many;
-    bases = e.bases;
-    shown = subst (λ fs. AllZip (IsListOf shows) fs own) (sym (folders_other front b other)) e.shown;
-    standing = e.standing;
-    none = λ folder pair above ignored. ⊎_elim
-        (λ (here : (folder ≡ front) × (b ≡ slash)). other here.1)
-        (λ (higher : IsAbove folder front). e.none folder pair higher ignored)
-        (above_more folder front b above);
-  }
-
-module _ {V : Type 0} (shows : Folder → EntryList V → Type 0) (rules : Rules) (n : ℕ) where
-  -- a path that begins with a slash enters no folder there
-  pub entered_slash : (lists own : List (EntryList V)) → AreEntered shows n lists rules [] own → ((pair : ℕ × ℕ) → ¬ Ignores lists rules [] pair) → AreEntered shows n lists rules (slash ∷ []) own
-  entered_slash lists own e kept = record {
-    many = e.many;
-    bases = e.bases;
-    shown = e.shown;
-    standing = e.standing;
-    none = none_more shows rules lists [] slash e.none kept;
-  }
-
-  -- ---- a folder more
-
-  is_folder : (folder : Folder) (list : EntryList V) → IsListOf shows folder list → HasFolder list
+module _ {V : Type 0} (shows : Folder → EntryList V → Type 0) where
+  pub is_folder : (folder : Folder) (list : EntryList V) → IsListOf shows folder list → HasFolder list
   is_folder [] list of = λ base is. absurd (none_is_some base (sym of.based ∙ is))
   is_folder (x ∷ xs) list of = λ base is. inr (record { front = x ∷ xs; joined = same_Some base ((x ∷ xs) ++ slash ∷ []) (sym is ∙ of.based) })
 
-  stands_more : (lists own : List (EntryList V)) (list : EntryList V) → n ≤ length lists → drop n lists ≡ with_entries own → drop n (lists ++ unless_empty list) ≡ with_entries (own ++ list ∷ [])
-  stands_more lists own list many standing =
-      drop-append-le n lists (unless_empty list) many ∙ ap (λ ls. ls ++ unless_empty list) standing ∙ sym (with_entries_more own list)
+  -- the list of a folder that isn't above a path says nothing of it
+  nothing_below : (rules : Rules) (folder : Folder) (list : EntryList V) (top : List ℕ) → IsListOf shows folder list → length top ≤ length folder → ¬ (folder ≡ []) → NothingLeft rules.case list.base top
+  nothing_below rules [] list top of long some = absurd (some refl)
+  nothing_below rules (x ∷ xs) list top of long some =
+      subst (λ b. NothingLeft rules.case b top) (sym of.based) (nothing_left_shorter rules.case ((x ∷ xs) ++ slash ∷ []) top (omega (arith, long, length-append (x ∷ xs) (slash ∷ []))))
 
-  pub entered_folder : (lists own : List (EntryList V)) (x : ℕ) (xs : List ℕ) (list : EntryList V) → AreEntered shows n lists rules (x ∷ xs) own → ((pair : ℕ × ℕ) → ¬ Ignores lists rules (x ∷ xs) pair) → IsListOf shows (x ∷ xs) list
-      → AreEntered shows n (lists ++ unless_empty list) rules ((x ∷ xs) ++ slash ∷ []) (own ++ list ∷ [])
-  entered_folder lists own x xs list e kept of =
-      let many = e.many in
-      record {
-        many = omega (arith, length-append lists (unless_empty list));
-        bases = bases_more lists list e.bases (is_folder (x ∷ xs) list of);
-        shown = subst (λ fs. AllZip (IsListOf shows) fs (own ++ list ∷ [])) (sym (folders_slash x xs)) (zip_more (IsListOf shows) (folders_to (x ∷ xs)) own (x ∷ xs) list e.shown of);
-        standing = stands_more lists own list e.many e.standing;
-        none = λ folder pair above ignored.
-            let shorter = above_is_shorter folder ((x ∷ xs) ++ slash ∷ []) above in
-            let nothing : NothingLeft rules.case list.base folder = subst (λ b. NothingLeft rules.case b folder) (sym of.based) (nothing_left_shorter rules.case ((x ∷ xs) ++ slash ∷ []) folder shorter) in
-            none_more shows rules lists (x ∷ xs) slash e.none kept folder pair above (ignores_without lists list rules folder nothing pair ignored);
-      }
+-- ---- folders on a way: each is no shorter than those before it
 
-  -- the top, past the lists that stand before all folders
-  pub entered_top : (lists : List (EntryList V)) (list : EntryList V) → length lists ≡ n → BasesAreFolders lists → IsListOf shows [] list → AreEntered shows n (lists ++ unless_empty list) rules [] (list ∷ [])
-  entered_top lists list count bases of =
-      let past : drop n lists ≡ [] = subst (λ k. drop k lists ≡ []) count (drop-length lists) in
-      record {
-        many = omega (arith, length-append lists (unless_empty list), count);
-        bases = bases_more lists list bases (is_folder [] list of);
-        shown = (of, tt);
-        standing = stands_more lists [] list (omega (arith, count)) past;
-        none = λ folder pair above ignored. let shorter = above_is_shorter folder [] above in omega (arith);
-      }
+abbrev Deepens : List Folder → Type 0
+Deepens [] = Unit {0}
+Deepens (folder ∷ folders) = ((other : Folder) → Contains folders other → length folder ≤ length other) × Deepens folders
 
--- ---- the last folder
+deepens_from : (x : ℕ) (xs rest : List ℕ) → Deepens (folders_from (x ∷ xs) rest)
+deepens_from x xs [] = tt
+deepens_from x xs (b ∷ rest) = ⊎_elim
+    (λ (here : b ≡ slash).
+    subst (λ c. Deepens (folders_from (x ∷ xs) (c ∷ rest))) (sym here)
+    (λ other has. let long = longer_from ((x ∷ xs) ++ slash ∷ []) rest other has in omega (arith, long, length-append (x ∷ xs) (slash ∷ [])),
+    deepens_from x (xs ++ slash ∷ []) rest))
+    (λ (other : b ≡ slash → ⊥). subst (λ fs. Deepens (fs ++ folders_from ((x ∷ xs) ++ b ∷ []) rest)) (sym (before_other b (x ∷ xs) other)) (deepens_from x (xs ++ b ∷ []) rest))
+    (cases_eq b slash)
 
--- a last folder that isn't the top
-is_last : (front : List ℕ) (fs : List Folder) (f : Folder) → folders_to front ≡ fs ++ f ∷ [] → (f ≡ []) ⊎ ((h : HasLastFolder front) × (f ≡ (h.first ∷ h.more)) × (fs ≡ folders_to (h.first ∷ h.more)))
-is_last front fs f listed = ⊎_elim
-    (λ (only : folders_to front ≡ [] ∷ []). inl (last_same fs [] f [] (sym listed ∙ only)).1)
-    (λ (h : HasLastFolder front). let same = last_same fs (folders_to (h.first ∷ h.more)) f (h.first ∷ h.more) (sym listed ∙ h.listed) in inr (h, same.1, same.0))
-    (last_folder front)
+deepens : (path : List ℕ) → Deepens (folders_below path)
+deepens [] = tt
+deepens (b ∷ rest) = deepens_from b [] rest
 
-module _ {V : Type 0} (shows : Folder → EntryList V → Type 0) (rules : Rules) (n : ℕ) (front : List ℕ) (fs : List Folder) (f : Folder) (listed : folders_to front ≡ fs ++ f ∷ []) where
-  -- the last folder is left
-  module _ (lists own : List (EntryList V)) (list : EntryList V) (e : AreEntered shows n (lists ++ unless_empty list) rules front (own ++ list ∷ [])) where
-    few_at : (ends : List (EntryList V)) → (ends ≡ []) ⊎ (ends ≡ list ∷ []) → unless_empty list ≡ ends → n ≤ length lists
-    few_at ends (inl none) is = let many = e.many in omega (arith, length-append lists (unless_empty list), ap length (is ∙ none))
-    few_at ends (inr some) is =
-        let many = e.many in
-        omega (arith, length-append lists (unless_empty list), ap length (is ∙ some), length-drop n (lists ++ unless_empty list), ap length (e.standing ∙ with_entries_more own list), length-append (with_entries own) (unless_empty list))
+pub below_top : (path : List ℕ) (folder : Folder) → Contains (folders_below path) folder → folder ≢ []
+below_top [] folder has none = none_contained folder has
+below_top (b ∷ rest) folder has none = let long = longer_from (b ∷ []) rest folder has in omega (arith, long, ap length none)
 
-    few : n ≤ length lists
-    few = few_at (unless_empty list) (empty_or_not list) refl
+-- each folder above a path but the top is on the way to it
+on_way_to : (folder path : List ℕ) → IsAbove folder path → ¬ (folder ≡ []) → Contains (folders_below path) folder
+on_way_to [] path above some = absurd (some refl)
+on_way_to (x ∷ xs) path above some =
+    let all = ap folders_below above.1 ∙ folders_from_more (x ∷ []) xs (slash ∷ above.0) in
+    subst (λ fs. Contains fs (x ∷ xs)) (sym all)
+    (Contains-append_right (folders_from (x ∷ []) xs) ((x ∷ xs) ∷ folders_from ((x ∷ xs) ++ slash ∷ []) above.0) (x ∷ xs) (Contains-append_left ((x ∷ xs) ∷ []) (folders_from ((x ∷ xs) ++ slash ∷ []) above.0) (x ∷ xs) (Contains-push [] (x ∷ xs))))
 
-    left_deep : (h : HasLastFolder front) → f ≡ (h.first ∷ h.more) → fs ≡ folders_to (h.first ∷ h.more) → AreEntered shows n lists rules f own
-    left_deep h is above =
-        let zips = zip_last (IsListOf shows) (folders_to front) own list e.shown in
-        let same = last_same fs zips.init f zips.last (sym listed ∙ zips.joined) in
-        let of : IsListOf shows f list = subst (λ g. IsListOf shows g list) (sym same.1) zips.here in
-        let deep : IsAbove f front = subst (λ g. IsAbove g front) (sym is) h.above in
-        let base : list.base ≡ Some ((h.first ∷ h.more) ++ slash ∷ []) = of.based ∙ ap base_of_folder is in
-        record {
-          many = few;
-          bases = bases_less lists list e.bases;
-          shown = subst (λ gs. AllZip (IsListOf shows) gs own) (sym same.0 ∙ above ∙ ap folders_to (sym is)) zips.zip;
-          standing = front_same (drop n lists) (with_entries own) list (unless_empty list) (empty_or_not list) (sym (drop-append-le n lists (unless_empty list) few) ∙ e.standing ∙ with_entries_more own list);
-          none = λ folder pair higher ignored.
-              let shorter : length folder < length ((h.first ∷ h.more) ++ slash ∷ []) = let less = above_is_shorter folder f higher in omega (arith, ap length is, length-append (h.first ∷ h.more) (slash ∷ [])) in
-              let nothing : NothingLeft rules.case list.base folder = subst (λ b. NothingLeft rules.case b folder) (sym base) (nothing_left_shorter rules.case ((h.first ∷ h.more) ++ slash ∷ []) folder shorter) in
-              e.none folder pair (above_above folder f front higher deep) (ignores_with lists list rules folder nothing pair ignored);
-        }
+-- ---- lists of which a base leaves nothing of a path
 
-    pub entered_left : ¬ (f ≡ []) → (AreEntered shows n lists rules f own) × (folders_to f ≡ fs)
-    entered_left some = ⊎_elim
-        (λ (none : f ≡ []). absurd (some none))
-        (λ (deep : (h : HasLastFolder front) × (f ≡ (h.first ∷ h.more)) × (fs ≡ folders_to (h.first ∷ h.more))). (left_deep deep.0 deep.1 deep.2, ap folders_to deep.1 ∙ sym deep.2))
-        (is_last front fs f listed)
+all_append : {X : Type 0} (P : X → Type 0) (xs ys : List X) → AllByRecursion P xs → AllByRecursion P ys → AllByRecursion P (xs ++ ys)
+all_append P [] ys first next = next
+all_append P (x ∷ xs) ys first next = (first.0, all_append P xs ys first.1 next)
 
-  -- the last folder stays: what lies right in it begins with the folder and a slash
-  stays_deep : (lists own : List (EntryList V)) → AreEntered shows n lists rules front own → (h : HasLastFolder front) → f ≡ (h.first ∷ h.more) → AreEntered shows n lists rules (start_of f) own × (folders_to (start_of f) ≡ folders_to front)
-  stays_deep lists own e h is =
-      let starts : start_of f ≡ (h.first ∷ h.more) ++ slash ∷ [] = ap start_of is in
-      let same : folders_to (start_of f) ≡ folders_to front = ap folders_to starts ∙ folders_slash h.first h.more ∙ sym h.listed in (
-        record {
-          many = e.many;
-          bases = e.bases;
-          shown = subst (λ gs. AllZip (IsListOf shows) gs own) (sym same) e.shown;
-          standing = e.standing;
-          none = λ folder pair above ignored. ⊎_elim
-              (λ (here : (folder ≡ (h.first ∷ h.more)) × (slash ≡ slash)). e.none (h.first ∷ h.more) pair h.above (subst (λ g. Ignores lists rules g pair) here.0 ignored))
-              (λ (higher : IsAbove folder (h.first ∷ h.more)). e.none folder pair (above_above folder (h.first ∷ h.more) front higher h.above) ignored)
-              (above_more folder (h.first ∷ h.more) slash (subst (IsAbove folder) starts above));
-        },
-        same,
-      )
+module _ {V : Type 0} (rules : Rules) (top : List ℕ) where
+  abbrev SaysNothing : EntryList V → Type 0
+  SaysNothing list = NothingLeft rules.case list.base top
 
-  stays_top : (lists own : List (EntryList V)) → AreEntered shows n lists rules front own → f ≡ [] → fs ≡ [] → AreEntered shows n lists rules (start_of f) own × (folders_to (start_of f) ≡ folders_to front)
-  stays_top lists own e is above =
-      let starts : start_of f ≡ [] = ap start_of is in
-      let same : folders_to (start_of f) ≡ folders_to front = ap folders_to starts ∙ sym (listed ∙ ap (λ gs. gs ++ f ∷ []) above ∙ ap (λ g. g ∷ []) is) in (
-        record {
-          many = e.many;
-          bases = e.bases;
-          shown = subst (λ gs. AllZip (IsListOf shows) gs own) (sym same) e.shown;
-          standing = e.standing;
-          none = λ folder pair above ignored. let shorter = above_is_shorter folder [] (subst (IsAbove folder) starts above) in omega (arith);
-        },
-        same,
-      )
+  if_says_nothing : (list : EntryList V) → SaysNothing list → AllByRecursion SaysNothing (unless_empty list)
+  if_says_nothing list nothing = ⊎_elim
+      (λ (none : unless_empty list ≡ []). subst (AllByRecursion SaysNothing) (sym none) tt)
+      (λ (some : unless_empty list ≡ list ∷ []). subst (AllByRecursion SaysNothing) (sym some) (nothing, tt))
+      (empty_or_not list)
 
-  pub entered_stays : (lists own : List (EntryList V)) → AreEntered shows n lists rules front own → AreEntered shows n lists rules (start_of f) own × (folders_to (start_of f) ≡ folders_to front)
-  entered_stays lists own e = ⊎_elim
-      (λ (only : folders_to front ≡ [] ∷ []). let same = last_same fs [] f [] (sym listed ∙ only) in stays_top lists own e same.1 same.0)
-      (λ (h : HasLastFolder front). stays_deep lists own e h (last_same fs (folders_to (h.first ∷ h.more)) f (h.first ∷ h.more) (sym listed ∙ h.listed)).1)
-      (last_folder front)
+  without : (lists more : List (EntryList V)) (pair : ℕ × ℕ) → AllByRecursion SaysNothing more → Ignores (lists ++ more) rules top pair → Ignores lists rules top pair
+  without lists [] pair nothing ignored = subst (λ ls. Ignores ls rules top pair) (append-nil lists) ignored
+  without lists (list ∷ more) pair nothing ignored =
+      ignores_less lists list rules top nothing.0 pair (without (lists ++ list ∷ []) more pair nothing.1 (subst (λ ls. Ignores ls rules top pair) (sym (append_assoc lists (list ∷ []) more)) ignored))
 
--- what lies in a folder begins with it and a slash, and then has its name there
-pub name_follows : (front : List ℕ) (fs : List Folder) (f : Folder) → folders_to front ≡ fs ++ f ∷ [] → start_of f ++ drop (length (start_of f)) front ≡ front
-name_follows front fs f listed = ⊎_elim
-    (λ (none : f ≡ []). ap (λ g. start_of g ++ drop (length (start_of g)) front) none)
-    (λ (deep : (h : HasLastFolder front) × (f ≡ (h.first ∷ h.more)) × (fs ≡ folders_to (h.first ∷ h.more))).
-    let h = deep.0 in
-    let below = h.above.0 in
-    let joined : front ≡ start_of f ++ below = h.above.1 ∙ sym (append_assoc (h.first ∷ h.more) (slash ∷ []) below) ∙ ap (λ g. start_of g ++ below) (sym deep.1) in
-    ap (λ t. start_of f ++ drop (length (start_of f)) t) joined ∙ ap (λ t. start_of f ++ t) (drop-append_seam (start_of f) below) ∙ sym joined)
-    (is_last front fs f listed)
+-- ---- folders that are open
+
+module _ {T X V : Type 0} (shows : Folder → EntryList V → Type 0) (seen : X → V) (rules : Rules) where
+  abbrev lists_of : List (patterns.List T X) → List (EntryList V)
+  lists_of values = map (entry_list_of seen) values
+
+  abbrev Finds : List (patterns.List T X) → Folder → Found (patterns.List T X) (ℕ × ℕ) → Type 0
+  Finds = IsFoundIn shows seen rules
+
+  viewed : (kept : Option (patterns.List T X)) (rest values : List (patterns.List T X)) (list : EntryList V) → values ≡ option_to_list kept ++ rest → lists_of (option_to_list kept) ≡ unless_empty list → lists_of values ≡ unless_empty list ++ lists_of rest
+  viewed kept rest values list is view = ap lists_of is ∙ map-append (entry_list_of seen) (option_to_list kept) rest ∙ ap (λ ls. ls ++ lists_of rest) view
+
+  nothing_of : (above : List (patterns.List T X)) (folders : List Folder) (values : List (patterns.List T X)) (top : List ℕ) → AreOpen Finds above folders values → ((folder : Folder) → Contains folders folder → (length top ≤ length folder) × ¬ (folder ≡ []))
+      → AllByRecursion (SaysNothing rules top) (lists_of values)
+  nothing_of above [] values top none deeper = subst (λ vs. AllByRecursion (SaysNothing rules top) (lists_of vs)) (sym none) tt
+  nothing_of above (folder ∷ folders) values top (Refused pair, shut, found, rest, is, more) deeper = absurd shut
+  nothing_of above (folder ∷ folders) values top (Open kept, opened, found, rest, is, more) deeper =
+      let list = found.1.0 in
+      let here = deeper folder (Contains-append_left (folder ∷ []) folders folder (Contains-push [] folder)) in
+      subst (AllByRecursion (SaysNothing rules top)) (sym (viewed kept rest values list is found.1.2))
+      (all_append (SaysNothing rules top) (unless_empty list) (lists_of rest) (if_says_nothing rules top list (nothing_below shows rules folder list top found.1.1 here.0 here.1))
+      (nothing_of (above ++ option_to_list kept) folders rest top more (λ other has. deeper other (Contains-append_right (folder ∷ []) folders other has))))
+
+  -- none of them is ignored by all lists
+  none_ignored : (above : List (patterns.List T X)) (folders : List Folder) (values : List (patterns.List T X)) → AreOpen Finds above folders values → Deepens folders → ((folder : Folder) → Contains folders folder → ¬ (folder ≡ []))
+      → (folder : Folder) → Contains folders folder → (pair : ℕ × ℕ) → ¬ Ignores (lists_of (above ++ values)) rules folder pair
+  none_ignored above [] values none deep some folder has pair ignored = none_contained folder has
+  none_ignored above (f ∷ folders) values (Refused reason, shut, found, rest, is, more) deep some folder has pair ignored = absurd shut
+  none_ignored above (f ∷ folders) values (Open kept, opened, found, rest, is, more) deep some folder has pair ignored = ⊎_elim
+      (λ (first : Contains (f ∷ []) folder). ⊎_elim
+      (λ (none : Contains [] folder). none_contained folder none)
+      (λ (same : f ≡ folder).
+      found.0 pair (without rules f (lists_of above) (lists_of values) pair
+      (nothing_of above (f ∷ folders) values f (Open kept, opened, found, rest, is, more) (λ other among. (as_long other among, some other among)))
+      (subst (λ ls. Ignores ls rules f pair) (map-append (entry_list_of seen) above values) (subst (λ g. Ignores (lists_of (above ++ values)) rules g pair) (sym same) ignored))))
+      (Contains-push_cases [] f folder first))
+      (λ (later : Contains folders folder).
+      none_ignored (above ++ option_to_list kept) folders rest more deep.1 (λ other among. some other (Contains-append_right (f ∷ []) folders other among)) folder later pair
+      (subst (λ vs. Ignores (lists_of vs) rules folder pair) (ap (λ vs. above ++ vs) is ∙ sym (append_assoc above (option_to_list kept) rest)) ignored))
+      (Contains-append_cases (f ∷ []) folders folder has)
+    where
+      as_long : (other : Folder) → Contains (f ∷ folders) other → length f ≤ length other
+      as_long other among = ⊎_elim
+          (λ (first : Contains (f ∷ []) other). ⊎_elim
+          (λ (none : Contains [] other). absurd (none_contained other none))
+          (λ (same : f ≡ other). omega (arith, ap length same))
+          (Contains-push_cases [] f other first))
+          (λ (later : Contains folders other). deep.0 other later)
+          (Contains-append_cases (f ∷ []) folders other among)
+
+  -- their lists
+  record HasOwn (folders : List Folder) (values : List (patterns.List T X)) : Type 0 where
+    own : List (EntryList V)
+    shown : AllZip (IsListOf shows) folders own
+    standing : lists_of values ≡ with_entries own
+
+  has_own : (above : List (patterns.List T X)) (folders : List Folder) (values : List (patterns.List T X)) → AreOpen Finds above folders values → HasOwn folders values
+  has_own above [] values none = record { own = []; shown = tt; standing = ap lists_of none }
+  has_own above (folder ∷ folders) values (Refused reason, shut, found, rest, is, more) = absurd shut
+  has_own above (folder ∷ folders) values (Open kept, opened, found, rest, is, more) =
+      let list = found.1.0 in
+      let next = has_own (above ++ option_to_list kept) folders rest more in
+      record { own = list ∷ next.own; shown = (found.1.1, next.shown); standing = viewed kept rest values list is found.1.2 ∙ ap (λ ls. unless_empty list ++ ls) next.standing }
+
+  -- ---- what a walk that has gone to a path says of it: the list of the top, and so many before it, stand before those of the other folders
+
+  module _ (front_count n : ℕ) (values kept : List (patterns.List T X)) (list : EntryList V) (of : IsListOf shows [] list) (fronts : take n values ≡ take front_count values ++ kept) (listed : lists_of kept ≡ unless_empty list)
+      (start path : List ℕ) (begins : start ≡ take (length start) path) (relative : ¬ HasByte path 0 slash) (opened : AreOpen Finds (take n values) (folders_below start) (drop n values)) where
+    not_top : (text : List ℕ) → ((rest : List ℕ) → text ++ rest ≡ path → (folder : Folder) → IsAbove folder text → ¬ (folder ≡ []))
+    not_top text rest joined folder above none =
+        let is : path ≡ slash ∷ (above.0 ++ rest) = sym joined ∙ ap (λ t. t ++ rest) above.1 ∙ ap (λ f. (f ++ slash ∷ above.0) ++ rest) none in
+        relative (subst (λ p. HasByte p 0 slash) (sym is) (record { inside = omega arith; is = refl }))
+
+    all_path : start ++ drop (length start) path ≡ path
+    all_path = joined_at start path begins
+
+    unignored : (folder : Folder) → Contains (folders_below start) folder → (pair : ℕ × ℕ) → ¬ Ignores (lists_of values) rules folder pair
+    unignored folder has pair ignored =
+        none_ignored (take n values) (folders_below start) (drop n values) opened (deepens start) (below_top start) folder has pair
+        (subst (λ vs. Ignores (lists_of vs) rules folder pair) (sym (take-append-drop n values)) ignored)
+
+    none_above : HasNoneIgnored (lists_of values) rules start
+    none_above folder pair above ignored = unignored folder (on_way_to folder start above (not_top start (drop (length start) path) all_path folder above)) pair ignored
+
+    above_path : (folder : Folder) → IsAbove folder start → IsAbove folder path
+    above_path folder above = (above.0 ++ drop (length start) path, sym all_path ∙ ap (λ t. t ++ drop (length start) path) above.1 ∙ append_assoc folder (slash ∷ above.0) (drop (length start) path))
+
+    none_with : (folder : Folder) → IsAbove folder start → HasNoneIgnored (lists_of values) rules (folder ++ slash ∷ [])
+    none_with folder above other pair high ignored = ⊎_elim
+        (λ (here : (other ≡ folder) × (slash ≡ slash)). none_above other pair (subst (λ f. IsAbove f start) (sym here.0) above) ignored)
+        (λ (higher : IsAbove other folder). none_above other pair (above_above other folder start higher above) ignored)
+        (above_more other folder slash high)
+
+    -- a folder on the way was asked for by the path
+    pub is_asked : (folder : Folder) → Contains (folders_below start) folder → IsAskedFor (lists_of values) rules path folder
+    is_asked folder has = ⊎_elim
+        (λ (top : folder ≡ []). inl top)
+        (λ (above : IsAbove folder start). inr (above_path folder above, none_with folder above))
+        (on_way_is_above start folder (Contains-append_right ([] ∷ []) (folders_below start) folder has))
+
+    own_lists : HasOwn (folders_below start) (drop n values)
+    own_lists = has_own (take n values) (folders_below start) (drop n values) opened
+
+    past_fronts : drop front_count values ≡ kept ++ drop n values
+    past_fronts = append_cancel_left (take front_count values) (drop front_count values) (kept ++ drop n values)
+        (take-append-drop front_count values ∙ sym (take-append-drop n values) ∙ ap (λ vs. vs ++ drop n values) fronts ∙ append_assoc (take front_count values) kept (drop n values))
+
+    standing : drop front_count (lists_of values) ≡ with_entries (list ∷ own_lists.own)
+    standing =
+        drop-map (entry_list_of seen) front_count values ∙ ap lists_of past_fronts ∙ map-append (entry_list_of seen) kept (drop n values)
+        ∙ ap (λ ls. ls ++ lists_of (drop n values)) listed ∙ ap (λ ls. unless_empty list ++ ls) own_lists.standing
+
+    way_with : (further : List Folder) → folders_below path ≡ folders_below start ++ further → ((folder : Folder) (below : List Folder) → further ≡ folder ∷ below → (pair : ℕ × ℕ) × IsBelowIgnored (lists_of values) rules (folder ++ slash ∷ []) pair)
+        → AreOnTheWay shows front_count (lists_of values) rules path
+    way_with further joined ends = record {
+      entered = [] ∷ folders_below start;
+      further = further;
+      joined = ap (λ fs. [] ∷ fs) joined;
+      top = Contains-append_left ([] ∷ []) (folders_below start) [] (Contains-push [] []);
+      own = list ∷ own_lists.own;
+      shown = (of, own_lists.shown);
+      standing = standing;
+      unignored = λ folder has. ⊎_elim
+          (λ (first : Contains ([] ∷ []) folder). ⊎_elim
+          (λ (none : Contains [] folder). absurd (none_contained folder none))
+          (λ (top : [] ≡ folder). inl (sym top))
+          (Contains-push_cases [] [] folder first))
+          (λ (later : Contains (folders_below start) folder). is_asked folder later)
+          (Contains-append_cases ([] ∷ []) (folders_below start) folder has);
+      ends = ends;
+    }
+
+    -- all folders were entered
+    module _ (joined : folders_below path ≡ folders_below start) where
+      pub none_of_path : HasNoneIgnored (lists_of values) rules path
+      none_of_path folder pair above ignored =
+          unignored folder (subst (λ fs. Contains fs folder) joined (on_way_to folder path above (not_top path [] (append-nil path) folder above))) pair ignored
+
+      pub arrived : AreOnTheWay shows front_count (lists_of values) rules path
+      arrived = way_with [] (joined ∙ sym (append-nil (folders_below start))) (λ folder below is. absurd (cc))
+
+    -- the next one is ignored
+    module _ (next : Folder) (below : List Folder) (joined : folders_below path ≡ folders_below start ++ next ∷ below) (pair : ℕ × ℕ) (ignored : Ignores (lists_of values) rules next pair) where
+      on_way : Contains (folders_below path) next
+      on_way = subst (λ fs. Contains fs next) (sym joined) (Contains-append_right (folders_below start) (next ∷ below) next (Contains-append_left (next ∷ []) below next (Contains-push [] next)))
+
+      above_next : IsAbove next path
+      above_next = ⊎_elim
+          (λ (top : next ≡ []). absurd (below_top path next on_way top))
+          (λ (above : IsAbove next path). above)
+          (on_way_is_above path next (Contains-append_right ([] ∷ []) (folders_below path) next on_way))
+
+      topmost : HasNoneIgnored (lists_of values) rules next
+      topmost folder by above ignores =
+          let joined_next : next ++ slash ∷ above_next.0 ≡ path = sym above_next.1 in
+          unignored folder (subst (λ fs. Contains fs folder) (above_are_before path (folders_below start) next below joined) (on_way_to folder next above (not_top next (slash ∷ above_next.0) joined_next folder above))) by ignores
+
+      pub below_next : IsBelowIgnored (lists_of values) rules path pair
+      below_next = record { folder = next; above = above_next; ignored = ignored; topmost = topmost }
+
+      pub stopped : AreOnTheWay shows front_count (lists_of values) rules path
+      stopped = way_with (next ∷ below) joined (λ folder more is.
+          let same : next ≡ folder = cc in
+          (pair, subst (λ f. IsBelowIgnored (lists_of values) rules (f ++ slash ∷ []) pair) same (record { folder = next; above = ([], refl); ignored = ignored; topmost = topmost })))

@@ -1,5 +1,5 @@
 -- A list more at the end of others changes nothing of what its base leaves nothing of.
-use Rattle.std.proofs.Common.{◌≡◌, ◌⊎◌, inl, inr, ⊎_elim, ℕ, zero, suc, true, Bool, List, [], ◌∷◌, ◌++◌, Some, sym, ◌∙◌, subst}
+use Rattle.std.proofs.Common.{◌≡◌, ◌⊎◌, inl, inr, ⊎_elim, ℕ, zero, suc, true, Bool, List, [], ◌∷◌, ◌++◌, Some, sym, ◌∙◌, subst, append-nil}
 use Rattle.std.specs.Prelude.{slice_get}
 use Rattle.std.proofs.lemmas.Option.{same_Some}
 use Rattle.glob_lists.specs.declared.rules.Rules.{Rules}
@@ -7,6 +7,8 @@ use Rattle.gix_glob.specs.EntryLists.{EntryList}
 use Rattle.gix_glob.specs.Stripping.{NothingLeft, RestOf}
 use Rattle.glob_lists.specs.Deciding.{PairAnswers}
 use Rattle.glob_trees.specs.Trees.{Ignores}
+use Rattle.glob_trees.specs.Ways.{unless_empty}
+use Rattle.glob_trees.proofs.lemmas.WithEntries.{empty_or_not}
 
 module _ {X : Type 0} (last : X) where
   more_at : (xs : List X) (i : ℕ) (x : X) → slice_get xs i ≡ Some x → slice_get (xs ++ last ∷ []) i ≡ Some x
@@ -61,3 +63,11 @@ module _ {V : Type 0} (lists : List (EntryList V)) (last : EntryList V) (rules :
           positive = h.1.positive;
         },
       )
+
+-- the same, of a list that counts where it has entries
+module _ {V : Type 0} (lists : List (EntryList V)) (list : EntryList V) (rules : Rules) (path : List ℕ) (nothing : NothingLeft rules.case list.base path) (pair : ℕ × ℕ) where
+  pub ignores_with : Ignores lists rules path pair → Ignores (lists ++ unless_empty list) rules path pair
+  ignores_with ignored = ⊎_elim
+      (λ (none : unless_empty list ≡ []). subst (λ ls. Ignores (lists ++ ls) rules path pair) (sym none) (subst (λ ls. Ignores ls rules path pair) (sym (append-nil lists)) ignored))
+      (λ (some : unless_empty list ≡ list ∷ []). subst (λ ls. Ignores (lists ++ ls) rules path pair) (sym some) (ignores_more lists list rules path nothing pair ignored))
+      (empty_or_not list)

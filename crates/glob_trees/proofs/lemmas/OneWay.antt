@@ -12,7 +12,7 @@ use Rattle.glob_trees.specs.Laws.Kept.{ShowsOne}
 use Rattle.glob_trees.specs.Trees.{HasNoneIgnored, Ignores, IsAbove}
 use Rattle.glob_trees.specs.Ways.{AreOnTheWay, Folder, IsListOf, folder_before, folders_from, folders_to, unless_empty, with_entries}
 use Rattle.glob_trees.proofs.lemmas.Emptied.{nothing_left_shorter}
-use Rattle.glob_trees.proofs.lemmas.Entering.{ignores_with}
+use Rattle.glob_trees.proofs.lemmas.OneMore.{ignores_with}
 use Rattle.glob_trees.proofs.lemmas.Folders.{above_is_shorter}
 use Rattle.glob_trees.proofs.lemmas.OnWay.{none_contained}
 use Rattle.glob_trees.proofs.lemmas.WayLemmas.{before_other}

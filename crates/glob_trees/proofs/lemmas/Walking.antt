@@ -6,45 +6,31 @@ use Rattle.gix_glob.specs.Bytes.{HasByte, slash}
 use Rattle.glob_trees.specs.declared.found.Found.{Found}
 use Rattle.glob_trees.specs.declared.walk.Walk.{Walk}
 use Rattle.glob_trees.specs.declared.found.Found.TheVariants.{Refused}
-use Rattle.glob_trees.specs.Private.Walks.{HasFronts, HasSameFronts, IsBefore, IsFresh, IsIn, IsPassed, IsUnderWay, KeepsOn}
-use Rattle.glob_trees.specs.Walks.{FindsOn, HasGone}
+use Rattle.glob_trees.specs.Private.Walks.{IsBefore, IsFresh, IsIn, IsPassed, IsUnderWay, KeepsOn}
+use Rattle.glob_trees.specs.Walks.{HasGone}
 use Rattle.glob_trees.specs.Ways.{Folder, GivesOnly, folders_below}
 use Rattle.glob_trees.proofs.lemmas.Stepping.{begins_before, next_below, passing_below, slash_next, some_front}
 use Rattle.glob_trees.proofs.lemmas.WayLemmas.{below_slash}
 use Rattle.glob_trees.proofs.lemmas.Walks.{entered, fresh}
 
 module _ {S V R F : Type 0} (finds : S → List V → Folder → Found V R → Type 0) where
-  pub stays : (walk : Walk S V R F) → KeepsOn finds walk walk
-  stays walk = record { front_count = refl; fronts = refl; goes_on = λ above folder found was. was }
+  module _ {X : Type 0} (shows : S → X → Type 0) where
+    pub stays : (walk : Walk S V R F) → KeepsOn finds shows walk walk
+    stays walk = record { front_count = refl; fronts = refl; goes_on = λ above folder found was. was; shows_on = λ fact was. was }
 
-  pub keeps_further : (old mid new : Walk S V R F) → KeepsOn finds old mid → KeepsOn finds mid new → KeepsOn finds old new
-  keeps_further old mid new first next = record {
-    front_count = next.front_count ∙ first.front_count;
-    fronts = subst (λ k. take k new.values.items ≡ take k mid.values.items) first.front_count next.fronts ∙ first.fronts;
-    goes_on = λ above folder found was. next.goes_on above folder found (first.goes_on above folder found was);
-  }
-
-  pub same_keeps : (old new : Walk S V R F) → HasSameFronts old new → KeepsOn finds old new
-  same_keeps old new same = record {
-    front_count = same.front_count;
-    fronts = ap (take old.front_count) same.values;
-    goes_on = λ above folder found was. subst (λ s. finds s above folder found) (sym same.source) was;
-  }
+    pub keeps_further : (old mid new : Walk S V R F) → KeepsOn finds shows old mid → KeepsOn finds shows mid new → KeepsOn finds shows old new
+    keeps_further old mid new first next = record {
+      front_count = next.front_count ∙ first.front_count;
+      fronts = subst (λ k. take k new.values.items ≡ take k mid.values.items) first.front_count next.fronts ∙ first.fronts;
+      goes_on = λ above folder found was. next.goes_on above folder found (first.goes_on above folder found was);
+      shows_on = λ fact was. next.shows_on fact (first.shows_on fact was);
+    }
 
   module _ (gave : S → Folder → Type 0) (fits : V → Type 0) where
     pub is_fresh : (walk : Walk S V R F) → IsFresh gave fits walk → IsUnderWay finds gave fits walk
     is_fresh walk f =
         fresh (finds walk.source) (gave walk.source) fits walk.front_count walk.values.items walk.folder.items walk.way.items _ walk.found.items
         f.many f.fit f.folder f.way (record { count = f.count; none = f.none }) f.found (λ folder was. absurd (f.unasked folder was))
-
-    pub fronts_of : (walk : Walk S V R F) → IsUnderWay finds gave fits walk → HasFronts fits walk
-    fronts_of walk u = record { many = u.many; fit = u.fit }
-
-    pub same_fronts : (old new : Walk S V R F) → HasFronts fits old → HasSameFronts old new → HasFronts fits new
-    same_fronts old new f same = record {
-      many = let many = f.many in omega (arith, many, same.front_count, ap length same.values);
-      fit = subst (All fits) (sym same.values) f.fit;
-    }
 
     -- ---- a path that is gone along
 

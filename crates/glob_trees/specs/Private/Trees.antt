@@ -25,14 +25,24 @@ IsFoundIn {T} {X} {V} shows seen rules above folder (Open kept) =
     × ((list : EntryList V) × IsListOf shows folder list × (map (entry_list_of seen) (option_to_list kept) ≡ unless_empty list))
 IsFoundIn {T} {X} {V} shows seen rules above folder (Refused pair) = Ignores (map (entry_list_of seen) above) rules folder pair
 
+-- what a tree shows on: that this is the list of a folder, and these are the rules
+pub data Fact (V : Type 0) : Type 0 where
+  listed : Folder → EntryList V → Fact V
+  ruled : Rules → Fact V
+
+abbrev pub ShowsFact : {V : Type 0} → (Folder → EntryList V → Type 0) → Rules → Fact V → Type 0
+ShowsFact shows rules (listed folder list) = shows folder list
+ShowsFact shows rules (ruled other) = rules ≡ other
+
+-- nothing was asked of the source of a walk over lists
+abbrev pub IsNew : {S T X F V : Type 0} → (S → Folder → Type 0) → (X → V) → Walk (IgnoreLists T S X F) (patterns.List T X) (ℕ × ℕ) F → Type 0
+IsNew {S} {T} {X} {F} {V} gave seen walk = IsFresh (λ (lists : IgnoreLists T S X F). gave lists.source) (λ (list : patterns.List T X). HasFolder (entry_list_of seen list)) walk
+
 module _ {S T X F V : Type 0} (shows : S → Folder → EntryList V → Type 0) (gave : S → Folder → Type 0) (seen : X → V) where
-  -- the walk over lists is under way, or fresh
+  -- a walk over lists is under way
   abbrev pub IsWalking : Walk (IgnoreLists T S X F) (patterns.List T X) (ℕ × ℕ) F → Type 0
   IsWalking walk =
       IsUnderWay (λ (lists : IgnoreLists T S X F). IsFoundIn (shows lists.source) seen lists.rules) (λ (lists : IgnoreLists T S X F). gave lists.source) (λ (list : patterns.List T X). HasFolder (entry_list_of seen list)) walk
-
-  abbrev pub IsNew : Walk (IgnoreLists T S X F) (patterns.List T X) (ℕ × ℕ) F → Type 0
-  IsNew walk = IsFresh (λ (lists : IgnoreLists T S X F). gave lists.source) (λ (list : patterns.List T X). HasFolder (entry_list_of seen list)) walk
 
   -- the list of the top stands behind so many ones, and before those of all other folders, unless it has no entries
   pub record HasTop (front_count : ℕ) (walk : Walk (IgnoreLists T S X F) (patterns.List T X) (ℕ × ℕ) F) : Type 0 where
@@ -51,4 +61,4 @@ module _ {S T X F V : Type 0} (shows : S → Folder → EntryList V → Type 0) 
 
   -- a walk over lists, of which so many stand before those of all folders; the list of the top was asked for, or nothing was
   abbrev pub IsTree : Walk (IgnoreLists T S X F) (patterns.List T X) (ℕ × ℕ) F → ℕ → Bool → Type 0
-  IsTree walk front_count has_top = MatchBool has_top (IsWalking walk × HasTop front_count walk) (IsNew walk × (walk.front_count ≡ front_count))
+  IsTree walk front_count has_top = MatchBool has_top (IsWalking walk × HasTop front_count walk) (IsNew gave seen walk × (walk.front_count ≡ front_count))

@@ -7,7 +7,7 @@ use Rattle.glob_trees.specs.declared.found.Found.TheVariants.{Open, Refused}
 use Rattle.glob_trees.specs.declared.on_way.FolderOnWay.{FolderOnWay}
 use Rattle.glob_trees.specs.declared.walk.Walk.{Walk}
 use Rattle.glob_trees.specs.Known.{FolderNames, names_of}
-use Rattle.glob_trees.specs.Walks.{FindsOn, IsOpen, value_of}
+use Rattle.glob_trees.specs.Walks.{FindsOn, IsOpen, ShowsOn, value_of}
 use Rattle.glob_trees.specs.Ways.{Folder, folders_below, start_of}
 
 -- ---- the folders that are known
@@ -149,11 +149,12 @@ module _ {S V R F : Type 0} where
     pub found : walk.found.items ≡ []
     pub unasked : (folder : Folder) → ¬ gave walk.source folder
 
-  -- what stays from call to call: the values that stand before those of all folders, and what the source found
-  pub record KeepsOn (finds : S → List V → Folder → Found V R → Type 0) (old new : Walk S V R F) : Type 0 where
+  -- what stays from call to call: the values that stand before those of all folders, and what the source found and showed
+  pub record KeepsOn {X : Type 0} (finds : S → List V → Folder → Found V R → Type 0) (shows : S → X → Type 0) (old new : Walk S V R F) : Type 0 where
     pub front_count : new.front_count ≡ old.front_count
     pub fronts : take old.front_count new.values.items ≡ take old.front_count old.values.items
     pub goes_on : FindsOn finds old.source new.source
+    pub shows_on : ShowsOn shows old.source new.source
 
   -- no value was put behind the others
   pub record HasSameFronts (old new : Walk S V R F) : Type 0 where

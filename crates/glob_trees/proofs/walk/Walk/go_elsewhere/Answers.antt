@@ -76,7 +76,7 @@ bytes-preserved g c =
     let now = entered_now g c in (
       c.in_ok-refusal.ensures.under,
       c.in_ok-refusal.ensures.holds,
-      keeps_further g.S.FolderValues.finds c.args.self.now c.bytes.self c.enter.new.self c.bytes.invariant.2 c.in_ok-refusal.ensures.keeps,
+      keeps_further g.S.FolderValues.finds g.S.FolderValues.shows c.args.self.now c.bytes.self c.enter.new.self c.bytes.invariant.2 c.in_ok-refusal.ensures.keeps,
       gives_further (g.S.FolderValues.gave c.args.self.now.source) (g.S.FolderValues.gave c.enter.new.self.source) (g.S.FolderValues.gave c.bytes.self.source) (Contains (folders_below c.bytes.self.folder.items)) c.bytes.invariant.3
           (Contains (folders_below c.enter.new.self.folder.items))
           (λ folder has. subst (λ f. Contains (folders_below f) folder) (sym now) (still_on_way c.bytes.self.folder.items front (some_front path c.bytes.place (slash_here g here) (deep g here)) passed.level folder has))

@@ -8,6 +8,6 @@ abbrev pub invariant-bytes : goal.invariant-bytes
 invariant-bytes g l =
     IsUnderWay g.S.FolderValues.finds g.S.FolderValues.gave g.S.FolderValues.fits l.self
     × g.S.FolderValues.holds l.self.source
-    × KeepsOn g.S.FolderValues.finds l.fn.self l.self
+    × KeepsOn g.S.FolderValues.finds g.S.FolderValues.shows l.fn.self l.self
     × GivesOnly (Contains (folders_below l.self.folder.items)) (g.S.FolderValues.gave l.fn.self.source) (g.S.FolderValues.gave l.self.source)
     × IsPassed l.self.folder.items l.path.bytes l.place

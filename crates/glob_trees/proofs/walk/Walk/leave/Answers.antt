@@ -68,6 +68,7 @@ returns-then-left-clause-keeps g c =
       fronts = fronts_left _ _ _ _ _ _ _ _ _ c.requires.under c.requires.deep c.pop.new.self.items c.in-Some.left (popped g at) c.keep_value.new.values.items
           (value_listed _ _ _ _ _ _ _ _ _ c.requires.under c.requires.deep c.pop.new.self.items c.in-Some.left (popped g at) c.if-left.true c.keep_value.new.values.items keeps.value keeps.last);
       goes_on = λ above folder found was. was;
+      shows_on = λ fact was. was;
     }
 
 pub returns-else-left-clause-under : goal.returns-else-left-clause-under

@@ -5,7 +5,7 @@ use Rattle.glob_trees.proofs.lemmas.Walking.{keeps_further, stays}
 use Rattle.glob_trees.proofs.walk.Walk.leave_to.Goals as goal
 
 pub folders-init : goal.folders-init
-folders-init g c = (c.requires.under, sym (take_all (length c.args.self.now.folder.items) c.args.self.now.folder.items (omega arith)), stays g.S.FolderValues.finds c.args.self.now, refl)
+folders-init g c = (c.requires.under, sym (take_all (length c.args.self.now.folder.items) c.args.self.now.folder.items (omega arith)), stays g.S.FolderValues.finds g.S.FolderValues.shows c.args.self.now, refl)
 
 pub folders-preserved : goal.folders-preserved
 folders-preserved g c =
@@ -15,7 +15,7 @@ folders-preserved g c =
     let less = c.leave.ensures.less in (
       c.leave.ensures.under,
       c.leave.ensures.front ∙ ap (take count) c.folders.invariant.1 ∙ take-take count (length before) first (omega (arith, less)),
-      keeps_further g.S.FolderValues.finds c.args.self.now c.folders.self c.leave.new.self c.folders.invariant.2 c.leave.ensures.keeps,
+      keeps_further g.S.FolderValues.finds g.S.FolderValues.shows c.args.self.now c.folders.self c.leave.new.self c.folders.invariant.2 c.leave.ensures.keeps,
       c.leave.ensures.source ∙ c.folders.invariant.3,
     )
 

@@ -7,7 +7,7 @@ abbrev pub invariant-folders : goal.invariant-folders
 invariant-folders g l =
     IsUnderWay g.S.FolderValues.finds g.S.FolderValues.gave g.S.FolderValues.fits l.self
     × (l.self.folder.items ≡ take (length l.self.folder.items) l.fn.self.folder.items)
-    × KeepsOn g.S.FolderValues.finds l.fn.self l.self
+    × KeepsOn g.S.FolderValues.finds g.S.FolderValues.shows l.fn.self l.self
     × (l.self.source ≡ l.fn.self.source)
 
 abbrev pub decreases-folders : goal.decreases-folders

@@ -1,0 +1,1 @@
+use Rattle.glob_trees.proofs.tree.Tree.new.Goals as goal
