@@ -1,13 +1,10 @@
 //! What the folders of a work tree are found to be by lists of patterns: ignored, or not, and then they have lists of their own.
-ghost use Rattle.std.specs.Prelude.{◌≡◌, [], OnErr, OnOk};
-ghost use Rattle.glob_trees.specs.Private.Trees.{IsIfAny, IsNew, PutsTop};
-ghost use Rattle.glob_trees.specs.Ways.{GivesOnly, GoesOn};
+ghost use Rattle.glob_trees.specs.Private.Trees.{IsIfAny};
 
 use crate::deciding::ignoring;
 use crate::fault::TreeFault;
 use crate::folders::FolderLists;
 use crate::found::{FolderValues, Found};
-use crate::walk::Walk;
 use gix_glob::search;
 use gix_glob::search::pattern::List;
 use glob_lists::{PreparedList, RepositoryPath, Rules};
@@ -75,36 +72,11 @@ impl<T: search::Pattern, S: FolderLists<T>> FolderValues for IgnoreLists<T, S> {
     }
 }
 
-/// Asks for the list of the top, and puts it behind those that stand before all folders, unless it has no patterns.
-///
-/// # Errors
-/// Where the source fails, or memory was refused.
-#[inline(never)]
-pub(crate) fn ask_for_top<T: search::Pattern, S: FolderLists<T>>(
-    walk: &mut Walk<IgnoreLists<T, S>>,
-) -> Result<(), TreeFault<S::Fault>>
-    requires fresh { IsNew S.gave T.seen walk.old }
-    ensures puts { OnOk result (PutsTop (S.shows T.Seen) S.gave T.seen walk.old walk.new) }
-    ensures fresh { OnErr result (IsNew S.gave T.seen walk.new) }
-    ensures fails { OnErr result (walk.new.values.items ≡ walk.old.values.items) }
-    ensures count { OnErr result (walk.new.front_count ≡ walk.old.front_count) }
-    ensures rules { walk.new.source.rules ≡ walk.old.source.rules }
-    ensures goes_on { GoesOn (S.shows T.Seen) walk.old.source.source walk.new.source.source }
-    ensures asks { GivesOnly (λ folder. folder ≡ []) (S.gave walk.old.source.source) (S.gave walk.new.source.source) }
-{
-    let list = walk.source.source.list_of(&[]).map_err(TreeFault::Source)?;
-    let list = prepared_if_any(walk.source.alloc, list);
-    match walk.put_front(list) {
-        Ok(()) => Ok(()),
-        Err(_refused) => {
-            walk.forget();
-            Err(TreeFault::Memory)
-        }
-    }
-}
-
 /// A list, prepared; `None` where it has no patterns, and need not be kept.
-fn prepared_if_any<T: search::Pattern>(alloc: Global, list: List<T>) -> Option<PreparedList<T>>
+pub(crate) fn prepared_if_any<T: search::Pattern>(
+    alloc: Global,
+    list: List<T>,
+) -> Option<PreparedList<T>>
     ensures { IsIfAny list result }
 {
     if list.patterns.is_empty() {

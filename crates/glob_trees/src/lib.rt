@@ -8,6 +8,7 @@ mod found;
 mod ignore_lists;
 mod known;
 pub mod laws;
+mod list_walk;
 mod on_way;
 mod tree;
 mod walk;

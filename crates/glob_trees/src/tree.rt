@@ -8,11 +8,12 @@ ghost use Rattle.glob_trees.specs.Ways.{AreOnTheWay, Folder, GivesOnly, GoesOn, 
 
 use crate::fault::TreeFault;
 use crate::folders::FolderLists;
-use crate::ignore_lists::{IgnoreLists, ask_for_top};
+use crate::ignore_lists::IgnoreLists;
+use crate::list_walk::{enter_top, find_below};
 use crate::walk::Walk;
 use gix_glob::search;
 use gix_glob::search::pattern::{List, Mapping};
-use glob_lists::{PreparedList, RepositoryPath, Rules, decide_prepared};
+use glob_lists::{PreparedList, RepositoryPath, Rules};
 use std::alloc::Global;
 use std::marker::{Model, PhantomData};
 
@@ -44,7 +45,7 @@ impl<T: search::Pattern, S: FolderLists<T>> Model for Tree<T, S> {
       rules = tree.walk.source.rules;
     } };
 
-    ghost invariant = { λ tree. IsTree (S.shows T.Seen) S.gave T.seen tree.walk tree.front_count tree.has_top };
+    ghost invariant = { λ tree. IsTree (S.shows T.Seen) S.gave T.seen tree.front_count tree.walk tree.has_top };
 }
 
 /// The pattern that decides about a path, and its list.
@@ -121,15 +122,8 @@ impl<T: search::Pattern, S: FolderLists<T> + Drop> Tree<T, S> {
         // Each folder that the source is asked for is on the way, and neither ignored nor below an ignored one.
         ensures asks { GivesOnly (IsAskedFor (map (entry_list_of T.seen) self.new.lists) self.new.rules path.now.bytes) (S.gave self.old.source) (S.gave self.new.source) }
     {
-        path.begins_with_no_slash();
-        if !self.has_top {
-            ask_for_top(&mut self.walk)?;
-            self.has_top = true;
-        }
-        if let Some(pair) = self.walk.go_to(path)? {
-            return Ok(Some(pair));
-        }
-        Ok(decide_prepared(&self.walk.values, path, self.walk.source.rules))
+        enter_top(&mut self.walk, &mut self.has_top)?;
+        find_below(&mut self.walk, path)
     }
 
     /// The lists in which the last answer of [`Tree::find`] has its places: those that stand before all folders, and those of the

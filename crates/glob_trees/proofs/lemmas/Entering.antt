@@ -159,10 +159,9 @@ module _ {T X V : Type 0} (shows : Folder → EntryList V → Type 0) (seen : X 
       let next = has_own (above ++ option_to_list kept) folders rest more in
       record { own = list ∷ next.own; shown = (found.1.1, next.shown); standing = viewed kept rest values list is found.1.2 ∙ ap (λ ls. unless_empty list ++ ls) next.standing }
 
-  -- ---- what a walk that has gone to a path says of it: the list of the top, and so many before it, stand before those of the other folders
+  -- ---- what a walk that has gone to a path says of it
 
-  module _ (front_count n : ℕ) (values kept : List (patterns.List T X)) (list : EntryList V) (of : IsListOf shows [] list) (fronts : take n values ≡ take front_count values ++ kept) (listed : lists_of kept ≡ unless_empty list)
-      (start path : List ℕ) (begins : start ≡ take (length start) path) (relative : ¬ HasByte path 0 slash) (opened : AreOpen Finds (take n values) (folders_below start) (drop n values)) where
+  module _ (n : ℕ) (values : List (patterns.List T X)) (start path : List ℕ) (begins : start ≡ take (length start) path) (relative : ¬ HasByte path 0 slash) (opened : AreOpen Finds (take n values) (folders_below start) (drop n values)) where
     not_top : (text : List ℕ) → ((rest : List ℕ) → text ++ rest ≡ path → (folder : Folder) → IsAbove folder text → ¬ (folder ≡ []))
     not_top text rest joined folder above none =
         let is : path ≡ slash ∷ (above.0 ++ rest) = sym joined ∙ ap (λ t. t ++ rest) above.1 ∙ ap (λ f. (f ++ slash ∷ above.0) ++ rest) none in
@@ -198,43 +197,11 @@ module _ {T X V : Type 0} (shows : Folder → EntryList V → Type 0) (seen : X 
     own_lists : HasOwn (folders_below start) (drop n values)
     own_lists = has_own (take n values) (folders_below start) (drop n values) opened
 
-    past_fronts : drop front_count values ≡ kept ++ drop n values
-    past_fronts = append_cancel_left (take front_count values) (drop front_count values) (kept ++ drop n values)
-        (take-append-drop front_count values ∙ sym (take-append-drop n values) ∙ ap (λ vs. vs ++ drop n values) fronts ∙ append_assoc (take front_count values) kept (drop n values))
-
-    standing : drop front_count (lists_of values) ≡ with_entries (list ∷ own_lists.own)
-    standing =
-        drop-map (entry_list_of seen) front_count values ∙ ap lists_of past_fronts ∙ map-append (entry_list_of seen) kept (drop n values)
-        ∙ ap (λ ls. ls ++ lists_of (drop n values)) listed ∙ ap (λ ls. unless_empty list ++ ls) own_lists.standing
-
-    way_with : (further : List Folder) → folders_below path ≡ folders_below start ++ further → ((folder : Folder) (below : List Folder) → further ≡ folder ∷ below → (pair : ℕ × ℕ) × IsBelowIgnored (lists_of values) rules (folder ++ slash ∷ []) pair)
-        → AreOnTheWay shows front_count (lists_of values) rules path
-    way_with further joined ends = record {
-      entered = [] ∷ folders_below start;
-      further = further;
-      joined = ap (λ fs. [] ∷ fs) joined;
-      top = Contains-append_left ([] ∷ []) (folders_below start) [] (Contains-push [] []);
-      own = list ∷ own_lists.own;
-      shown = (of, own_lists.shown);
-      standing = standing;
-      unignored = λ folder has. ⊎_elim
-          (λ (first : Contains ([] ∷ []) folder). ⊎_elim
-          (λ (none : Contains [] folder). absurd (none_contained folder none))
-          (λ (top : [] ≡ folder). inl (sym top))
-          (Contains-push_cases [] [] folder first))
-          (λ (later : Contains (folders_below start) folder). is_asked folder later)
-          (Contains-append_cases ([] ∷ []) (folders_below start) folder has);
-      ends = ends;
-    }
-
     -- all folders were entered
     module _ (joined : folders_below path ≡ folders_below start) where
       pub none_of_path : HasNoneIgnored (lists_of values) rules path
       none_of_path folder pair above ignored =
           unignored folder (subst (λ fs. Contains fs folder) joined (on_way_to folder path above (not_top path [] (append-nil path) folder above))) pair ignored
-
-      pub arrived : AreOnTheWay shows front_count (lists_of values) rules path
-      arrived = way_with [] (joined ∙ sym (append-nil (folders_below start))) (λ folder below is. absurd (cc))
 
     -- the next one is ignored
     module _ (next : Folder) (below : List Folder) (joined : folders_below path ≡ folders_below start ++ next ∷ below) (pair : ℕ × ℕ) (ignored : Ignores (lists_of values) rules next pair) where
@@ -255,7 +222,41 @@ module _ {T X V : Type 0} (shows : Folder → EntryList V → Type 0) (seen : X 
       pub below_next : IsBelowIgnored (lists_of values) rules path pair
       below_next = record { folder = next; above = above_next; ignored = ignored; topmost = topmost }
 
-      pub stopped : AreOnTheWay shows front_count (lists_of values) rules path
-      stopped = way_with (next ∷ below) joined (λ folder more is.
+    -- the list of the top, and so many before it, stand before those of the other folders
+    module _ (front_count : ℕ) (kept : List (patterns.List T X)) (list : EntryList V) (of : IsListOf shows [] list) (fronts : take n values ≡ take front_count values ++ kept) (listed : lists_of kept ≡ unless_empty list) where
+      past_fronts : drop front_count values ≡ kept ++ drop n values
+      past_fronts = append_cancel_left (take front_count values) (drop front_count values) (kept ++ drop n values)
+          (take-append-drop front_count values ∙ sym (take-append-drop n values) ∙ ap (λ vs. vs ++ drop n values) fronts ∙ append_assoc (take front_count values) kept (drop n values))
+
+      standing : drop front_count (lists_of values) ≡ with_entries (list ∷ own_lists.own)
+      standing =
+          drop-map (entry_list_of seen) front_count values ∙ ap lists_of past_fronts ∙ map-append (entry_list_of seen) kept (drop n values)
+          ∙ ap (λ ls. ls ++ lists_of (drop n values)) listed ∙ ap (λ ls. unless_empty list ++ ls) own_lists.standing
+
+      way_with : (further : List Folder) → folders_below path ≡ folders_below start ++ further → ((folder : Folder) (below : List Folder) → further ≡ folder ∷ below → (pair : ℕ × ℕ) × IsBelowIgnored (lists_of values) rules (folder ++ slash ∷ []) pair)
+          → AreOnTheWay shows front_count (lists_of values) rules path
+      way_with further joined ends = record {
+        entered = [] ∷ folders_below start;
+        further = further;
+        joined = ap (λ fs. [] ∷ fs) joined;
+        top = Contains-append_left ([] ∷ []) (folders_below start) [] (Contains-push [] []);
+        own = list ∷ own_lists.own;
+        shown = (of, own_lists.shown);
+        standing = standing;
+        unignored = λ folder has. ⊎_elim
+            (λ (first : Contains ([] ∷ []) folder). ⊎_elim
+            (λ (none : Contains [] folder). absurd (none_contained folder none))
+            (λ (top : [] ≡ folder). inl (sym top))
+            (Contains-push_cases [] [] folder first))
+            (λ (later : Contains (folders_below start) folder). is_asked folder later)
+            (Contains-append_cases ([] ∷ []) (folders_below start) folder has);
+        ends = ends;
+      }
+
+      pub arrived : folders_below path ≡ folders_below start → AreOnTheWay shows front_count (lists_of values) rules path
+      arrived joined = way_with [] (joined ∙ sym (append-nil (folders_below start))) (λ folder below is. absurd (cc))
+
+      pub stopped : (next : Folder) (below : List Folder) (joined : folders_below path ≡ folders_below start ++ next ∷ below) (pair : ℕ × ℕ) (ignored : Ignores (lists_of values) rules next pair) → AreOnTheWay shows front_count (lists_of values) rules path
+      stopped next below joined pair ignored = way_with (next ∷ below) joined (λ folder more is.
           let same : next ≡ folder = cc in
-          (pair, subst (λ f. IsBelowIgnored (lists_of values) rules (f ++ slash ∷ []) pair) same (record { folder = next; above = ([], refl); ignored = ignored; topmost = topmost })))
+          (pair, subst (λ f. IsBelowIgnored (lists_of values) rules (f ++ slash ∷ []) pair) same (record { folder = next; above = ([], refl); ignored = ignored; topmost = topmost next below joined pair ignored })))

@@ -11,7 +11,7 @@ use Rattle.glob_trees.specs.declared.ignore_lists.IgnoreLists.{IgnoreLists}
 use Rattle.glob_trees.specs.declared.walk.Walk.{Walk}
 use Rattle.glob_trees.specs.Private.Walks.{IsFresh, IsUnderWay}
 use Rattle.glob_trees.specs.Trees.{Ignores}
-use Rattle.glob_trees.specs.Ways.{Folder, IsListOf, unless_empty}
+use Rattle.glob_trees.specs.Ways.{Folder, GoesOn, IsListOf, unless_empty}
 
 -- a list, where it has patterns
 abbrev pub IsIfAny : {T X : Type 0} → patterns.List T X → Option (patterns.List T X) → Type 0
@@ -59,6 +59,12 @@ module _ {S T X F V : Type 0} (shows : S → Folder → EntryList V → Type 0) 
     pub top : HasTop old.front_count new
     pub fronts : take old.front_count new.values.items ≡ take old.front_count old.values.items
 
-  -- a walk over lists, of which so many stand before those of all folders; the list of the top was asked for, or nothing was
-  abbrev pub IsTree : Walk (IgnoreLists T S X F) (patterns.List T X) (ℕ × ℕ) F → ℕ → Bool → Type 0
-  IsTree walk front_count has_top = MatchBool has_top (IsWalking walk × HasTop front_count walk) (IsNew gave seen walk × (walk.front_count ≡ front_count))
+  -- of a walk over lists so many stand before those of all folders; the list of the top was asked for, or nothing was
+  abbrev pub IsTree : ℕ → Walk (IgnoreLists T S X F) (patterns.List T X) (ℕ × ℕ) F → Bool → Type 0
+  IsTree front_count walk has_top = MatchBool has_top (IsWalking walk × HasTop front_count walk) (IsNew gave seen walk × (walk.front_count ≡ front_count))
+
+-- what stays of a walk over lists, of which so many stand before those of all folders
+pub record StaysTree {S T X F V : Type 0} (shows : S → Folder → EntryList V → Type 0) (front_count : ℕ) (old new : Walk (IgnoreLists T S X F) (patterns.List T X) (ℕ × ℕ) F) : Type 0 where
+  pub rules : new.source.rules ≡ old.source.rules
+  pub fronts : take front_count new.values.items ≡ take front_count old.values.items
+  pub goes_on : GoesOn shows old.source.source new.source.source

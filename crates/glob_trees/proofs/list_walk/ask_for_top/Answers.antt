@@ -7,7 +7,7 @@ use Rattle.glob_trees.specs.declared.ignore_lists.IgnoreLists.{IgnoreLists}
 use Rattle.glob_trees.specs.Private.Trees.{listed, ruled}
 use Rattle.glob_trees.specs.Ways.{base_of_folder}
 use Rattle.glob_trees.proofs.lemmas.WithEntries.{if_any_view}
-use Rattle.glob_trees.proofs.ignore_lists.ask_for_top.Goals as goal
+use Rattle.glob_trees.proofs.list_walk.ask_for_top.Goals as goal
 
 pub returns-in-Ok-clause-puts : goal.returns-in-Ok-clause-puts
 returns-in-Ok-clause-puts g c =

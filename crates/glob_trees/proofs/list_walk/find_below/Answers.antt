@@ -1,0 +1,1 @@
+use Rattle.glob_trees.proofs.list_walk.find_below.Goals as goal
