@@ -10,6 +10,7 @@ pub mod Folders
 pub mod Ignoring
 pub mod InTree
 pub mod Links
+pub mod ListWalks
 pub mod NamedFolders
 pub mod OnWay
 pub mod OneMore
