@@ -70,8 +70,8 @@ impl<'a> PathAttributes<'a> {
         Ok(PathAttributes { filled })
     }
 
-    /// What prepared lists, then stronger ones, and the macros assign to a path. Patterns are matched by the rules of the prepared ones.
-    /// The stronger lists have to meet [`bases_are_folders`](glob_lists::bases_are_folders).
+    /// What prepared lists, then stronger ones, then the strongest ones, and the macros assign to a path. Patterns are matched by the rules
+    /// of the prepared ones. The others have to meet [`bases_are_folders`](glob_lists::bases_are_folders).
     ///
     /// Of the path counts what [`PathAttributes::new`] says: a part `.` or `..` is a name, and a trailing slash leaves an empty last
     /// part.
@@ -81,19 +81,22 @@ impl<'a> PathAttributes<'a> {
     pub fn with_prepared(
         alloc: Global,
         prepared: &PreparedStack<'a, AttributeLines>,
-        stronger: &'a [List<AttributeLines>],
+        others: (&'a [List<AttributeLines>], &'a [List<AttributeLines>]),
         macros: &'a MacroTable,
         path: &RepositoryPath<'_>,
     ) -> Result<PathAttributes<'a>, AllocError>
-        requires folders { BasesAreFolders (map (entry_list_of seen_assignments) stronger.now) }
-        ensures { IfOk result (λ assigned. IsAssigned (map (entry_list_of seen_assignments) prepared.now.lists ++ map (entry_list_of seen_assignments) stronger.now) macros.now path.now prepared.now.rules assigned) }
+        requires stronger { BasesAreFolders (map (entry_list_of seen_assignments) others.0.now) }
+        requires strongest { BasesAreFolders (map (entry_list_of seen_assignments) others.1.now) }
+        ensures { IfOk result (λ assigned. IsAssigned ((map (entry_list_of seen_assignments) prepared.now.lists ++ map (entry_list_of seen_assignments) others.entry.0.now) ++ map (entry_list_of seen_assignments) others.entry.1.now) macros.now path.now prepared.now.rules assigned) }
     {
         let mut pairs = Vec::with_capacity(alloc, FEW)?;
         prepared.matches_into(path, &mut pairs)?;
         let mut row = Vec::new(alloc);
         push_row(&mut row, prepared.lists(), &pairs)?;
-        matches_into(stronger, path, prepared.rules(), &mut pairs)?;
-        push_row(&mut row, stronger, &pairs)?;
+        matches_into(others.0, path, prepared.rules(), &mut pairs)?;
+        push_row(&mut row, others.0, &pairs)?;
+        matches_into(others.1, path, prepared.rules(), &mut pairs)?;
+        push_row(&mut row, others.1, &pairs)?;
         let filled = fill_in(alloc, row, macros)?;
         Ok(PathAttributes { filled })
     }

@@ -170,13 +170,25 @@ module _ (xs ys : Lists) where
       ∙ ap (λ l. assigned_at ys pair ++ l) (assigned-back more)
 
   -- the row of both is made of what is assigned by those in front, and then by the others
+  pub flat-both : (path : Path) (rules : Rules) (found more : List (ℕ × ℕ)) → AreMatches xs path.bytes path.is_dir rules found
+      → flat_map (assigned_at (xs ++ ys)) (found ++ map (shifted (length xs)) more) ≡ flat_map (assigned_at xs) found ++ flat_map (assigned_at ys) more
+  flat-both path rules found more front =
+      flat_map-append (assigned_at (xs ++ ys)) found (map (shifted (length xs)) more)
+      ∙ ap (λ l. l ++ flat_map (assigned_at (xs ++ ys)) (map (shifted (length xs)) more))
+      (assigned-front found (λ x pair at. let h = front.each x pair at in (h.list, h.there)))
+      ∙ ap (λ l. flat_map (assigned_at xs) found ++ l) (assigned-back more)
+
   pub row-both : (path : Path) (rules : Rules) (found more : List (ℕ × ℕ)) → AreMatches xs path.bytes path.is_dir rules found → AreMatches ys path.bytes path.is_dir rules more
       → IsRow (xs ++ ys) path rules (reverse (flat_map (assigned_at xs) found ++ flat_map (assigned_at ys) more))
   row-both path rules found more front back = (
     found ++ map (shifted (length xs)) more,
     matches-both xs ys path.bytes path.is_dir rules found more front back,
-    ap reverse (sym (flat_map-append (assigned_at (xs ++ ys)) found (map (shifted (length xs)) more)
-        ∙ ap (λ l. l ++ flat_map (assigned_at (xs ++ ys)) (map (shifted (length xs)) more))
-        (assigned-front found (λ x pair at. let h = front.each x pair at in (h.list, h.there)))
-        ∙ ap (λ l. flat_map (assigned_at xs) found ++ l) (assigned-back more))),
+    ap reverse (sym (flat-both path rules found more front)),
   )
+
+-- the same of three
+pub row-all : (xs ys zs : Lists) (path : Path) (rules : Rules) (found more rest : List (ℕ × ℕ)) → AreMatches xs path.bytes path.is_dir rules found → AreMatches ys path.bytes path.is_dir rules more → AreMatches zs path.bytes path.is_dir rules rest
+    → IsRow ((xs ++ ys) ++ zs) path rules (reverse ((flat_map (assigned_at xs) found ++ flat_map (assigned_at ys) more) ++ flat_map (assigned_at zs) rest))
+row-all xs ys zs path rules found more rest first next last =
+    subst (λ l. IsRow ((xs ++ ys) ++ zs) path rules (reverse (l ++ flat_map (assigned_at zs) rest))) (flat-both xs ys path rules found more first)
+    (row-both (xs ++ ys) zs path rules (found ++ map (shifted (length xs)) more) rest (matches-both xs ys path.bytes path.is_dir rules found more first next) last)
