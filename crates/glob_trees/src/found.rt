@@ -37,7 +37,7 @@ impl<V: Drop, R: Copy> Found<V, R> {
 
 /// A source of what the folders below the top of a work tree are found to be, for a [`Walk`](crate::Walk).
 pub trait FolderValues {
-    ghost use Rattle.std.specs.Prelude.{◌≡◌, IfOk, List, OnErr, true};
+    ghost use Rattle.std.specs.Prelude.{◌≡◌, IfOk, List, OnErr, OnOk, true};
     ghost use Rattle.std.specs.List.{All};
     ghost use Rattle.glob_trees.specs.declared.found.Found.{Found};
     ghost use Rattle.glob_trees.specs.Walks.{FindsOn, IsOpen, ShowsOn, value_of};
@@ -86,7 +86,7 @@ pub trait FolderValues {
         requires holds { holds self.old }
         ensures found { IfOk result (finds self.new above.now folder.now.bytes) }
         ensures fit { IfOk result (λ found. All fits (value_of found)) }
-        ensures holds { holds self.new }
+        ensures holds { OnOk result (holds self.new) }
         ensures goes_on { FindsOn finds self.old self.new }
         ensures shows_on { ShowsOn shows self.old self.new }
         ensures gives { IfOk result (λ found. GivesOnly (λ given. (given ≡ folder.now.bytes) × IsOpen found) (gave self.old) (gave self.new)) }

@@ -76,6 +76,20 @@ impl<S: FolderValues> Walk<S> {
         Ok(())
     }
 
+    /// The values that stand before those of all folders, then those of the folders on the way, from the top down.
+    pub fn values(&self) -> &[S::Value]
+        ensures { result.now ≡ self.now.values.items }
+    {
+        &self.values
+    }
+
+    /// The source.
+    pub fn source(&self) -> &S
+        ensures { result.now ≡ self.now.source }
+    {
+        &self.source
+    }
+
     /// Sets about how many bytes may be kept of what is known, besides what is on the way to one path: beyond it all is forgotten before the
     /// next path is gone to.
     pub fn keep_at_most(&mut self, bytes: usize)
@@ -99,7 +113,7 @@ impl<S: FolderValues> Walk<S> {
         ensures gone { IfOk result (HasGone (S.finds self.new.source) self.new.front_count self.new.values.items self.new.folder.items path.now.bytes) }
         ensures begins { self.new.folder.items ≡ take (length self.new.folder.items) path.now.bytes }
         ensures under { IsUnderWay S.finds S.gave S.fits self.new }
-        ensures holds { S.holds self.new.source }
+        ensures holds { OnOk result (S.holds self.new.source) }
         ensures keeps { KeepsOn S.finds S.shows self.old self.new }
         ensures asks { GivesOnly (Contains (folders_below self.new.folder.items)) (S.gave self.old.source) (S.gave self.new.source) }
     {
@@ -136,7 +150,7 @@ impl<S: FolderValues> Walk<S> {
         ensures gone { IfOk result (HasGone (S.finds self.new.source) self.new.front_count self.new.values.items self.new.folder.items path.now.bytes) }
         ensures begins { self.new.folder.items ≡ take (length self.new.folder.items) path.now.bytes }
         ensures under { IsUnderWay S.finds S.gave S.fits self.new }
-        ensures holds { S.holds self.new.source }
+        ensures holds { OnOk result (S.holds self.new.source) }
         ensures keeps { KeepsOn S.finds S.shows self.old self.new }
         ensures asks { GivesOnly (Contains (folders_below self.new.folder.items)) (S.gave self.old.source) (S.gave self.new.source) }
     {
@@ -261,7 +275,7 @@ impl<S: FolderValues> Walk<S> {
         ensures entered { IfOk result (HasEntered S.finds self.old self.new folder.now.bytes) }
         ensures stays { OnErr result (HasStayed S.gave self.old self.new) }
         ensures under { IsUnderWay S.finds S.gave S.fits self.new }
-        ensures holds { S.holds self.new.source }
+        ensures holds { OnOk result (S.holds self.new.source) }
         ensures keeps { KeepsOn S.finds S.shows self.old self.new }
         ensures asks { GivesOnly (Contains (folders_below self.new.folder.items)) (S.gave self.old.source) (S.gave self.new.source) }
     {
@@ -282,7 +296,7 @@ impl<S: FolderValues> Walk<S> {
         ensures same { OnOk result (self.new.folder.items ≡ self.old.folder.items) }
         ensures stays { OnErr result (HasStayed S.gave self.old self.new) }
         ensures under { IsUnderWay S.finds S.gave S.fits self.new }
-        ensures holds { S.holds self.new.source }
+        ensures holds { OnOk result (S.holds self.new.source) }
         ensures keeps { KeepsOn S.finds S.shows self.old self.new }
         ensures asks { IfOk result (λ place. GivesOnly (λ given. (given ≡ folder.now.bytes) × IsOpenAt self.new place) (S.gave self.old.source) (S.gave self.new.source)) }
         ensures fails { OnErr result (GivesOnly (λ _. ⊥) (S.gave self.old.source) (S.gave self.new.source)) }
@@ -323,7 +337,7 @@ impl<S: FolderValues> Walk<S> {
         ensures same { OnOk result (self.new.folder.items ≡ self.old.folder.items) }
         ensures source { OnOk result (self.new.source ≡ self.old.source) }
         ensures forgot { OnErr result (IsFresh S.gave S.fits self.new) }
-        ensures holds { S.holds self.new.source }
+        ensures holds { OnOk result (S.holds self.new.source) }
         ensures keeps { KeepsOn S.finds S.shows self.old self.new }
     {
         match self.add(folder, found) {
@@ -381,7 +395,7 @@ impl<S: FolderValues> Walk<S> {
         ensures shut { IfOk result (λ reason. IfSome reason (λ _. ¬ IsOpenAt self.old place)) }
         ensures source { OnOk result (self.new.source ≡ self.old.source) }
         ensures forgot { OnErr result (IsFresh S.gave S.fits self.new) }
-        ensures holds { S.holds self.new.source }
+        ensures holds { OnOk result (S.holds self.new.source) }
         ensures keeps { KeepsOn S.finds S.shows self.old self.new }
     {
         if let Found::Refused(reason) = &self.found[place] {

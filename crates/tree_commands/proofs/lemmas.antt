@@ -1,17 +1,10 @@
 pub mod AmongLemmas
 pub mod AnswerLemmas
 pub mod AttributeAllowed
-pub mod AttributeEntries
-pub mod AttributeKept
-pub mod AttributeLeaves
 pub mod AttributeLists
-pub mod AttributePaths
-pub mod AttributePuts
 pub mod AttributeRuns
-pub mod AttributeSteps
 pub mod AttributeTexts
 pub mod AttributeTold
-pub mod AttributeWalks
 pub mod BeginLemmas
 pub mod BehindTopLemmas
 pub mod BesideLemmas

@@ -3,6 +3,7 @@ ghost use Rattle.std.specs.Prelude.{◌≡◌};
 ghost use Rattle.tree_commands.specs.declared.check_attr.fault.AttributeFault.TheVariants.{Memory};
 
 use git_paths::LeadFault;
+use glob_trees::TreeFault;
 use std::alloc::{AllocError, Global};
 use thiserror::Error;
 use tree_answers::NameFault;
@@ -42,6 +43,17 @@ impl<F> From<NameFault> for AttributeFault<F> {
         match fault {
             NameFault::Memory => AttributeFault::Memory,
             NameFault::BadlyQuoted => AttributeFault::BadlyQuoted,
+        }
+    }
+}
+
+impl<F> From<TreeFault<F>> for AttributeFault<F> {
+    ghost from_gives = { λ _ _. Unit {0} };
+
+    fn from(fault: TreeFault<F>) -> AttributeFault<F> {
+        match fault {
+            TreeFault::Memory => AttributeFault::Memory,
+            TreeFault::Source(inner) => AttributeFault::Source(inner),
         }
     }
 }

@@ -1,13 +1,13 @@
 //! What is read of the attribute files that count for each path.
-ghost use Rattle.std.specs.Prelude.{◌≡◌, [], IfOk, map};
+ghost use Rattle.std.specs.Prelude.{◌≡◌, ◌∷◌, [], IfOk, map};
 ghost use Rattle.gix_glob.specs.EntryLists.{entry_list_of};
 ghost use Rattle.glob_attributes.specs.Views.{seen_assignments};
 ghost use Rattle.tree_commands.specs.CheckAttr.{macros_for, names_of};
-ghost use Rattle.tree_commands.specs.Private.AttributeWays.{HasRead, asked_by, asked_of, files_in, front_lists, top_lists};
+ghost use Rattle.tree_commands.specs.Private.AttributeWays.{HasRead, asked_by, asked_of, files_in, front_lists, kept_list, top_lists};
 
+use crate::check_attr::attribute_files::Asking;
 use crate::check_attr::kept_lists::{kept_list, top_list};
 use crate::check_attr::question::{AskedAttributes, OuterFiles};
-use crate::check_attr::walk::Asking;
 use gix_glob::search::pattern::List;
 use glob_attributes::{AttributeLines, AttributeNames, MacroTable};
 use std::alloc::{AllocError, Global};
@@ -46,6 +46,23 @@ pub(crate) fn front_lists(
     lists.push(kept_list(alloc, asked, macros, &[], files.system)?)?;
     lists.push(kept_list(alloc, asked, macros, &[], files.user)?)?;
     lists.push(kept_list(alloc, asked, macros, &[], files.top)?)?;
+    Ok(lists)
+}
+
+/// The repository's own list, with the patterns that the states of these attributes rest on.
+///
+/// # Errors
+/// Only where memory was refused.
+pub(crate) fn own_lists(
+    alloc: Global,
+    files: OuterFiles<'_>,
+    asked: AskedAttributes<'_>,
+    macros: &MacroTable,
+) -> Result<Vec<List<AttributeLines>>, AllocError>
+    ensures { IfOk result (λ lists. map (entry_list_of seen_assignments) lists.items ≡ kept_list (asked_of asked.entry) macros.now [] files.entry.info.now ∷ []) }
+{
+    let mut lists = Vec::with_capacity(alloc, 1)?;
+    lists.push(kept_list(alloc, asked, macros, &[], files.info)?)?;
     Ok(lists)
 }
 

@@ -81,8 +81,8 @@ impl UnlinkedFolders {
         if self.is_last(folder) {
             return Ok(());
         }
-        self.begin()?;
-        let (mut outer, mut start) = (0, 0);
+        self.keep_to_bound();
+        let (mut outer, mut start) = (None, 0);
         // what lies below no folder is no link
         let mut is_folder = true;
         'bytes: for (end, byte) in folder.iter().enumerate() {
@@ -93,7 +93,7 @@ impl UnlinkedFolders {
                 continue;
             }
             outer = match self.known.place_in(outer, name) {
-                Some(place) => place,
+                Some(place) => Some(place),
                 None => {
                     if is_folder && end >= entered {
                         is_folder = check_folder(kinds, &folder[..end])?;
@@ -108,26 +108,24 @@ impl UnlinkedFolders {
         Ok(())
     }
 
-    /// Forgets all folders where they are too many, and knows the top.
-    fn begin(&mut self) -> Result<(), AllocError> {
+    /// Forgets all folders where they are too many.
+    fn keep_to_bound(&mut self) {
         if self.bytes > MOST_BYTES {
             self.known = KnownFolders::new(self.alloc);
             self.bytes = 0;
         }
-        if self.known.count() == 0 {
-            self.known.add_top()?;
-        }
-        Ok(())
     }
 
-    /// Remembers the folder of this name in the one at a place, and answers its own place.
-    fn add(&mut self, outer: usize, name: &[u8]) -> Result<usize, AllocError> {
-        if outer >= self.known.count() {
+    /// Remembers the folder of this name in the one at a place, or in the top, and answers its own place.
+    fn add(&mut self, outer: Option<usize>, name: &[u8]) -> Result<Option<usize>, AllocError> {
+        if let Some(place) = outer
+            && place >= self.known.count()
+        {
             return Ok(outer);
         }
         self.bytes = self
             .bytes
             .saturating_add(name.len().saturating_add(KnownFolders::FOLDER_BYTES));
-        self.known.add(outer, name)
+        Ok(Some(self.known.add(outer, name)?))
     }
 }

@@ -1,9 +1,0 @@
-use Rattle.std.proofs.Common.{◌≡◌, ◌-◌, Some, length, sym, subst}
-use Rattle.std.specs.Prelude.{slice_get}
-use Rattle.tree_commands.proofs.lemmas.AttributeWalks.{last_on-get}
-use Rattle.tree_commands.proofs.check_attr.walk.FolderAttributes.last.Goals as goal
-
-pub returns-in-Some : goal.returns-in-Some
-returns-in-Some g c =
-    last_on-get c.args.self.now.way.items c.in-Some.last.now
-    (subst (λ way. slice_get way (length way - 1) ≡ Some c.in-Some.last.now) c.deref.ensures.value (sym c.in-Some.ensures.value))
