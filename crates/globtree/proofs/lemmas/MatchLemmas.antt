@@ -58,7 +58,6 @@ pub some_meets : (items : List PathspecItem) (path : List ℕ) → Matches items
 some_meets items path matches none = let met = matches.0 in none met.0 met.1 met.2 (subst (λ (item : PathspecItem). Meets item path) (sym met.3) met.4.1)
 
 module _ (matcher : PathMatcher) (path : List ℕ) where
-
   pub head_word : matcher.verbose ≡ true → (place : ℕ) → IsWhich matcher.list path place → IsHead matcher.verbose matcher path (word_at matcher.words.now place ++ behind matcher.form 9 ∷ [])
   head_word verbose place which = subst (λ (b : Bool). IsHead b matcher path (word_at matcher.words.now place ++ behind matcher.form 9 ∷ [])) (sym verbose) (place, which, refl)
 
