@@ -12,7 +12,6 @@ use Rattle.pathspecs.specs.Private.Asking.{AreParted, Says, SaysText, is_plain}
 use Rattle.pathspecs.proofs.lemmas.PlainLemmas.{says_text, text_says}
 
 module _ (items : List PathspecItem) where
-
   module _ (i : ℕ) (texts : List (List ℕ)) (places : List ℕ) (parted : AreParted items i texts places) (item : PathspecItem) (low : i < length items) (is : item ≡ slice_index_or items i item) where
     -- before the place, or there
     earlier_or_here : (P : PathspecItem → Type 0) (Q : ℕ → PathspecItem → Type 0) → ((k : ℕ) (other : PathspecItem) → k < i → slice_index_or items k other ≡ other → P other → Q k other) → (P item → Q i item)
