@@ -5,6 +5,7 @@ pub mod AttributeLists
 pub mod AttributeRuns
 pub mod AttributeTexts
 pub mod AttributeTold
+pub mod AttributeWalks
 pub mod BeginLemmas
 pub mod BehindTopLemmas
 pub mod BesideLemmas
@@ -22,6 +23,7 @@ pub mod ListsLemmas
 pub mod LookupLemmas
 pub mod MetLemmas
 pub mod NameLemmas
+pub mod NotedNames
 pub mod OrderLemmas
 pub mod OutcomeLemmas
 pub mod PathLemmas

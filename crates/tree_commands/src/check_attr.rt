@@ -8,6 +8,7 @@ mod kept_lists;
 mod outer;
 mod question;
 mod running;
+mod walk;
 
 pub use fault::AttributeFault;
 pub use folders::AttributeFolders;

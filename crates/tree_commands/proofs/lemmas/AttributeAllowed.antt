@@ -1,5 +1,5 @@
 -- What is written about a path is allowed by what is asked.
-use Rattle.std.proofs.Common.{◌≡◌, ◌≢◌, inl, inr, ⊎_elim, ℕ, Bool, false, List, [], ◌∷◌, ◌++◌, map, Option, Some, refl, sym, ap, subst, ◌∙◌}
+use Rattle.std.proofs.Common.{◌≡◌, ◌≢◌, inl, inr, ⊎_elim, ℕ, Bool, false, List, [], ◌∷◌, ◌++◌, map, Option, Some, refl, sym, ap, subst, ◌∙◌, append_assoc}
 use Rattle.std.specs.List.{flat_map}
 use Rattle.std.specs.Vec.{vec_items}
 use Rattle.std.proofs.lemmas.List.Elements.{All-append, All-cons, All-nil}
@@ -24,8 +24,8 @@ use Rattle.tree_answers.specs.declared.form.Form.{Form}
 use Rattle.tree_answers.specs.Attributes.{answer_text, label_text}
 use Rattle.tree_answers.specs.Lines.{name_text}
 use Rattle.tree_commands.specs.declared.check_attr.answering.AttributeAsker.{AttributeAsker}
-use Rattle.tree_commands.specs.declared.check_attr.walk.Asking.{Asking}
-use Rattle.tree_commands.specs.declared.check_attr.walk.Asking.TheVariants as asking
+use Rattle.tree_commands.specs.declared.check_attr.attribute_files.Asking.{Asking}
+use Rattle.tree_commands.specs.declared.check_attr.attribute_files.Asking.TheVariants as asking
 use Rattle.tree_commands.specs.CheckAttr.{Asked, FolderFile, Files, IsAssignedTo, all, lists_for_top, lists_to, macros_for, named, names_of, or_dot, states_text, told_states}
 use Rattle.tree_commands.specs.Private.AttributeAnswers.{IsReady, labels_of, unspecified_text}
 use Rattle.tree_commands.specs.Private.AttributeWays.{HasGoneTo, HasRead, asked_by, front_lists, kept_list, top_list, top_lists}
@@ -46,14 +46,12 @@ module _ (asked : Asked) (macros : List Definition) where
       (λ (some : unless_empty list ≡ list ∷ []). subst BasesAreFolders (sym some) (All-cons HasFolder list [] (kept_folder folder bytes) (All-nil HasFolder)))
       (empty_or_not list)
 
-  way_folders : (way : List FolderFile) → BasesAreFolders (flat_map (λ at. unless_empty (kept_list asked macros at.0 at.1)) way)
+  pub way_folders : (way : List FolderFile) → BasesAreFolders (flat_map (λ at. unless_empty (kept_list asked macros at.0 at.1)) way)
   way_folders [] = All-nil HasFolder
   way_folders (at ∷ way) = All-append HasFolder (unless_empty (kept_list asked macros at.0 at.1)) (flat_map (λ at. unless_empty (kept_list asked macros at.0 at.1)) way) (any_folder at.0 at.1) (way_folders way)
 
-  pub bases_of_way : (way : List FolderFile) (bytes : List ℕ) → BasesAreFolders (flat_map (λ at. unless_empty (kept_list asked macros at.0 at.1)) way ++ kept_list asked macros [] bytes ∷ [])
-  bases_of_way way bytes =
-      All-append HasFolder (flat_map (λ at. unless_empty (kept_list asked macros at.0 at.1)) way) (kept_list asked macros [] bytes ∷ []) (way_folders way)
-      (All-cons HasFolder (kept_list asked macros [] bytes) [] (kept_folder [] bytes) (All-nil HasFolder))
+  pub own_folder : (bytes : List ℕ) → BasesAreFolders (kept_list asked macros [] bytes ∷ [])
+  own_folder bytes = All-cons HasFolder (kept_list asked macros [] bytes) [] (kept_folder [] bytes) (All-nil HasFolder)
 
   top_folder : (bytes : List ℕ) → HasFolder (top_list asked macros bytes)
   top_folder bytes = λ base is. absurd (none-some base is)
@@ -84,43 +82,48 @@ module _ {S Q : Type 0} (files : Files) (asked : Asked) (case : Case) (shows : F
     abbrev at_path : Path
     at_path = record { bytes = asker.path.items; is_dir = is_folder }
 
-    module _ (assigned : List Assigned) (its : IsAssigned (map (entry_list_of seen_assignments) asker.fronts.now.lists ++ map (entry_list_of seen_assignments) asker.walk.lists.items) asker.walk.macros.now at_path asker.fronts.now.rules assigned) where
+    module _ (assigned : List Assigned) (its : IsAssigned ((map (entry_list_of seen_assignments) asker.fronts.now.lists ++ map (entry_list_of seen_assignments) asker.walk.lists) ++ map (entry_list_of seen_assignments) asker.own.items) asker.walk.from.macros.now at_path asker.fronts.now.rules assigned) where
       -- by the lists that are kept, as they are asked for
-      by_kept : IsAssigned (lists_if_any (macros_for files) files at_path (by_git case) (asked_by asker.walk.asking) gone.way) (macros_for files) at_path (by_git case) assigned
+      by_kept : IsAssigned (lists_if_any (macros_for files) files at_path (by_git case) (asked_by asker.walk.from.asking) gone.way) (macros_for files) at_path (by_git case) assigned
       by_kept =
-          let walks = gone.walks in
+          let walks = gone.has_files in
+          let own = kept_list asked (macros_for files) [] files.info ∷ [] in
+          let of_way = flat_map (λ at. unless_empty (kept_list asked (macros_for files) at.0 at.1)) gone.way in
+          let joined = append_assoc (front_lists asked (macros_for files) files) of_way own in
           subst (λ a. IsAssigned (lists_if_any (macros_for files) files at_path (by_git case) a gone.way) (macros_for files) at_path (by_git case) assigned) (sym walks.asks)
           (subst (λ rules. IsAssigned (lists_if_any (macros_for files) files at_path (by_git case) asked gone.way) (macros_for files) at_path rules assigned) ready.rules
           (subst (λ macros. IsAssigned (lists_if_any (macros_for files) files at_path (by_git case) asked gone.way) macros at_path asker.fronts.now.rules assigned) walks.macros
-          (subst (λ lists. IsAssigned (front_lists asked (macros_for files) files ++ lists) asker.walk.macros.now at_path asker.fronts.now.rules assigned) gone.standing
-          (subst (λ lists. IsAssigned (lists ++ map (entry_list_of seen_assignments) asker.walk.lists.items) asker.walk.macros.now at_path asker.fronts.now.rules assigned) ready.lists its))))
+          (subst (λ lists. IsAssigned lists asker.walk.from.macros.now at_path asker.fronts.now.rules assigned)
+          (ap (λ lists. (lists ++ map (entry_list_of seen_assignments) asker.walk.lists) ++ map (entry_list_of seen_assignments) asker.own.items) ready.lists
+          ∙ ap (λ lists. (front_lists asked (macros_for files) files ++ lists) ++ map (entry_list_of seen_assignments) asker.own.items) gone.standing
+          ∙ ap (λ lists. (front_lists asked (macros_for files) files ++ of_way) ++ lists) ready.own
+          ∙ joined) its)))
 
       text_same : (filled : List Assigned) → IsAssignedTo (record { files = files; asked = asked; case = case; standpoint = asker.standpoint.now; form = asker.form }) told asker.path.items gone.way filled
-          → told_states (asked_by asker.walk.asking) (names_of files gone.walks.read) assigned ≡ told_states asked (names_of files gone.walks.read) filled
+          → told_states (asked_by asker.walk.from.asking) (names_of files gone.read) assigned ≡ told_states asked (names_of files gone.read) filled
       text_same filled (inl top) = absurd (plain.some top.0)
       text_same filled (inr (inl none)) = absurd (none.1 plain)
       text_same filled (inr (inr some)) =
-          let walks = gone.walks in
+          let walks = gone.has_files in
           let full = subst (λ is. IsAssigned (lists_to files gone.way) (macros_for files) (record { bytes = asker.path.items; is_dir = is }) (by_git case) filled) (sym named_so) some.1 in
-          told_same (macros_for files) files at_path (by_git case) asker.walk.asking gone.way filled assigned (names_of files walks.read) full by_kept
-          ∙ ap (λ a. told_states a (names_of files walks.read) filled) walks.asks
+          told_same (macros_for files) files at_path (by_git case) asker.walk.from.asking gone.way filled assigned (names_of files gone.read) full by_kept
+          ∙ ap (λ a. told_states a (names_of files gone.read) filled) walks.asks
 
-      pub assigned_allowed : (old new : List ℕ) → ((names : List (List ℕ)) → HasRead asker.walk.asking names → new ≡ old ++ states_text asker.form told (told_states (asked_by asker.walk.asking) names assigned)) → Adds (allows told) old new
+      pub assigned_allowed : (old new : List ℕ) → ((names : List (List ℕ)) → HasRead asker.walk.from.asking names → new ≡ old ++ states_text asker.form told (told_states (asked_by asker.walk.from.asking) names assigned)) → Adds (allows told) old new
       assigned_allowed old new written =
-          let walks = gone.walks in
-          let names : List (List ℕ) = names_of files walks.read in
+          let names : List (List ℕ) = names_of files gone.read in
           record {
-            added = states_text asker.form told (told_states (asked_by asker.walk.asking) names assigned);
+            added = states_text asker.form told (told_states (asked_by asker.walk.from.asking) names assigned);
             allowed = ready.allowed told _ (record {
               path = asker.path.items;
               leads = leads;
               way = gone.way;
               on_way = λ _. gone.on_way;
-              read = walks.read;
+              read = gone.read;
               are_read = gone.are_read;
               written = λ filled is. ap (states_text asker.form told) (text_same filled is);
             });
-            grown = written names walks.has_read;
+            grown = written names gone.has_read;
           }
 
   -- ---- what is no path
@@ -166,41 +169,41 @@ module _ {S Q : Type 0} (files : Files) (asked : Asked) (case : Case) (shows : F
   -- ---- the top
 
   module _ (top : asker.path.items ≡ []) (unspent : asker.is_spent ≡ false) (assigned : List Assigned)
-      (its : IsAssigned (map (entry_list_of seen_assignments) asker.top.items) asker.walk.macros.now (record { bytes = []; is_dir = false }) asker.fronts.now.rules assigned) where
+      (its : IsAssigned (map (entry_list_of seen_assignments) asker.top.items) asker.walk.from.macros.now (record { bytes = []; is_dir = false }) asker.fronts.now.rules assigned) where
     abbrev at_top : Path
     at_top = record { bytes = []; is_dir = false }
 
     -- by the lists that count for the top, as they are asked for
-    top_by_kept : IsAssigned (top_lists (asked_by asker.walk.asking) (macros_for files) files) (macros_for files) at_top (by_git case) assigned
+    top_by_kept : IsAssigned (top_lists (asked_by asker.walk.from.asking) (macros_for files) files) (macros_for files) at_top (by_git case) assigned
     top_by_kept =
         let walks = ready.entered unspent in
         subst (λ a. IsAssigned (top_lists a (macros_for files) files) (macros_for files) at_top (by_git case) assigned) (sym walks.asks)
         (subst (λ rules. IsAssigned (top_lists asked (macros_for files) files) (macros_for files) at_top rules assigned) ready.rules
         (subst (λ macros. IsAssigned (top_lists asked (macros_for files) files) macros at_top asker.fronts.now.rules assigned) walks.macros
-        (subst (λ lists. IsAssigned lists asker.walk.macros.now at_top asker.fronts.now.rules assigned) ready.top its)))
+        (subst (λ lists. IsAssigned lists asker.walk.from.macros.now at_top asker.fronts.now.rules assigned) ready.top its)))
 
     top_same : (filled : List Assigned) → IsAssignedTo (record { files = files; asked = asked; case = case; standpoint = asker.standpoint.now; form = asker.form }) told asker.path.items [] filled
-        → told_states (asked_by asker.walk.asking) (names_of files (ready.entered unspent).read) assigned ≡ told_states asked (names_of files (ready.entered unspent).read) filled
+        → told_states (asked_by asker.walk.from.asking) (names_of files (ready.entered unspent).read) assigned ≡ told_states asked (names_of files (ready.entered unspent).read) filled
     top_same filled (inl full) =
         let walks = ready.entered unspent in
-        told_same_top (macros_for files) files at_top (by_git case) asker.walk.asking filled assigned (names_of files walks.read) full.1 top_by_kept
+        told_same_top (macros_for files) files at_top (by_git case) asker.walk.from.asking filled assigned (names_of files walks.read) full.1 top_by_kept
         ∙ ap (λ a. told_states a (names_of files walks.read) filled) walks.asks
     top_same filled (inr (inl none)) = absurd (none.0 top)
     top_same filled (inr (inr some)) = absurd (some.0.some top)
 
-    pub top_allowed : (old new : List ℕ) → ((names : List (List ℕ)) → HasRead asker.walk.asking names → new ≡ old ++ states_text asker.form told (told_states (asked_by asker.walk.asking) names assigned)) → Adds (allows told) old new
+    pub top_allowed : (old new : List ℕ) → ((names : List (List ℕ)) → HasRead asker.walk.from.asking names → new ≡ old ++ states_text asker.form told (told_states (asked_by asker.walk.from.asking) names assigned)) → Adds (allows told) old new
     top_allowed old new written =
         let walks = ready.entered unspent in
         let names : List (List ℕ) = names_of files walks.read in
         record {
-          added = states_text asker.form told (told_states (asked_by asker.walk.asking) names assigned);
+          added = states_text asker.form told (told_states (asked_by asker.walk.from.asking) names assigned);
           allowed = ready.allowed told _ (record {
             path = asker.path.items;
             leads = leads;
             way = [];
             on_way = λ plain. absurd (plain.some top);
             read = walks.read;
-            are_read = record { shown = walks.entered.shown; on_way = tt };
+            are_read = record { shown = walks.shown; on_way = tt };
             written = λ filled is. ap (states_text asker.form told) (top_same filled is);
           });
           grown = written names walks.has_read;

@@ -13,8 +13,7 @@ use Rattle.tree_answers.specs.declared.form.Form.{Form}
 use Rattle.tree_answers.specs.Attributes.{answer_text, label_text}
 use Rattle.tree_commands.specs.declared.check_attr.answering.AttributeAsker.{AttributeAsker}
 use Rattle.tree_commands.specs.CheckAttr.{Asked, Files, IsStatesText, all, macros_for, named}
-use Rattle.tree_commands.specs.declared.check_attr.attribute_files.AttributeFiles.{AttributeFiles}
-use Rattle.tree_commands.specs.Private.AttributeWays.{IsEntered, PatternList, front_lists, kept_list, top_lists}
+use Rattle.tree_commands.specs.Private.AttributeWays.{HasFiles, front_lists, kept_list, top_lists}
 
 -- the labels of the attributes that are asked for, where not all are
 abbrev pub labels_of : Form → Asked → List (List ℕ)
@@ -29,13 +28,13 @@ shown_text form shown states = flat_map (λ each. answer_text form shown (label_
 abbrev pub unspecified_text : Form → List ℕ → List (List ℕ) → List ℕ
 unspecified_text form shown labels = flat_map (λ label. answer_text form shown label Unspecified) labels
 
-module _ {S Q F : Type 0} (files : Files) (asked : Asked) (case : Case) (shows : Folder → Option (List ℕ) → Type 0) (allows : List ℕ → List ℕ → Type 0) (shows_of : S → Folder → Option (List ℕ) → Type 0) where
+module _ {S Q : Type 0} (files : Files) (asked : Asked) (case : Case) (shows : Folder → Option (List ℕ) → Type 0) (allows : List ℕ → List ℕ → Type 0) (shows_of : S → Folder → Option (List ℕ) → Type 0) where
   -- what is asked is what the asker has, and the folders on the way to something are entered, unless the asker is spent
-  pub record IsReady (asker : AttributeAsker (AttributeFiles S Q) PatternList (Unit {0}) F) : Type 0 where
+  pub record IsReady (asker : AttributeAsker S Q) : Type 0 where
     pub allowed : (told text : List ℕ) → IsStatesText (record { files = files; asked = asked; case = case; standpoint = asker.standpoint.now; form = asker.form }) shows told text → allows told text
     pub lists : map (entry_list_of seen_assignments) asker.fronts.now.lists ≡ front_lists asked (macros_for files) files
     pub rules : asker.fronts.now.rules ≡ by_git case
     pub own : map (entry_list_of seen_assignments) asker.own.items ≡ kept_list asked (macros_for files) [] files.info ∷ []
     pub top : map (entry_list_of seen_assignments) asker.top.items ≡ top_lists asked (macros_for files) files
     pub labels : map vec_items asker.labels.items ≡ labels_of asker.form asked
-    pub entered : asker.is_spent ≡ false → IsEntered files asked shows shows_of asker.walk
+    pub entered : asker.is_spent ≡ false → HasFiles files asked shows shows_of asker.walk.from

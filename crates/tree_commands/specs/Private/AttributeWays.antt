@@ -101,6 +101,16 @@ IsFoundAt files asked shows asks folder (Refused reason) = shows folder None
 abbrev pub AreShown : (Folder → Option (List ℕ) → Type 0) → List (List ℕ) → Type 0
 AreShown shows read = AllByRecursion (λ bytes. (folder : Folder) × shows folder (Some bytes)) read
 
+-- what is seen of a walk: the lists of the folders on the way, and where they come from
+pub record AttributeWalk (S Q : Type 0) : Type 0 where
+  pub lists : List PatternList
+  pub from : AttributeFiles S Q
+
+-- the folders on the way to something are entered
+pub record IsWalk {S Q F : Type 0} (files : Files) (asked : Asked) (shows : Folder → Option (List ℕ) → Type 0) (walk : Walk (AttributeFiles S Q) PatternList (Unit {0}) F) : Type 0 where
+  pub under : IsUnderWay (λ (from : AttributeFiles S Q) (above : List PatternList). IsFoundAt files asked shows from.asking) (λ (from : AttributeFiles S Q) (folder : Folder). ⊥) (λ (list : PatternList). HasFolder (entry_list_of seen_assignments list)) walk
+  pub none : walk.front_count ≡ 0
+
 module _ {S Q : Type 0} (files : Files) (asked : Asked) (shows : Folder → Option (List ℕ) → Type 0) (shows_of : S → Folder → Option (List ℕ) → Type 0) where
   -- what is asked, and what was read of folders so far
   pub record HasFiles (from : AttributeFiles S Q) : Type 0 where
@@ -111,19 +121,12 @@ module _ {S Q : Type 0} (files : Files) (asked : Asked) (shows : Folder → Opti
     pub has_read : HasRead from.asking (names_of files read)
     pub shown : AreShown shows read
 
-  module _ {F : Type 0} where
-    -- a walk over attribute files, in which the folders on the way to something are entered
-    pub record IsEntered (walk : Walk (AttributeFiles S Q) PatternList (Unit {0}) F) : Type 0 where
-      pub under : IsUnderWay (λ (from : AttributeFiles S Q) (above : List PatternList). IsFoundAt files asked shows from.asking) (λ from folder. ⊥) (λ (list : PatternList). HasFolder (entry_list_of seen_assignments list)) walk
-      pub none : walk.front_count ≡ 0
-      pub has_files : HasFiles walk.source
-
-    -- the folders on the way to a path are entered as far as folders stand there: their files are found, and the lists are theirs
-    pub record HasGoneTo (walk : Walk (AttributeFiles S Q) PatternList (Unit {0}) F) (path : List ℕ) : Type 0 where
-      pub walks : IsEntered walk
-      pub way : List FolderFile
-      pub on_way : IsWayTo shows path way
-      pub read : List (List ℕ)
-      pub has_read : HasRead walk.source.asking (names_of files read)
-      pub are_read : AreRead shows way read
-      pub standing : map (entry_list_of seen_assignments) walk.values.items ≡ flat_map (λ at. unless_empty (kept_list asked (macros_for files) at.0 at.1)) way
+  -- the folders on the way to a path are entered as far as folders stand there: their files are found, and the lists are theirs
+  pub record HasGoneTo (walk : AttributeWalk S Q) (path : List ℕ) : Type 0 where
+    pub has_files : HasFiles walk.from
+    pub way : List FolderFile
+    pub on_way : IsWayTo shows path way
+    pub read : List (List ℕ)
+    pub has_read : HasRead walk.from.asking (names_of files read)
+    pub are_read : AreRead shows way read
+    pub standing : map (entry_list_of seen_assignments) walk.lists ≡ flat_map (λ at. unless_empty (kept_list asked (macros_for files) at.0 at.1)) way

@@ -25,29 +25,29 @@ ghost use Rattle.tree_commands.specs.CheckAttr.{or_dot, states_text, told_states
 ghost use Rattle.tree_commands.specs.Private.AttributeWays.{HasGoneTo, HasRead, asked_by};
 ghost use Rattle.tree_commands.specs.Private.AttributeAnswers.{IsReady, labels_of, shown_text, unspecified_text};
 
-use crate::check_attr::attribute_files::{Asking, AttributeFiles};
+use crate::check_attr::attribute_files::Asking;
 use crate::check_attr::fault::AttributeFault;
 use crate::check_attr::folders::AttributeFolders;
 use crate::check_attr::question::Question;
+use crate::check_attr::walk::FolderAttributes;
 use byte_streams::{RecordFault, Records, Watched, write_text};
 use git_paths::Standpoint;
 use gix_glob::search::pattern;
 use glob_attributes::{Assignment, AttributeLines, PathAttributes, State};
 use glob_lists::{PreparedStack, RepositoryPath, plain_path};
-use glob_trees::{FolderValues, Walk};
 use std::alloc::{AllocError, Global};
 use std::io::{Read, Write};
 use tree_answers::{Form, ToldPath, append_answer, append_label, path_text};
 
 /// What is asked of each path, and what is known of folders.
 #[derive(Drop)]
-pub(crate) struct AttributeAsker<'q, 'm, F: FolderValues> {
+pub(crate) struct AttributeAsker<'q, 'm, S: AttributeFolders, Q: Question> {
     pub(crate) alloc: Global,
     pub(crate) standpoint: &'q Standpoint,
     pub(crate) form: Form,
     /// The lists that are weaker than those of all folders below the top.
     pub(crate) fronts: &'m PreparedStack<'m, AttributeLines>,
-    pub(crate) walk: Walk<F>,
+    pub(crate) walk: FolderAttributes<'q, 'm, S, Q>,
     /// The repository's own list, which is stronger than those of all folders.
     pub(crate) own: Vec<pattern::List<AttributeLines>>,
     /// The lists that count for the top, with their patterns for names alone.
@@ -60,9 +60,7 @@ pub(crate) struct AttributeAsker<'q, 'm, F: FolderValues> {
     pub(crate) is_spent: bool,
 }
 
-impl<'q, 'm, S: AttributeFolders, Q: Question>
-    AttributeAsker<'q, 'm, AttributeFiles<'q, 'm, S, Q>>
-{
+impl<'q, 'm, S: AttributeFolders, Q: Question> AttributeAsker<'q, 'm, S, Q> {
     /// Reads records to the reader's end, and writes for each the states of the attributes of the path that it names.
     pub(crate) fn answer_records<R: Read, W: Write>(
         &mut self,
@@ -252,11 +250,14 @@ impl<'q, 'm, S: AttributeFolders, Q: Question>
         ensures gone { OnOk result (HasGoneTo Q.files Q.asked Q.shows S.shows self.new.walk self.new.path.items) }
         ensures same { self.new ≡ record self.old { walk = self.new.walk; is_spent = self.new.is_spent } }
     {
-        match self.walk.go_to(&RepositoryPath::from_plain(&self.path, false)) {
-            Ok(_) => Ok(()),
+        match self
+            .walk
+            .go_to(&RepositoryPath::from_plain(&self.path, false))
+        {
+            Ok(()) => Ok(()),
             Err(fault) => {
                 self.is_spent = true;
-                Err(AttributeFault::from(fault))
+                Err(fault)
             }
         }
     }
@@ -285,8 +286,8 @@ impl<'q, 'm, S: AttributeFolders, Q: Question>
         let assigned = PathAttributes::with_prepared(
             self.alloc,
             self.fronts,
-            (self.walk.values(), &self.own),
-            self.walk.source().macros,
+            (self.walk.lists(), &self.own),
+            self.walk.macros(),
             &path,
         )?;
         self.append_states(text, told, is_usual, &assigned)
@@ -306,7 +307,7 @@ impl<'q, 'm, S: AttributeFolders, Q: Question>
     {
         let top = RepositoryPath::top();
         let rules = self.fronts.rules();
-        let assigned = PathAttributes::new(self.alloc, &self.top, self.walk.source().macros, &top, rules)?;
+        let assigned = PathAttributes::new(self.alloc, &self.top, self.walk.macros(), &top, rules)?;
         self.append_states(text, told, false, &assigned)
     }
 
@@ -321,15 +322,15 @@ impl<'q, 'm, S: AttributeFolders, Q: Question>
         is_usual: bool,
         assigned: &PathAttributes<'_>,
     ) -> Result<(), AllocError>
-        requires labels { map vec_items self.now.labels.items ≡ labels_of self.now.form (asked_by self.now.walk.source.asking) }
+        requires labels { map vec_items self.now.labels.items ≡ labels_of self.now.form (asked_by self.now.walk.from.asking) }
         requires usual { IsTrue is_usual → list_any (is_unusual Full) told.now ≡ false }
-        ensures written { OnOk result ((names : List (List ℕ)) → HasRead self.now.walk.source.asking names →
-            text.new.items ≡ text.old.items ++ states_text self.now.form told.now (told_states (asked_by self.now.walk.source.asking) names assigned.now)) }
+        ensures written { OnOk result ((names : List (List ℕ)) → HasRead self.now.walk.from.asking names →
+            text.new.items ≡ text.old.items ++ states_text self.now.form told.now (told_states (asked_by self.now.walk.from.asking) names assigned.now)) }
         ensures kept { StartsWith text.new.items text.old.items }
     {
         let mut quoted = Vec::new(self.alloc);
         let shown = shown_path(&mut quoted, told, is_usual, self.form)?;
-        match &self.walk.source().asking {
+        match self.walk.asking() {
             Asking::Names(names) => {
                 append_named(text, shown, names, &self.labels, assigned, self.form)
             }

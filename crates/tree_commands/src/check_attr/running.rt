@@ -18,25 +18,21 @@ ghost use Rattle.tree_commands.specs.Answering.{IsTextOfFirst, StopsAt, Writes};
 ghost use Rattle.tree_commands.specs.CheckAttr.{IsStatesText, macros_for};
 ghost use Rattle.tree_commands.specs.Private.AttributeAnswers.{IsReady, labels_of};
 ghost use Rattle.tree_commands.specs.Private.AttributeRuns.{AsksFor};
-ghost use Rattle.tree_commands.specs.Private.AttributeWays.{IsEntered, asked_of, front_lists};
+ghost use Rattle.tree_commands.specs.Private.AttributeWays.{HasFiles, asked_of, front_lists};
 
 use crate::check_attr::answering::AttributeAsker;
-use crate::check_attr::attribute_files::AttributeFiles;
 use crate::check_attr::fault::AttributeFault;
 use crate::check_attr::folders::AttributeFolders;
 use crate::check_attr::outer::{asking_of, front_lists, macros_of_files, own_lists, top_lists};
 use crate::check_attr::question::{AskedAttributes, AttributeQuestion, Question};
+use crate::check_attr::walk::FolderAttributes;
 use byte_streams::{RecordFault, Watched};
 use glob_attributes::{AttributeLines, MacroTable};
 use glob_lists::{PreparedStack, Rules};
-use glob_trees::Walk;
 use std::alloc::{AllocError, Global};
 use std::io::{Read, Write};
-use std::marker::{Brand, PhantomData};
+use std::marker::Brand;
 use tree_answers::{Form, append_label};
-
-/// About how many bytes are kept of folders and their patterns.
-const MOST_BYTES: usize = 24 << 20;
 
 /// Reads records that name paths, to the reader's end, and writes for each the states of its attributes, in order, as
 /// `git check-attr --stdin` does: in lines, or in records that a NUL ends. A line in double quotes is read as Git writes names. Patterns are
@@ -171,7 +167,7 @@ fn asker_of<'q, 'm, S: AttributeFolders, Q: Question>(
     source: S,
     macros: &'m MacroTable,
     fronts: &'m PreparedStack<'m, AttributeLines>,
-) -> Result<AttributeAsker<'q, 'm, AttributeFiles<'q, 'm, S, Q>>, AllocError>
+) -> Result<AttributeAsker<'q, 'm, S, Q>, AllocError>
     requires asks { AsksFor Q.files Q.asked Q.case Q.shows Q.allows question.now (S.shows source) }
     requires macros { macros.now ≡ macros_for Q.files }
     requires lists { map (entry_list_of seen_assignments) fronts.now.lists ≡ front_lists Q.asked (macros_for Q.files) Q.files }
@@ -203,22 +199,13 @@ fn walk_of<'q, 'm, S: AttributeFolders, Q: Question>(
     question: &AttributeQuestion<'q>,
     source: S,
     macros: &'m MacroTable,
-) -> Result<Walk<AttributeFiles<'q, 'm, S, Q>>, AllocError>
+) -> Result<FolderAttributes<'q, 'm, S, Q>, AllocError>
     requires asks { AsksFor Q.files Q.asked Q.case Q.shows Q.allows question.now (S.shows source) }
     requires macros { macros.now ≡ macros_for Q.files }
-    ensures { IfOk result (IsEntered Q.files Q.asked Q.shows S.shows) }
+    ensures { IfOk result (λ walk. HasFiles Q.files Q.asked Q.shows S.shows walk.from) }
 {
-    let files = AttributeFiles {
-        alloc,
-        source,
-        asking: asking_of(alloc, question.files, question.asked)?,
-        macros,
-        file: Vec::new(alloc),
-        question: PhantomData,
-    };
-    let mut walk = Walk::new(alloc, files, Vec::new(alloc));
-    walk.keep_at_most(MOST_BYTES);
-    Ok(walk)
+    let asking = asking_of(alloc, question.files, question.asked)?;
+    Ok(FolderAttributes::new(alloc, source, asking, macros))
 }
 
 /// The label of each attribute that is asked for, where not all are.
