@@ -38,7 +38,7 @@ module _ (asked : Asked) (macros : List Definition) where
   kept_folder [] bytes = λ base is. absurd (none-some base is)
   kept_folder (x ∷ xs) bytes = λ base is. inr (record { front = x ∷ xs; joined = sym (same_Some ((x ∷ xs) ++ slash ∷ []) base is) })
 
-  any_folder : (folder : Folder) (bytes : List ℕ) → BasesAreFolders (unless_empty (kept_list asked macros folder bytes))
+  pub any_folder : (folder : Folder) (bytes : List ℕ) → BasesAreFolders (unless_empty (kept_list asked macros folder bytes))
   any_folder folder bytes =
       let list : EntryList (List Assigned) = kept_list asked macros folder bytes in
       ⊎_elim
@@ -75,7 +75,7 @@ told_same_top : (macros : List Definition) (files : Files) (path : Path) (rules 
 told_same_top macros files path rules (asking.Names names) filled other read full some = told_same_top_named macros files path rules names.now filled other read full some
 told_same_top macros files path rules (asking.All known) filled other read full some = told_same_top_all macros files path rules filled other read full some
 
-module _ {S Q : Type 0} (files : Files) (asked : Asked) (case : Case) (shows : Folder → Option (List ℕ) → Type 0) (allows : List ℕ → List ℕ → Type 0) (shows_of : S → Folder → Option (List ℕ) → Type 0) (asker : AttributeAsker S Q) (ready : IsReady files asked case shows allows shows_of asker) (told : List ℕ) (leads : led asker.standpoint.now (or_dot told) ≡ Some asker.path.items) where
+module _ {S Q F : Type 0} (files : Files) (asked : Asked) (case : Case) (shows : Folder → Option (List ℕ) → Type 0) (allows : List ℕ → List ℕ → Type 0) (shows_of : S → Folder → Option (List ℕ) → Type 0) (asker : AttributeAsker S Q F) (ready : IsReady files asked case shows allows shows_of asker) (told : List ℕ) (leads : led asker.standpoint.now (or_dot told) ≡ Some asker.path.items) where
   -- ---- a path below the top
 
   module _ (plain : IsPlainPath asker.path.items) (is_folder : Bool) (named_so : is_folder ≡ names_folder false (parts_of (or_dot told))) (gone : HasGoneTo files asked shows shows_of asker.walk asker.path.items) where

@@ -1,5 +1,5 @@
 -- What a walk over attribute files found on the way to a path.
-use Rattle.std.proofs.Common.{◌≡◌, ℕ, List, [], ◌∷◌, ◌++◌, drop, length, map, take, Option, None, Some, ⊎_elim, refl, sym, ap, subst, ◌∙◌}
+use Rattle.std.proofs.Common.{◌≡◌, ℕ, false, true, List, [], ◌∷◌, ◌++◌, drop, length, map, take, Option, None, Some, ⊎_elim, refl, sym, ap, subst, ◌∙◌}
 use Rattle.std.specs.Prelude.{MatchOption}
 use Rattle.std.specs.List.{AllByRecursion, Contains, flat_map}
 use Rattle.std.specs.Option.{option_to_list}
@@ -21,7 +21,7 @@ use Rattle.tree_commands.specs.Private.AttributeWays.{AreShown, AttributeWalk, H
 use Rattle.tree_commands.proofs.lemmas.NotedNames.{all_append, all_weaker, none_new}
 
 -- the names of more files, which were read before
-names_more : (files : Files) (read more : List (List ℕ)) → names_of files (read ++ more) ≡ with_names (names_of files read) (flat_map (names_read false) more)
+pub names_more : (files : Files) (read more : List (List ℕ)) → names_of files (read ++ more) ≡ with_names (names_of files read) (flat_map (names_read false) more)
 names_more files read more =
     let outer : List (List ℕ) = with_names [] (flat_map (names_read true) (built_in ∷ files_of files)) in
     ap (with_names outer) (flat_map-append (names_read false) read more) ∙ with_names-append outer (flat_map (names_read false) read) (flat_map (names_read false) more)

@@ -1,6 +1,6 @@
 -- Names that were read before: adding them again changes nothing.
 use Rattle.std.proofs.Common.{◌≡◌, ⊎_elim, ℕ, Bool, true, false, List, [], ◌∷◌, ◌++◌, refl, sym, ap, subst, ◌∙◌}
-use Rattle.std.specs.Prelude.{if◌then◌else◌}
+use Rattle.std.specs.Prelude.{◌||◌, if◌then◌else◌}
 use Rattle.std.specs.List.{AllByRecursion, Contains, list_any}
 use Rattle.std.specs.Str.{bytes_eq}
 use Rattle.std.proofs.lemmas.Bool.{false≢true}
@@ -18,7 +18,7 @@ all_append P [] ys first next = next
 all_append P (x ∷ xs) ys first next = (first.0, all_append P xs ys first.1 next)
 
 -- whether a name is among others
-found_at : (b : Bool) (name x : List ℕ) (known : List (List ℕ)) → (b ≡ true → x ≡ name) → (list_any (λ other. bytes_eq other name) known ≡ true → Contains known name) → (if b then true else list_any (λ other. bytes_eq other name) known) ≡ true → Contains (x ∷ known) name
+found_at : (b : Bool) (name x : List ℕ) (known : List (List ℕ)) → (b ≡ true → x ≡ name) → (list_any (λ other. bytes_eq other name) known ≡ true → Contains known name) → (b || list_any (λ other. bytes_eq other name) known) ≡ true → Contains (x ∷ known) name
 found_at true name x known here later is = subst (Contains (x ∷ known)) (here refl) (Contains-append_left (x ∷ []) known x (Contains-push [] x))
 found_at false name x known here later is = Contains-append_right (x ∷ []) known name (later is)
 
@@ -26,11 +26,11 @@ is_among : (known : List (List ℕ)) (name : List ℕ) → list_any (λ other. b
 is_among [] name is = absurd (false≢true is)
 is_among (x ∷ known) name is = found_at (bytes_eq x name) name x known (bytes_eq-Decides x name).0 (is_among known name) is
 
-first_or : (a b : Bool) → a ≡ true → (if a then true else b) ≡ true
+first_or : (a b : Bool) → a ≡ true → (a || b) ≡ true
 first_or true b is = refl
 first_or false b is = absurd (false≢true is)
 
-next_or : (a b : Bool) → b ≡ true → (if a then true else b) ≡ true
+next_or : (a b : Bool) → b ≡ true → (a || b) ≡ true
 next_or true b is = refl
 next_or false b is = is
 

@@ -28,9 +28,9 @@ shown_text form shown states = flat_map (λ each. answer_text form shown (label_
 abbrev pub unspecified_text : Form → List ℕ → List (List ℕ) → List ℕ
 unspecified_text form shown labels = flat_map (λ label. answer_text form shown label Unspecified) labels
 
-module _ {S Q : Type 0} (files : Files) (asked : Asked) (case : Case) (shows : Folder → Option (List ℕ) → Type 0) (allows : List ℕ → List ℕ → Type 0) (shows_of : S → Folder → Option (List ℕ) → Type 0) where
+module _ {S Q F : Type 0} (files : Files) (asked : Asked) (case : Case) (shows : Folder → Option (List ℕ) → Type 0) (allows : List ℕ → List ℕ → Type 0) (shows_of : S → Folder → Option (List ℕ) → Type 0) where
   -- what is asked is what the asker has, and the folders on the way to something are entered, unless the asker is spent
-  pub record IsReady (asker : AttributeAsker S Q) : Type 0 where
+  pub record IsReady (asker : AttributeAsker S Q F) : Type 0 where
     pub allowed : (told text : List ℕ) → IsStatesText (record { files = files; asked = asked; case = case; standpoint = asker.standpoint.now; form = asker.form }) shows told text → allows told text
     pub lists : map (entry_list_of seen_assignments) asker.fronts.now.lists ≡ front_lists asked (macros_for files) files
     pub rules : asker.fronts.now.rules ≡ by_git case
