@@ -1,9 +1,11 @@
 -- Texts to which the states of attributes are added.
-use Rattle.std.proofs.Common.{◌≡◌, ℕ, zero, suc, ◌+◌, ◌<◌, List, [], ◌∷◌, ◌++◌, length, map, take, Bor, Vec, Result, Ok, Err, IfOk, add-one, refl, sym, ap, ◌∙◌, append_assoc, arith}
+use Rattle.std.proofs.Common.{◌≡◌, ℕ, zero, suc, ◌+◌, ◌<◌, List, [], ◌∷◌, ◌++◌, length, map, take, Bor, Vec, Result, Ok, Err, IfOk, add-one, refl, sym, ap, ◌∙◌, append_assoc, append-nil, arith}
 use Rattle.std.specs.Prelude.{slice_index_or}
 use Rattle.std.specs.Vec.{vec_items}
 use Rattle.std.specs.declared.alloc.Global.{Global}
+use Rattle.std.specs.List.{flat_map}
 use Rattle.std.proofs.Math.Seq.{take-suc}
+use Rattle.std.proofs.lemmas.Grind.{flat_map-append}
 use Rattle.std.proofs.lemmas.List.{map-append}
 use Rattle.glob_attributes.specs.declared.assignment.State.{State}
 use Rattle.glob_attributes.specs.declared.assignment.State.TheVariants.{Unspecified}
@@ -11,7 +13,6 @@ use Rattle.glob_attributes.specs.States.{Assigned, state_in}
 use Rattle.tree_answers.specs.declared.form.Form.{Form}
 use Rattle.tree_answers.specs.Attributes.{answer_text, label_text}
 use Rattle.tree_commands.specs.Private.AttributeAnswers.{shown_text, unspecified_text}
-use Rattle.tree_commands.proofs.lemmas.AttributeWalks.{flat_last}
 pub use Rattle.git_paths.proofs.lemmas.FrontLemmas.{front_of_front}
 
 pub map_twice : {X Y Z : Type 0} (f : Y → Z) (g : X → Y) (xs : List X) → map f (map g xs) ≡ map (λ x. f (g x)) xs
@@ -21,6 +22,9 @@ map_twice f g (x ∷ xs) = ap (λ l. f (g x) ∷ l) (map_twice f g xs)
 pub if_gives : {X E : Type 0} (result : Result X E) (P Q : X → Type 0) → ((x : X) → P x → Q x) → IfOk result P → IfOk result Q
 if_gives (Ok x) P Q gives holds = gives x holds
 if_gives (Err e) P Q gives holds = tt
+
+flat_last : {X A : Type 0} (f : X → List A) (init : List X) (last : X) → flat_map f (init ++ last ∷ []) ≡ flat_map f init ++ f last
+flat_last f init last = flat_map-append f init (last ∷ []) ∙ ap (λ l. flat_map f init ++ l) (append-nil (f last))
 
 take_more : {X : Type 0} (xs : List X) (k : ℕ) (d : X) → k < length xs → take (k + 1) xs ≡ take k xs ++ slice_index_or xs k d ∷ []
 take_more xs k d inside = rw add-one (take-suc xs k d inside)

@@ -1,12 +1,12 @@
 -- What is asked is what the asker has.
-use Rattle.std.proofs.Common.{◌≡◌, List, ap, sym, subst, ◌∙◌}
+use Rattle.std.proofs.Common.{◌≡◌, List, [], ◌∷◌, ap, sym, subst, ◌∙◌}
 use Rattle.gix_glob.specs.declared.pattern.Case.{Case}
 use Rattle.glob_attributes.specs.Macros.{Definition}
 use Rattle.git_paths.specs.declared.standpoint.Standpoint.{Standpoint}
 use Rattle.tree_answers.specs.declared.form.Form.{Form}
 use Rattle.tree_commands.specs.CheckAttr.{Asked, Files, IsStatesText, Query, macros_for}
 use Rattle.tree_commands.specs.Private.AttributeAnswers.{labels_of}
-use Rattle.tree_commands.specs.Private.AttributeWays.{top_lists}
+use Rattle.tree_commands.specs.Private.AttributeWays.{kept_list, top_lists}
 use Rattle.tree_commands.proofs.check_attr.running.asker_of.Goals as goal
 
 pub returns-clause-ready : goal.returns-clause-ready
@@ -27,6 +27,11 @@ returns-clause-ready g c =
       allowed = λ told text is. asks.allowed told text (subst (λ q. IsStatesText q g.Q.Question.shows told text) same is);
       lists = c.requires.lists;
       rules = c.requires.rules;
+      own = c.in_ok-own.ensures
+          ∙ ap (λ (q : Query). kept_list q.asked c.args.macros.now [] q.files.info ∷ []) c.question.view_is
+          ∙ ap (λ (asked : Asked). kept_list asked c.args.macros.now [] query.files.info ∷ []) asks.asks
+          ∙ ap (λ (macros : List Definition). kept_list g.Q.Question.asked macros [] query.files.info ∷ []) c.requires.macros
+          ∙ ap (λ (files : Files). kept_list g.Q.Question.asked (macros_for g.Q.Question.files) [] files.info ∷ []) asks.of_files;
       top = c.in_ok-top.ensures
           ∙ ap (λ (q : Query). top_lists q.asked c.args.macros.now q.files) c.question.view_is
           ∙ ap (λ (asked : Asked). top_lists asked c.args.macros.now query.files) asks.asks

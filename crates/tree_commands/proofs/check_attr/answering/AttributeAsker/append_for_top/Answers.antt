@@ -20,9 +20,10 @@ pub returns-clause-written : goal.returns-clause-written
 returns-clause-written g c =
     let asker = c.args.self.now in
     let its =
-    subst (λ rules. IsAssigned (map (entry_list_of seen_assignments) asker.top.items) asker.walk.macros.now (record { bytes = []; is_dir = false }) rules c.in_ok-assigned.assigned) c.rules-rules.ensures
-    (subst (λ p. IsAssigned (map (entry_list_of seen_assignments) asker.top.items) asker.walk.macros.now p c.rules-rules.result c.in_ok-assigned.assigned) c.top-top.ensures
-    (subst (λ ls. IsAssigned (map (entry_list_of seen_assignments) ls) asker.walk.macros.now c.top-top.result c.rules-rules.result c.in_ok-assigned.assigned) c.deref.ensures.value c.in_ok-assigned.ensures)) in
+    subst (λ rules. IsAssigned (map (entry_list_of seen_assignments) asker.top.items) asker.walk.from.macros.now (record { bytes = []; is_dir = false }) rules c.in_ok-assigned.assigned) c.rules-rules.ensures
+    (subst (λ macros. IsAssigned (map (entry_list_of seen_assignments) asker.top.items) macros.now (record { bytes = []; is_dir = false }) c.rules-rules.result c.in_ok-assigned.assigned) c.macros.ensures
+    (subst (λ p. IsAssigned (map (entry_list_of seen_assignments) asker.top.items) c.macros.result.now p c.rules-rules.result c.in_ok-assigned.assigned) c.top-top.ensures
+    (subst (λ ls. IsAssigned (map (entry_list_of seen_assignments) ls) c.macros.result.now c.top-top.result c.rules-rules.result c.in_ok-assigned.assigned) c.deref.ensures.value c.in_ok-assigned.ensures))) in
     ok_gives c.append_states.result _ _
     (λ written. top_allowed g.Q.Question.files g.Q.Question.asked g.Q.Question.case g.Q.Question.shows g.Q.Question.allows g.S.AttributeFolders.shows asker c.requires.ready c.args.told.now c.requires.leads c.requires.top c.requires.unspent
     c.in_ok-assigned.assigned its c.args.text.now.items c.append_states.new.text.items written)

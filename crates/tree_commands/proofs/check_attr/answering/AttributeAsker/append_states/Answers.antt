@@ -13,7 +13,7 @@ use Rattle.tree_commands.proofs.check_attr.answering.AttributeAsker.append_state
 pub append_named-requires : goal.append_named-requires
 append_named-requires g c =
     let form = c.args.self.now.form in
-    ap (map vec_items) c.deref.ensures.value ∙ c.requires.labels ∙ ap (λ a. labels_of form (asked_by a)) c.in-Names.is
+    ap (map vec_items) c.deref.ensures.value ∙ c.requires.labels ∙ ap (λ a. labels_of form (asked_by a)) (sym c.asking.ensures ∙ c.in-Names.is)
     ∙ map_twice (label_text form) (λ (name : Bor (List ℕ)). name.now) c.in-Names.names.now
 
 pub returns-in-Names-clause-written : goal.returns-in-Names-clause-written
@@ -27,5 +27,5 @@ returns-in-Names-clause-written g c =
     written
     ∙ ap (λ s. old ++ shown_text form s (map (λ (name : Bor (List ℕ)). state_of name.now) c.in-Names.names.now)) c.in_ok-shown.ensures
     ∙ ap (λ states. old ++ states_text form c.args.told.now states) (sym (map_twice state_of (λ (name : Bor (List ℕ)). name.now) c.in-Names.names.now))
-    ∙ ap (λ a. old ++ states_text form c.args.told.now (told_states (asked_by a) names filled)) (sym c.in-Names.is))
+    ∙ ap (λ a. old ++ states_text form c.args.told.now (told_states (asked_by a) names filled)) (sym c.in-Names.is ∙ c.asking.ensures))
     c.append_named.ensures.written
