@@ -30,7 +30,9 @@ impl<T: search::Pattern, S: FolderLists<T>> FolderValues for IgnoreLists<T, S> {
     ghost use Rattle.glob_trees.specs.Private.Trees.{Fact, IsFoundIn, ShowsFact};
 
     type Value = PreparedList<T>;
+
     type Refusal = (usize, usize);
+
     type Fault = S::Fault;
 
     ghost fits = { λ list. HasFolder (entry_list_of T.seen list) };

@@ -1,7 +1,7 @@
 -- Folders that are entered: their lists are those of the folders on the way, and none of the folders is ignored.
-use Rattle.std.proofs.Common.{◌≡◌, ◌≢◌, ◌⊎◌, inl, inr, ⊎_elim, ℕ, ◌<◌, ◌≤◌, List, [], ◌∷◌, ◌++◌, length, map, take, drop, Option, None, Some, refl, sym, ap, subst, ◌∙◌, append_assoc, append-nil, length-append, arith}
+use Rattle.std.proofs.Common.{◌≡◌, ◌≢◌, inl, inr, ⊎_elim, ℕ, ◌≤◌, List, [], ◌∷◌, ◌++◌, length, map, take, drop, Option, None, Some, refl, sym, ap, subst, ◌∙◌, append_assoc, append-nil, length-append, arith}
 use Rattle.std.specs.Option.{option_to_list}
-use Rattle.std.specs.List.{All, AllByRecursion, AllZip, Contains}
+use Rattle.std.specs.List.{AllByRecursion, AllZip, Contains}
 use Rattle.std.proofs.lemmas.Bool.{cases_eq}
 use Rattle.std.proofs.lemmas.List.{append_cancel_left, drop-map, map-append, take-append-drop}
 use Rattle.std.proofs.lemmas.List.Elements.{Contains-append_cases, Contains-append_left, Contains-append_right, Contains-push, Contains-push_cases}
@@ -16,8 +16,8 @@ use Rattle.glob_trees.specs.declared.found.Found.{Found}
 use Rattle.glob_trees.specs.declared.found.Found.TheVariants.{Open, Refused}
 use Rattle.glob_trees.specs.Private.Trees.{IsFoundIn}
 use Rattle.glob_trees.specs.Trees.{HasNoneIgnored, Ignores, IsAbove, IsBelowIgnored}
-use Rattle.glob_trees.specs.Walks.{AreOpen, HasGone, IsOpen, value_of}
-use Rattle.glob_trees.specs.Ways.{AreOnTheWay, Folder, IsAskedFor, IsListOf, base_of_folder, folders_below, folders_from, folders_to, unless_empty, with_entries}
+use Rattle.glob_trees.specs.Walks.{AreOpen}
+use Rattle.glob_trees.specs.Ways.{AreOnTheWay, Folder, IsAskedFor, IsListOf, folders_below, folders_from, unless_empty, with_entries}
 use Rattle.glob_trees.proofs.lemmas.Emptied.{nothing_left_shorter}
 use Rattle.glob_trees.proofs.lemmas.Folders.{above_above}
 use Rattle.glob_trees.proofs.lemmas.OneMore.{ignores_less}
@@ -52,9 +52,10 @@ deepens_from : (x : ℕ) (xs rest : List ℕ) → Deepens (folders_from (x ∷ x
 deepens_from x xs [] = tt
 deepens_from x xs (b ∷ rest) = ⊎_elim
     (λ (here : b ≡ slash).
-    subst (λ c. Deepens (folders_from (x ∷ xs) (c ∷ rest))) (sym here)
-    (λ other has. let long = longer_from ((x ∷ xs) ++ slash ∷ []) rest other has in omega (arith, long, length-append (x ∷ xs) (slash ∷ [])),
-    deepens_from x (xs ++ slash ∷ []) rest))
+    subst (λ c. Deepens (folders_from (x ∷ xs) (c ∷ rest))) (sym here) (
+      λ other has. let long = longer_from ((x ∷ xs) ++ slash ∷ []) rest other has in omega (arith, long, length-append (x ∷ xs) (slash ∷ [])),
+      deepens_from x (xs ++ slash ∷ []) rest,
+    ))
     (λ (other : b ≡ slash → ⊥). subst (λ fs. Deepens (fs ++ folders_from ((x ∷ xs) ++ b ∷ []) rest)) (sym (before_other b (x ∷ xs) other)) (deepens_from x (xs ++ b ∷ []) rest))
     (cases_eq b slash)
 

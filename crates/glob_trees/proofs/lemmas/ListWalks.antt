@@ -1,16 +1,14 @@
 -- What a walk over lists says of a path, and what stays of it.
-use Rattle.std.proofs.Common.{◌≡◌, ℕ, ◌≤◌, ◌++◌, List, [], Bool, true, false, Option, None, Some, length, map, take, drop, refl, sym, ap, subst, ◌∙◌, arith}
-use Rattle.std.specs.Prelude.{MatchBool, MatchOption}
+use Rattle.std.proofs.Common.{◌≡◌, ℕ, ◌++◌, List, [], Bool, true, false, Option, None, Some, length, map, take, drop, refl, sym, ap, ◌∙◌, arith}
 use Rattle.std.specs.List.{Contains}
 use Rattle.std.proofs.lemmas.Bool.{false≢true}
 use Rattle.std.proofs.lemmas.List.{append-nil, take-take}
 use Rattle.gix_glob.specs.declared.search.pattern.list.List as patterns
 use Rattle.gix_glob.specs.Bytes.{HasByte, slash}
 use Rattle.gix_glob.specs.EntryLists.{EntryList, entry_list_of}
-use Rattle.glob_lists.specs.Deciding.{Decides, HasFolder}
 use Rattle.glob_trees.specs.declared.ignore_lists.IgnoreLists.{IgnoreLists}
 use Rattle.glob_trees.specs.declared.walk.Walk.{Walk}
-use Rattle.glob_trees.specs.Private.Trees.{HasTop, IsFoundIn, IsNew, IsTree, IsWalking, PutsTop, ShowsFact, StaysTree, listed, ruled}
+use Rattle.glob_trees.specs.Private.Trees.{HasTop, IsFoundIn, IsNew, IsTree, IsWalking, ShowsFact, StaysTree, listed, ruled}
 use Rattle.glob_trees.specs.Private.Walks.{KeepsOn}
 use Rattle.glob_trees.specs.Trees.{HasNoneIgnored, IsBelowIgnored}
 use Rattle.glob_trees.specs.Walks.{AreOpen, HasGone}

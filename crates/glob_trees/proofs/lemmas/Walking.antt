@@ -1,6 +1,6 @@
 -- What one call does to a walk.
-use Rattle.std.proofs.Common.{◌≡◌, ◌⊎◌, inl, inr, ⊎_elim, ℕ, ◌+◌, ◌<◌, ◌≤◌, List, [], ◌∷◌, ◌++◌, length, take, drop, Option, None, Some, refl, sym, ap, subst, ◌∙◌, append-nil, length-take-le, take_all, arith, slice_index}
-use Rattle.std.specs.List.{All, Contains}
+use Rattle.std.proofs.Common.{◌≡◌, ℕ, ◌+◌, ◌<◌, ◌≤◌, List, [], ◌∷◌, ◌++◌, length, take, None, Some, refl, sym, ap, subst, ◌∙◌, append-nil, length-take-le, take_all, arith, slice_index}
+use Rattle.std.specs.List.{Contains}
 use Rattle.std.proofs.lemmas.List.Elements.{Contains-append_left, Contains-push}
 use Rattle.gix_glob.specs.Bytes.{HasByte, slash}
 use Rattle.glob_trees.specs.declared.found.Found.{Found}
@@ -8,7 +8,7 @@ use Rattle.glob_trees.specs.declared.walk.Walk.{Walk}
 use Rattle.glob_trees.specs.declared.found.Found.TheVariants.{Refused}
 use Rattle.glob_trees.specs.Private.Walks.{IsBefore, IsFresh, IsIn, IsPassed, IsUnderWay, KeepsOn}
 use Rattle.glob_trees.specs.Walks.{HasGone}
-use Rattle.glob_trees.specs.Ways.{Folder, GivesOnly, folders_below}
+use Rattle.glob_trees.specs.Ways.{Folder, folders_below}
 use Rattle.glob_trees.proofs.lemmas.Stepping.{begins_before, next_below, passing_below, slash_next, some_front}
 use Rattle.glob_trees.proofs.lemmas.WayLemmas.{below_slash}
 use Rattle.glob_trees.proofs.lemmas.Walks.{entered, fresh}

@@ -1,9 +1,9 @@
 -- Folders that are entered and left on a walk, and what is kept of each.
-use Rattle.std.proofs.Common.{◌≡◌, ◌≢◌, ◌⊎◌, inl, inr, ⊎_elim, ℕ, zero, suc, ◌+◌, ◌-◌, ◌<◌, ◌≤◌, Bool, true, false, List, [], ◌∷◌, ◌++◌, length, take, drop, Option, None, Some, refl, sym, ap, subst, ◌∙◌, append_assoc, append-nil, length-append, length-take-le, arith}
+use Rattle.std.proofs.Common.{◌≡◌, ◌⊎◌, inl, inr, ⊎_elim, ℕ, zero, suc, ◌-◌, ◌<◌, ◌≤◌, true, false, List, [], ◌∷◌, ◌++◌, length, take, drop, None, Some, refl, sym, ap, subst, ◌∙◌, append_assoc, append-nil, length-append, length-take-le, arith}
 use Rattle.std.specs.Prelude.{slice_get, slice_set}
-use Rattle.std.specs.List.{All, AllZip, Contains, flat_map}
+use Rattle.std.specs.List.{All, AllZip, Contains}
 use Rattle.std.proofs.Math.Seq.{drop-length, take-append_seam}
-use Rattle.std.proofs.lemmas.Bool.{cases_eq, false≢true}
+use Rattle.std.proofs.lemmas.Bool.{cases_eq}
 use Rattle.std.proofs.lemmas.Grind.{flat_map-append}
 use Rattle.std.proofs.lemmas.List.{append_cancel_right, drop-append-le, length-set, take-append-drop, take-append-le}
 use Rattle.std.proofs.lemmas.List.Elements.{All-append, All-take, Contains-append_cases, Contains-append_left, Contains-append_right, Contains-push, Contains-push_cases}
@@ -13,7 +13,7 @@ use Rattle.glob_trees.specs.declared.found.Found.{Found}
 use Rattle.glob_trees.specs.declared.found.Found.TheVariants.{Open, Refused}
 use Rattle.glob_trees.specs.declared.on_way.FolderOnWay.{FolderOnWay}
 use Rattle.glob_trees.specs.Known.{AddsFolder, FolderNames, KnowsNone}
-use Rattle.glob_trees.specs.Private.Walks.{AreFolders, AreUnderWay, IsAt, IsBefore, IsOnWay, emptied, is_valued, last_length, last_place, values_of}
+use Rattle.glob_trees.specs.Private.Walks.{AreUnderWay, IsAt, IsBefore, IsOnWay, emptied, is_valued, last_length, last_place, values_of}
 use Rattle.glob_trees.specs.Walks.{AreOpen, IsOpen, value_of}
 use Rattle.glob_trees.specs.Ways.{Folder, folders_below, folders_from, folders_to, start_of}
 use Rattle.glob_trees.proofs.lemmas.Cases.{cases_bytes}
@@ -230,9 +230,10 @@ module _ {V R : Type 0} (finds : List V → Folder → Found V R → Type 0) (ga
         (subst (λ w. IsAt u.below (last_place w) []) (sym none) refl, ap last_length none ∙ sym (ap length is))
     last_at (x ∷ xs) s on is zip =
         let back = zip_back (IsOnWay u.own u.below) (folders_below (x ∷ xs)) (x ∷ xs) on (subst (λ fs. AllZip (IsOnWay u.own u.below) fs on) (ap folders_below is ∙ below_slash x xs) zip) in
-        let here = back.4 in
-        (subst (λ p. IsAt u.below p (x ∷ xs)) (sym (ap last_place back.2 ∙ last_place-push back.0 back.1)) here.at,
-          ap last_length back.2 ∙ last_length-push back.0 back.1 ∙ here.long ∙ sym (ap length is))
+        let here = back.4 in (
+          subst (λ p. IsAt u.below p (x ∷ xs)) (sym (ap last_place back.2 ∙ last_place-push back.0 back.1)) here.at,
+          ap last_length back.2 ∙ last_length-push back.0 back.1 ∙ here.long ∙ sym (ap length is),
+        )
 
     pub outer_at : IsAt u.below (last_place way) u.last
     outer_at = (last_at u.last start way u.starts u.on_way).0
@@ -401,11 +402,11 @@ module _ {V R : Type 0} (finds : List V → Folder → Found V R → Type 0) (ga
           at_hand = u.at_hand;
           on_way = subst (λ fs. AllZip (IsOnWay u.own u.below) fs (way ++ onto ∷ [])) (sym way_more)
               (zip_more (IsOnWay u.own u.below) (folders_below start) way folder onto u.on_way (record {
-            at = ap (slice_get u.below) its ∙ at;
-            long = long;
-            opened = subst IsOpen one_is opened;
-            listed = listed ∙ ap is_valued one_is;
-          }));
+                at = ap (slice_get u.below) its ∙ at;
+                long = long;
+                opened = subst IsOpen one_is opened;
+                listed = listed ∙ ap is_valued one_is;
+              }));
           many = let many = u.many in omega (arith, many, length-append values (value_of one));
           fit = All-append fits values (value_of one) u.fit (subst (λ o. All fits (value_of o)) (sym one_is) (u.fit_so place folder at));
           standing = drop-append-le n values (value_of one) u.many ∙ ap (λ vs. vs ++ value_of one) u.standing ∙ ap (λ o. values_of u.own (folders_below start) ++ value_of o) one_is ∙ sym (values_more u.own (folders_below start) folder) ∙ ap (values_of u.own) (sym way_more);

@@ -1,7 +1,7 @@
 -- The state of a walk: the folders that are known, those on the way, and the values that are kept of them.
-use Rattle.std.specs.Prelude.{◌≡◌, ◌≢◌, ◌⊎◌, ℕ, ◌≤◌, Bool, true, false, List, [], ◌∷◌, ◌++◌, drop, length, slice_get, slice_set, take, Option, None, Some, MatchOption, is_some}
+use Rattle.std.specs.Prelude.{◌≡◌, ◌≢◌, ◌⊎◌, ℕ, ◌≤◌, Bool, false, List, [], ◌∷◌, ◌++◌, drop, length, slice_get, slice_set, take, Option, None, Some, MatchOption, is_some}
 use Rattle.std.specs.List.{All, AllZip, Contains, flat_map}
-use Rattle.gix_glob.specs.Bytes.{HasByte, slash}
+use Rattle.gix_glob.specs.Bytes.{slash}
 use Rattle.glob_trees.specs.declared.found.Found.{Found}
 use Rattle.glob_trees.specs.declared.found.Found.TheVariants.{Open, Refused}
 use Rattle.glob_trees.specs.declared.on_way.FolderOnWay.{FolderOnWay}

@@ -48,7 +48,9 @@ impl<'q, 'm, S: AttributeFolders, Q: Question> FolderValues for AttributeFiles<'
     ghost use Rattle.tree_commands.specs.Private.AttributeWays.{HasFiles, IsFoundAt};
 
     type Value = List<AttributeLines>;
+
     type Refusal = ();
+
     type Fault = S::Fault;
 
     ghost fits = { λ list. HasFolder (entry_list_of seen_assignments list) };

@@ -1,5 +1,5 @@
 -- The list of the top stands behind those before all folders.
-use Rattle.std.proofs.Common.{rules, ◌≡◌, ◌≤◌, ◌++◌, [], Ok, IfOk, length, map, take, take_all, ap, sym, subst, ◌∙◌, length-append, arith}
+use Rattle.std.proofs.Common.{rules, ◌≡◌, ◌++◌, [], Ok, IfOk, length, take, take_all, ap, sym, subst, ◌∙◌, length-append, arith}
 use Rattle.std.specs.Option.{option_to_list}
 use Rattle.std.proofs.Math.Seq.{take-append_seam}
 use Rattle.gix_glob.specs.EntryLists.{entry_list_of}

@@ -1,5 +1,5 @@
 -- The list of the top was asked for, or is now.
-use Rattle.std.proofs.Common.{◌≡◌, true, false, refl, subst, ◌∙◌, ap, take}
+use Rattle.std.proofs.Common.{◌≡◌, subst, ◌∙◌, ap, take}
 use Rattle.glob_trees.specs.Private.Trees.{HasTop}
 use Rattle.glob_trees.proofs.lemmas.ListWalks.{not_yet, same_tree, still_not}
 use Rattle.glob_trees.proofs.list_walk.enter_top.Goals as goal

@@ -1,5 +1,5 @@
 -- The walk goes to the path, and tells what decides.
-use Rattle.std.proofs.Common.{◌≡◌, map}
+use Rattle.std.proofs.Common.{map}
 use Rattle.std.specs.List.{Contains}
 use Rattle.gix_glob.specs.EntryLists.{entry_list_of}
 use Rattle.glob_trees.specs.Ways.{GivesOnly, IsAskedFor, folders_below}

@@ -1,6 +1,5 @@
 -- No folder above the path is ignored, or the next one is.
-use Rattle.std.proofs.Common.{◌≡◌, inl, inr, Option, Some, None, List, map, refl, sym, subst}
-use Rattle.std.specs.List.{All}
+use Rattle.std.proofs.Common.{inl, inr, map, refl, sym, subst}
 use Rattle.std.proofs.lemmas.List.Elements.{All-map}
 use Rattle.gix_glob.specs.EntryLists.{entry_list_of}
 use Rattle.glob_lists.specs.Deciding.{BasesAreFolders, Decides, HasFolder}
@@ -24,5 +23,7 @@ pub returns-in-None : goal.returns-in-None
 returns-in-None g c =
     let walk = c.args.walk.now in
     let gone = subst (HasGone (IsFoundIn (g.S.FolderLists.shows g.T.Pattern.Seen walk.source.source) g.T.Pattern.seen walk.source.rules) walk.front_count walk.values.items walk.folder.items c.args.path.now.bytes) c.in-None.is c.requires.gone in
-    inr (none_above (g.S.FolderLists.shows g.T.Pattern.Seen) g.S.FolderLists.gave g.T.Pattern.seen walk c.requires.walks c.args.path.now.bytes c.requires.relative gone,
-    subst (λ ls. Decides (map (entry_list_of g.T.Pattern.seen) ls) c.args.path.now.bytes c.args.path.now.is_dir walk.source.rules c.decide_prepared.result) c.deref.ensures.value c.decide_prepared.ensures)
+    inr (
+      none_above (g.S.FolderLists.shows g.T.Pattern.Seen) g.S.FolderLists.gave g.T.Pattern.seen walk c.requires.walks c.args.path.now.bytes c.requires.relative gone,
+      subst (λ ls. Decides (map (entry_list_of g.T.Pattern.seen) ls) c.args.path.now.bytes c.args.path.now.is_dir walk.source.rules c.decide_prepared.result) c.deref.ensures.value c.decide_prepared.ensures,
+    )

@@ -1,5 +1,5 @@
 -- What stood at the place.
-use Rattle.std.proofs.Common.{◌≡◌, ◌++◌, length, ap, refl, ◌∙◌}
+use Rattle.std.proofs.Common.{◌++◌, length, ap, refl, ◌∙◌}
 use Rattle.std.specs.Prelude.{slice_set}
 use Rattle.std.proofs.lemmas.Option.{slice_get_read}
 use Rattle.glob_trees.proofs.lemmas.Stepping.{ok_gives}

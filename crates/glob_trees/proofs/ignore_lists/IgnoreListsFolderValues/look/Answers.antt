@@ -1,13 +1,12 @@
 -- The folder is ignored by the lists above it, or has the list that the source gave.
-use Rattle.std.proofs.Common.{rules, ◌≡◌, List, [], ℕ, Option, None, Some, Ok, IfOk, MatchOption, map, ap, sym, subst, ◌∙◌}
+use Rattle.std.proofs.Common.{rules, ◌≡◌, [], Option, None, Some, Ok, IfOk, ap, sym, subst, ◌∙◌}
 use Rattle.std.specs.List.{All}
 use Rattle.std.specs.Option.{option_to_list}
 use Rattle.std.proofs.lemmas.List.Elements.{All-map, All-nil, All-push}
 use Rattle.gix_glob.specs.declared.search.pattern.list.List as patterns
-use Rattle.gix_glob.specs.EntryLists.{EntryList, entry_list_of}
+use Rattle.gix_glob.specs.EntryLists.{entry_list_of}
 use Rattle.glob_lists.specs.Deciding.{HasFolder}
 use Rattle.glob_trees.specs.Private.Trees.{IsIfAny}
-use Rattle.glob_trees.specs.Trees.{Ignores}
 use Rattle.glob_trees.specs.Ways.{IsListOf, base_of_folder}
 use Rattle.glob_trees.proofs.lemmas.Entering.{is_folder}
 use Rattle.glob_trees.proofs.lemmas.WithEntries.{if_any_view}

@@ -1,9 +1,9 @@
 -- Each folder that is found is known.
-use Rattle.std.proofs.Common.{◌≡◌, ◌<◌, None, Some, length, ap, sym, subst, ◌∙◌}
+use Rattle.std.proofs.Common.{◌≡◌, None, Some, length, ap, sym, subst, ◌∙◌}
 use Rattle.std.specs.Prelude.{slice_get}
 use Rattle.std.proofs.lemmas.Bool.{ltb-true}
 use Rattle.std.proofs.lemmas.Option.{slice_get-get_or}
-use Rattle.glob_trees.specs.Links.{link, named_in}
+use Rattle.glob_trees.specs.Links.{named_in}
 use Rattle.glob_trees.proofs.lemmas.Links.{if_inside}
 use Rattle.glob_trees.proofs.known.KnownFolders.place_in.Goals as goal
 

@@ -1,6 +1,5 @@
 -- The base of each list is a folder's.
-use Rattle.std.proofs.Common.{◌≡◌, ℕ, List, length, get_or, map, ap, sym, subst}
-use Rattle.std.specs.List.{All}
+use Rattle.std.proofs.Common.{get_or, map, subst}
 use Rattle.std.proofs.lemmas.List.{get_or_default}
 use Rattle.gix_glob.specs.EntryLists.{entry_list_of}
 use Rattle.gix_glob.proofs.lemmas.Elements.{All-map_at}

@@ -1,5 +1,5 @@
 -- What the folder was found to be is kept by the next place.
-use Rattle.std.proofs.Common.{◌≡◌, ◌<◌, ◌-◌, ◌++◌, ◌∷◌, [], List, ℕ, Option, None, Some, length, take, drop, ap, sym, subst, ◌∙◌, arith}
+use Rattle.std.proofs.Common.{◌≡◌, ◌<◌, ◌++◌, ◌∷◌, [], List, ℕ, Option, None, Some, length, drop, ap, sym, subst, ◌∙◌}
 use Rattle.std.specs.Prelude.{IfSome, slice_get}
 use Rattle.glob_trees.specs.Known.{AddsFolder, names_of}
 use Rattle.glob_trees.specs.Private.Walks.{last_place}

@@ -1,1 +1,0 @@
-use Rattle.glob_trees.proofs.walk.Walk.forget.Goals as goal

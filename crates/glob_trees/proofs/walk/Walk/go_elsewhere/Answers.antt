@@ -1,5 +1,5 @@
 -- The slashes are gone through from the front: each folder is entered, as far as the first one that may not be.
-use Rattle.std.proofs.Common.{◌≡◌, ◌<◌, ◌+◌, inl, inr, ⊎_elim, ◌++◌, ◌∷◌, [], true, false, Option, None, Some, length, take, slice_index, ap, sym, subst, ◌∙◌, arith}
+use Rattle.std.proofs.Common.{◌≡◌, ◌<◌, ◌++◌, ◌∷◌, [], true, false, Option, None, Some, length, take, slice_index, ap, sym, subst, ◌∙◌, arith}
 use Rattle.std.specs.Prelude.{is_some}
 use Rattle.std.specs.List.{Contains}
 use Rattle.std.proofs.lemmas.Bool.{false≢true}
@@ -8,7 +8,7 @@ use Rattle.glob_lists.specs.Paths.{Path}
 use Rattle.glob_trees.specs.declared.found.Found.TheVariants.{Refused}
 use Rattle.glob_trees.specs.Private.Walks.{HasEntered, IsPassed}
 use Rattle.glob_trees.specs.Walks.{HasGone}
-use Rattle.glob_trees.specs.Ways.{Folder, GivesOnly, folders_below}
+use Rattle.glob_trees.specs.Ways.{GivesOnly, folders_below}
 use Rattle.glob_trees.proofs.lemmas.Asking.{gives_further}
 use Rattle.glob_trees.proofs.lemmas.Stepping.{some_front}
 use Rattle.glob_trees.proofs.lemmas.Walking.{all_passed, gone_as_far, gone_to, keeps_further, passed_byte, passed_folder, still_on_way}

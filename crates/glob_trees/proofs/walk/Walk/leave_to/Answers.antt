@@ -1,5 +1,5 @@
 -- What names the last folder is no longer than what it and the path have alike.
-use Rattle.std.proofs.Common.{◌≡◌, ◌≤◌, ◌<◌, length, take, take_all, ap, refl, sym, ◌∙◌, arith}
+use Rattle.std.proofs.Common.{◌≤◌, length, take, take_all, ap, refl, sym, ◌∙◌, arith}
 use Rattle.std.proofs.lemmas.List.{take-take}
 use Rattle.glob_trees.proofs.lemmas.Walking.{keeps_further, stays}
 use Rattle.glob_trees.proofs.walk.Walk.leave_to.Goals as goal

@@ -1,5 +1,5 @@
 -- The folder is found by its name, or looked at.
-use Rattle.std.proofs.Common.{◌≡◌, length, drop, ap, sym, subst, ◌∙◌}
+use Rattle.std.proofs.Common.{length, drop, ap, sym, ◌∙◌}
 use Rattle.glob_trees.specs.Known.{names_of}
 use Rattle.glob_trees.specs.Private.Walks.{last_place}
 use Rattle.glob_trees.proofs.lemmas.Stepping.{err_gives, if_gives, in_both}

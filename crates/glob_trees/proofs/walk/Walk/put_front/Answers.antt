@@ -1,10 +1,9 @@
 -- Nothing is known yet.
-use Rattle.std.proofs.Common.{◌≡◌, ◌++◌, ⊎_elim, [], Option, None, Some, length, ap, sym, subst, ◌∙◌}
+use Rattle.std.proofs.Common.{◌≡◌, ◌++◌, ⊎_elim, [], Option, None, Some, length, ap, sym, subst}
 use Rattle.std.specs.Prelude.{IfSome, option_to_list}
 use Rattle.std.specs.List.{All}
 use Rattle.std.proofs.lemmas.List.{append-nil}
 use Rattle.std.proofs.lemmas.List.Elements.{All-push}
-use Rattle.glob_trees.specs.Ways.{Folder}
 use Rattle.glob_trees.proofs.lemmas.Cases.{cases_bytes}
 use Rattle.glob_trees.proofs.lemmas.Walks.{fresh}
 use Rattle.glob_trees.proofs.walk.Walk.put_front.Goals as goal
