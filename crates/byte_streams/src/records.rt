@@ -80,14 +80,17 @@ impl Records {
             × IsUnderWay end self.old text.old.items left (R.remaining (inner reader.old)) old (W.contents (inner writer.old)) given all }
         ensures gives { IfOk result (λ is_given. IsTrue is_given → (end : ℕ) (left old : Option (List ℕ)) (given : List (List ℕ)) (all : List ℕ)
             → IsUnderWay end self.old text.old.items left (R.remaining (inner reader.old)) old (W.contents (inner writer.old)) given all
-            → IsUnderWay end self.new text.new.items left (R.remaining (inner reader.new)) old (W.contents (inner writer.new)) (given ++ bytes.new.items ∷ []) all) }
+            → IsUnderWay end self.new text.new.items left (R.remaining (inner reader.new)) old (W.contents (inner writer.new))
+            (given ++ bytes.new.items ∷ []) all) }
         // At the end all of the input was read, and all of the text was written.
         ensures finished { IfOk result (λ is_given. is_given ≡ false → (end : ℕ) (left old : Option (List ℕ)) (given : List (List ℕ)) (all : List ℕ)
             → IsUnderWay end self.old text.old.items left (R.remaining (inner reader.old)) old (W.contents (inner writer.old)) given all
             → Run (ReadsWhole left (R.remaining (inner reader.new))) (AnswersAll (Exactly given all) end) (Appends old (W.contents (inner writer.new)))) }
         ensures fails { OnErr result ((end : ℕ) (left old : Option (List ℕ)) (given : List (List ℕ)) (all : List ℕ)
             → IsUnderWay end self.old text.old.items left (R.remaining (inner reader.old)) old (W.contents (inner writer.old)) given all
-            → EndsRun (λ _. Exactly given all) (Exactly given all) end result left (R.remaining (inner reader.new)) old (W.contents (inner writer.new)) (has_failed reader.new) (has_failed writer.new)) }
+            → EndsRun (λ _. Exactly given all) (Exactly given all) end result
+            left (R.remaining (inner reader.new)) old (W.contents (inner writer.new))
+            (has_failed reader.new) (has_failed writer.new)) }
         ensures falls { IfOk result (λ is_given. IsTrue is_given → fuel self.new < fuel self.old) }
         ensures none { told_refusal result ≡ [] }
         ensures read { is_read_fault result ≡ has_failed reader.new }
@@ -141,10 +144,13 @@ impl Records {
         ensures all { IfOk result (λ is_given. is_given ≡ false → text.new.items ≡ []) }
         ensures falls { IfOk result (λ is_given. IsTrue is_given → fuel self.new < fuel self.old) }
         // After a fault of the reader's or of memory, the text was written.
-        ensures err { OnErr result (has_failed writer.new ≡ false → (self.old.is_ended ≡ false) × Appends (W.contents (inner writer.old)) (W.contents (inner writer.new)) text.old.items
+        ensures err { OnErr result (has_failed writer.new ≡ false
+            → (self.old.is_ended ≡ false)
+            × Appends (W.contents (inner writer.old)) (W.contents (inner writer.new)) text.old.items
             × ((more : List ℕ) × Consumes (R.remaining (inner reader.old)) (R.remaining (inner reader.new)) more)) }
         // After a failed read, no further record ended.
-        ensures unread { IsTrue (is_read_fault result) → (self.old.is_ended ≡ false) × Appends (W.contents (inner writer.old)) (W.contents (inner writer.new)) text.old.items
+        ensures unread { IsTrue (is_read_fault result) → (self.old.is_ended ≡ false)
+            × Appends (W.contents (inner writer.old)) (W.contents (inner writer.new)) text.old.items
             × ((more : List ℕ) × Consumes (R.remaining (inner reader.old)) (R.remaining (inner reader.new)) more × HasNo self.old.end (held self.old ++ more)) }
         ensures endless { IsTrue (is_endless result) → (self.old.is_ended ≡ false)
             × ((more : List ℕ) × Consumes (R.remaining (inner reader.old)) (R.remaining (inner reader.new)) more × (self.old.reads_left ≤ length more)) }
