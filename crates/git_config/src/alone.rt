@@ -52,7 +52,10 @@ fn add_items(
     out: &mut Config,
 ) -> Result<(), ConfigFault>
     requires { file_seen first.value ≡ Some path.now.value.items }
-    ensures { MatchResult result (λ _. (out.old ++ alone_from path.now.value.items first.value.keys.items (items_of bytes.now).0 ≡ out.new) × ((items_of bytes.now).1 ≡ None)) (λ fault. FailsBehind fault (items_of bytes.now)) }
+    ensures { MatchResult result
+        (λ _. (out.old ++ alone_from path.now.value.items first.value.keys.items (items_of bytes.now).0 ≡ out.new)
+        × ((items_of bytes.now).1 ≡ None))
+        (λ fault. FailsBehind fault (items_of bytes.now)) }
 {
     let mut section = first;
     let mut text = Text::new(bytes);
@@ -73,7 +76,8 @@ fn add_item(
 ) -> Result<Rc<Section>, AllocError>
     requires { file_seen section.value ≡ Some path.now.value.items }
     ensures file { IfOk result (λ next. file_seen next.value ≡ Some path.now.value.items) }
-    ensures entries { IfOk result (λ next. (rest : List (Item (List ℕ))) → out.old ++ alone_from path.now.value.items section.value.keys.items (item_with vec_items item ∷ rest)
+    ensures entries { IfOk result (λ next. (rest : List (Item (List ℕ))) →
+        out.old ++ alone_from path.now.value.items section.value.keys.items (item_with vec_items item ∷ rest)
         ≡ out.new ++ alone_from path.now.value.items next.value.keys.items rest) }
 {
     match item {

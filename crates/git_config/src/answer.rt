@@ -97,7 +97,9 @@ impl<'a> Answer<'a> {
 /// The place from which on the answer stands: that of the last entry of a key where it alone is asked for.
 fn first_asked(config: &Config, question: Question<'_>) -> usize
     ensures within { result ≤ length config.now }
-    ensures shown { (manner : Manner) → shown_from manner (asked_of question.entry) (drop result config.now) ≡ answer_of manner (asked_of question.entry) config.now }
+    ensures shown { (manner : Manner) →
+        shown_from manner (asked_of question.entry) (drop result config.now)
+        ≡ answer_of manner (asked_of question.entry) config.now }
 {
     match question {
         Question::All => 0,

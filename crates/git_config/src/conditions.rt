@@ -1,5 +1,6 @@
 //! The conditions of includes: where the git folder is, which branch is checked out, and which URLs remotes have.
-ghost use Rattle.std.specs.Prelude.{◌≡◌, ◌↔◌, ◌++◌, Any, IfOk, IsSomeAnd, IsTrue, List, Some, ℕ, if◌then◌else◌, option_map, MatchOption, slice_get, drop, codes};
+ghost use Rattle.std.specs.Prelude.{◌≡◌, ◌↔◌, ◌++◌, ℕ, if◌then◌else◌, Any, IfOk, IsSomeAnd, IsTrue, List, MatchOption, Some};
+ghost use Rattle.std.specs.Prelude.{codes, drop, option_map, slice_get};
 ghost use Rattle.std.specs.Option.{option_copied};
 ghost use Rattle.glob_matcher.specs.declared.wildmatch.way.Way.TheVariants.{ExactPath, Path};
 ghost use Rattle.glob_matcher.specs.Matching.{SplitsBy};
@@ -134,7 +135,8 @@ fn folder_pattern(
     real: Option<&[u8]>,
     told: &[u8],
 ) -> Result<Option<FolderPattern>, AllocError>
-    ensures { IfOk result (λ found. option_map (λ split. (split.front.items, split.pattern.items)) found ≡ folder_pattern around.now (option_copied real.entry) told.now) }
+    ensures { IfOk result (λ found. option_map (λ split. (split.front.items, split.pattern.items)) found
+        ≡ folder_pattern around.now (option_copied real.entry) told.now) }
 {
     let pattern = pattern_of(alloc, around, told)?;
     if !pattern.starts_with(b"./") {

@@ -85,7 +85,8 @@ impl<'a, F: ConfigFiles> Reader<'a, F> {
         left: usize,
         out: &mut Config,
     ) -> Result<(), ReadFault<F::Fault>>
-        ensures { Adds (FromFile (F.shows self.now.files.now) self.now.around.now (Within (F.shows self.now.files.now) self.now.around.now left) path.value.items (found_with vec_items found))
+        ensures { Adds (FromFile (F.shows self.now.files.now) self.now.around.now
+            (Within (F.shows self.now.files.now) self.now.around.now left) path.value.items (found_with vec_items found))
             out.old out.new result }
     {
         let real: &[u8] = &found.real_path;
@@ -134,7 +135,9 @@ impl<'a, F: ConfigFiles> Reader<'a, F> {
         out: &mut Config,
     ) -> Result<(), ReadFault<F::Fault>>
         requires scope { IsScope self.now.around.now (option_copied real) scope.now }
-        ensures { Adds (FromEntry (F.shows self.now.files.now) self.now.around.now (Within (F.shows self.now.files.now) self.now.around.now left) (option_copied real.entry) (seen_in scope.now.section.value entry))
+        ensures { Adds (FromEntry (F.shows self.now.files.now) self.now.around.now
+            (Within (F.shows self.now.files.now) self.now.around.now left)
+            (option_copied real.entry) (seen_in scope.now.section.value entry))
             out.old out.new result }
     {
         match asked_for(self.alloc, self.around, scope, real, &entry)? {
@@ -157,7 +160,9 @@ impl<'a, F: ConfigFiles> Reader<'a, F> {
         left: usize,
         out: &mut Config,
     ) -> Result<(), ReadFault<F::Fault>>
-        ensures { Adds (Then (λ first. first ≡ Ok (seen_in section.now.value entry ∷ [])) (FromPath (F.shows self.now.files.now) self.now.around.now (Within (F.shows self.now.files.now) self.now.around.now left (seen_in section.now.value entry) path.items) path.items))
+        ensures { Adds (Then (λ first. first ≡ Ok (seen_in section.now.value entry ∷ []))
+            (FromPath (F.shows self.now.files.now) self.now.around.now
+            (Within (F.shows self.now.files.now) self.now.around.now left (seen_in section.now.value entry) path.items) path.items))
             out.old out.new result }
     {
         let found = match self.files.find(&path) {

@@ -22,6 +22,8 @@ pub fn one_reading()
 
 /// Of the values of a key, all of which say booleans, the last counts; the first that says none is told, whatever follows.
 pub fn last_value_counts()
-    ensures last { (front : List Seen) (said : Option Bool) (s : Seen) (b : Bool) → last_said None front ≡ Ok said → boolean_of s.entry.value ≡ Some b → last_said None (front ++ s ∷ []) ≡ Ok (Some b) }
+    ensures last { (front : List Seen) (said : Option Bool) (s : Seen) (b : Bool) →
+        last_said None front ≡ Ok said → boolean_of s.entry.value ≡ Some b →
+        last_said None (front ++ s ∷ []) ≡ Ok (Some b) }
     ensures wrong { (front more : List Seen) (s : Seen) → last_said None front ≡ Err s → last_said None (front ++ more) ≡ Err s }
 {}

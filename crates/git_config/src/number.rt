@@ -5,7 +5,8 @@ ghost use Rattle.std.specs.List.{position_or_len, starts_with};
 ghost use Rattle.std.specs.Option.{SomeIff};
 ghost use Rattle.std.specs.Str.{byte};
 ghost use Rattle.std.specs.Str.Parse.{digits_value};
-ghost use Rattle.git_config.specs.Numbers.{base_of, begins_hexadecimal, factor_of, integer_of, is_negative, is_solid, magnitude_of, number_in, signed_of, unsigned_of};
+ghost use Rattle.git_config.specs.Numbers.{base_of, factor_of, integer_of, magnitude_of, number_in, signed_of, unsigned_of};
+ghost use Rattle.git_config.specs.Numbers.{begins_hexadecimal, is_negative, is_solid};
 
 /// The number of a value: blanks, a sign, digits and a unit, of which only the digits have to be there.
 ///

@@ -49,7 +49,9 @@ impl Config {
         sources: &[Source<'_>],
     ) -> Result<Config, ReadFault<F::Fault>>
         ensures settings { IfOk result (λ config. FromSources (F.shows files.now) around.now 1 sources.now (Ok config)) }
-        ensures fault { (fault : SettingFault (Rc (Vec ℕ Global) Global) (Vec ℕ Global)) → result ≡ Err (ReadFault.Setting fault) → FromSources (F.shows files.now) around.now 1 sources.now (Err (seen_fault fault)) }
+        ensures fault { (fault : SettingFault (Rc (Vec ℕ Global) Global) (Vec ℕ Global)) →
+            result ≡ Err (ReadFault.Setting fault) →
+            FromSources (F.shows files.now) around.now 1 sources.now (Err (seen_fault fault)) }
     {
         let reader = Reader {
             alloc,

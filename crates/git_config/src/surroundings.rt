@@ -75,7 +75,9 @@ fn installed_path(
     around: &Surroundings,
     path: &[u8],
 ) -> Result<Option<Vec<u8>>, AllocError>
-    ensures { IfOk result (λ found. option_map vec_items found ≡ (if is_absolute path.now then Some path.now else option_map (λ folder. (folder.items ++ codes "/") ++ path.now) around.now.installed)) }
+    ensures { IfOk result (λ found. option_map vec_items found ≡
+        (if is_absolute path.now then Some path.now
+        else option_map (λ folder. (folder.items ++ codes "/") ++ path.now) around.now.installed)) }
 {
     if is_absolute(path) {
         return Ok(Some(Vec::from_slice(alloc, path)?));

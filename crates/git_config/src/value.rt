@@ -1,6 +1,7 @@
 //! The value of an entry.
 ghost use Rattle.std.specs.Prelude.{◌≡◌, ◌&&◌, ◌<◌, ◌≤◌, ◌+◌, ◌^◌, ◌++◌, ◌∷◌, [], OnOk, ℕ, List, length, not};
-ghost use Rattle.git_config.specs.Grammar.{before, before_zero, between, entry_of, filled, in_escape, in_value, is_blank, is_mark, no_part, nothing, place_behind, read, text_of, value_ended, with_blank};
+ghost use Rattle.git_config.specs.Grammar.{before, before_zero, between, entry_of, nothing, place_behind, read, text_of, value_ended};
+ghost use Rattle.git_config.specs.Grammar.{filled, in_escape, in_value, is_blank, is_mark, no_part, with_blank};
 ghost use Rattle.git_config.specs.Items.{seen_entry};
 ghost use Rattle.git_config.specs.Private.Parts.{part_of};
 ghost use Rattle.git_config.specs.Private.Taking.{Reads};
