@@ -44,7 +44,8 @@ pub fn read(
 pub fn whole(alloc: Global, bytes: &[u8], format: ObjectFormat) -> Result<Vec<Entry>, IndexFault>
     ensures short { length bytes.now < 12 + hash_len format → result ≡ Err IndexFault.TooShort }
     ensures found { IfOk result (λ entries. IsIndexFile format bytes.now (map tracked entries.items)) }
-    ensures only { (es : List Tracked) → IsIndexFile format bytes.now es → HasRoom bytes.now es → MatchResult result (λ entries. map tracked entries.items ≡ es) (λ fault. fault ≡ Memory) }
+    ensures only { (es : List Tracked) → IsIndexFile format bytes.now es → HasRoom bytes.now es
+        → MatchResult result (λ entries. map tracked entries.items ≡ es) (λ fault. fault ≡ Memory) }
 {
     let (entries, extensions) = read(alloc, bytes, format)?;
     if link_among(extensions, format)?.is_some() {

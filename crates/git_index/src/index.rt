@@ -48,7 +48,8 @@ impl Index {
         // What is read is spelled so.
         ensures found { IfOk result (λ index. IsIndexFile format bytes.now index) }
         // What is spelled so is read, unless memory is refused.
-        ensures only { (es : List Tracked) → IsIndexFile format bytes.now es → HasRoom bytes.now es → MatchResult result (λ index. index ≡ es) (λ fault. fault ≡ Memory) }
+        ensures only { (es : List Tracked) → IsIndexFile format bytes.now es → HasRoom bytes.now es
+            → MatchResult result (λ index. index ≡ es) (λ fault. fault ≡ Memory) }
     {
         let entries = whole(alloc, bytes, format)?;
         Ok(Index { entries })
@@ -85,7 +86,8 @@ impl Index {
         // What is read is spelled so.
         ensures found { IfOk result (λ index. IsSplitIndex format bytes.now shared.now index) }
         // What is spelled so is read, unless memory is refused.
-        ensures only { (es : List Tracked) → (split : IsSplitIndex format bytes.now shared.now es) → HasRoom bytes.now split.own → HasRoom shared.now split.shared
+        ensures only { (es : List Tracked) → (split : IsSplitIndex format bytes.now shared.now es)
+            → HasRoom bytes.now split.own → HasRoom shared.now split.shared
             → MatchResult result (λ index. index ≡ es) (λ fault. fault ≡ Memory) }
     {
         let (own, extensions) = read(alloc, bytes, format)?;

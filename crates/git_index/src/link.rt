@@ -38,7 +38,8 @@ fn link_of(bytes: &[u8], hash_len: usize) -> Result<(&[u8], &[u8], &[u8]), Index
 fn link_at_stop(bytes: &[u8], hash_len: usize) -> Result<Option<Link<'_>>, IndexFault>
     requires { Ends bytes.now }
     ensures found { IfOk result (λ link. StopsWith hash_len (option_map (λ x. (x.hash.now, x.bitmaps.now)) link) bytes.now) }
-    ensures only { (link : Option (List ℕ × List ℕ)) → StopsWith hash_len link bytes.now → MatchResult result (λ x. option_map (λ x. (x.hash.now, x.bitmaps.now)) x ≡ link) (λ fault. fault ≡ Memory) }
+    ensures only { (link : Option (List ℕ × List ℕ)) → StopsWith hash_len link bytes.now
+        → MatchResult result (λ x. option_map (λ x. (x.hash.now, x.bitmaps.now)) x ≡ link) (λ fault. fault ≡ Memory) }
 {
     if bytes.len() < HEAD_LEN {
         return Ok(None);
@@ -53,7 +54,8 @@ fn link_at_stop(bytes: &[u8], hash_len: usize) -> Result<Option<Link<'_>>, Index
 
 /// The link among the extensions of an index file, unless its hash is zero.
 pub fn link_among(bytes: &[u8], format: ObjectFormat) -> Result<Option<Link<'_>>, IndexFault>
-    ensures found { IfOk result (λ link. MatchOption link (HasNoLink format bytes.now) (λ x. HasLink format x.hash.now x.bitmaps.now bytes.now × (x.hash.now ≢ zero_hash format))) }
+    ensures found { IfOk result (λ link. MatchOption link (HasNoLink format bytes.now)
+        (λ x. HasLink format x.hash.now x.bitmaps.now bytes.now × (x.hash.now ≢ zero_hash format))) }
     ensures none { HasNoLink format bytes.now → MatchResult result (λ link. MatchOption link (Unit {0}) (λ x. ⊥)) (λ fault. fault ≡ Memory) }
     ensures some { (hash : List ℕ) → (bitmaps : List ℕ) → HasLink format hash bitmaps bytes.now → hash ≢ zero_hash format
         → MatchResult result (λ link. MatchOption link ⊥ (λ x. (x.hash.now ≡ hash) × (x.bitmaps.now ≡ bitmaps))) (λ fault. fault ≡ Memory) }

@@ -85,7 +85,8 @@ pub fn push_path(
 ) -> Result<(), IndexFault>
     requires { previous + kept ≤ length text.old.items }
     ensures { MatchResult result
-        (λ _. (path : List ℕ) × (text.new.items ≡ text.old.items ++ path) × (joined_of (take kept (drop previous text.old.items)) added.now told room ≡ Ok path) × (length path ≤ room))
+        (λ _. (path : List ℕ) × (text.new.items ≡ text.old.items ++ path)
+        × (joined_of (take kept (drop previous text.old.items)) added.now told room ≡ Ok path) × (length path ≤ room))
         (λ fault. (fault ≡ Memory) ⊎ (joined_of (take kept (drop previous text.old.items)) added.now told room ≡ Err fault)) }
 {
     if kept > room || added.len() > room - kept {
