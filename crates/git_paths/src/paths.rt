@@ -1,7 +1,8 @@
 //! Where a told path leads: `.` stays, `..` goes up, and slashes that follow one another are one.
 ghost use Rattle.std.specs.Prelude.{◌≡◌, ◌∷◌, ◌++◌, ◌||◌, ℕ, Bool, false, List, [], if◌then◌else◌, None, Some, IfOk, IsTrue, MatchOption, OnOk};
 ghost use Rattle.std.specs.Option.{option_copied};
-ghost use Rattle.git_paths.specs.Paths.{AreNames, IsLastName, below, folder_of, folder_parts, goes_up, left_below, names_folder, or_here, parts_left, parts_of, seen_from, stays, step, steps_up, walk};
+ghost use Rattle.git_paths.specs.Paths.{AreNames, IsLastName, below, folder_of, folder_parts, left_below, names_folder, or_here, parts_left, parts_of};
+ghost use Rattle.git_paths.specs.Paths.{goes_up, seen_from, stays, step, steps_up, walk};
 
 use memchr::{memchr, memrchr};
 use std::alloc::{AllocError, Global};
@@ -44,7 +45,8 @@ pub fn walk(path: &mut Vec<u8>, told: &[u8]) -> Result<Option<bool>, AllocError>
 
 /// Whether each part leads to what stands below, as it does where no part is empty or begins with a dot.
 fn are_names(told: &[u8]) -> bool
-    ensures { IsTrue result → (path : List ℕ) → (walk path (parts_of told.now) ≡ Some (below path told.now)) × (names_folder false (parts_of told.now) ≡ false) }
+    ensures { IsTrue result → (path : List ℕ) →
+        (walk path (parts_of told.now) ≡ Some (below path told.now)) × (names_folder false (parts_of told.now) ≡ false) }
 {
     let mut is_start = true;
     let mut is_other = false;
@@ -118,7 +120,8 @@ pub fn leave(path: &mut Vec<u8>)
 /// Whether a part says that a folder is meant: the last one alone does.
 #[tactic(auto, using(crate::proofs::lemmas::PathLemmas::names_folder_alike))]
 fn says_folder(part: &[u8], behind: Option<&[u8]>) -> bool
-    ensures { (known : Bool) → names_folder result (parts_left (option_copied behind.entry)) ≡ names_folder known (part.now ∷ parts_left (option_copied behind.entry)) }
+    ensures { (known : Bool) → names_folder result (parts_left (option_copied behind.entry))
+        ≡ names_folder known (part.now ∷ parts_left (option_copied behind.entry)) }
 {
     match behind {
         Some(_others) => false,
@@ -165,7 +168,8 @@ pub fn below_folder<'a>(path: &'a [u8], folder: &[u8]) -> Option<&'a [u8]>
 #[tactic(auto, using(crate::proofs::lemmas::SeenLemmas::seen_leads_back))]
 pub fn append_seen(text: &mut Vec<u8>, folder: &[u8], path: &[u8]) -> Result<(), AllocError>
     ensures written { OnOk result (text.new.items ≡ text.old.items ++ seen_from (folder_parts folder.now) path.now) }
-    ensures leads { AreNames (folder_parts folder.now) → walk folder.now (parts_of (seen_from (folder_parts folder.now) path.now)) ≡ walk [] (parts_of path.now) }
+    ensures leads { AreNames (folder_parts folder.now) →
+        walk folder.now (parts_of (seen_from (folder_parts folder.now) path.now)) ≡ walk [] (parts_of path.now) }
 {
     let mut rest = path;
     let mut parts = if folder.is_empty() {

@@ -14,7 +14,8 @@ use std::simd::prelude::*;
 #[tactic(auto, using(crate::proofs::lemmas::UsualLemmas::names_if_usual, crate::proofs::lemmas::UsualLemmas::none_unusual))]
 pub fn are_usual_names(told: &[u8]) -> bool
     ensures names { IsTrue result → AreNames (parts_of told.now) }
-    ensures lead { IsTrue result → (path : List ℕ) → (walk path (parts_of told.now) ≡ Some (below path told.now)) × (names_folder false (parts_of told.now) ≡ false) }
+    ensures lead { IsTrue result → (path : List ℕ) →
+        (walk path (parts_of told.now) ≡ Some (below path told.now)) × (names_folder false (parts_of told.now) ≡ false) }
     ensures usual { IsTrue result → list_any (is_unusual Full) told.now ≡ false }
 {
     if told.is_empty() || is_odd(b'/', told[0]) || told[told.len() - 1] == b'/' {
