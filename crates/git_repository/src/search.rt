@@ -23,7 +23,8 @@ impl<'a, S: FileSystem> Finder<'a, S> {
     /// [`FindFault::At`] where the nearest that isn't passed over shows a fault, or lies on another file system, and [`FindFault::Memory`]
     /// where memory was refused.
     pub(crate) fn find(&self, safety: &Safety<'_>, current: &[u8]) -> Result<Found, FindFault>
-        ensures { IfOk result (λ found. found.by ≢ Named → MayBeTaken (S.owned self.now.source.now) (map vec_items safety.now.directories.now) found.top.items found.git.path.items) }
+        ensures { IfOk result (λ found. found.by ≢ Named →
+            MayBeTaken (S.owned self.now.source.now) (map vec_items safety.now.directories.now) found.top.items found.git.path.items) }
     {
         if let Some(told) = &self.variables.git_dir {
             return Ok(Found {
@@ -57,7 +58,8 @@ impl<'a, S: FileSystem> Finder<'a, S> {
 
     /// The repository that the first of these folders shows that shows one.
     fn search(&self, safety: &Safety<'_>, folders: &[&[u8]]) -> Result<Found, FindFault>
-        ensures { IfOk result (λ found. MayBeTaken (S.owned self.now.source.now) (map vec_items safety.now.directories.now) found.top.items found.git.path.items) }
+        ensures { IfOk result (λ found.
+            MayBeTaken (S.owned self.now.source.now) (map vec_items safety.now.directories.now) found.top.items found.git.path.items) }
     {
         let Some((start, uppers)) = folders.split_first() else {
             return Err(FindFault::NotFound);
@@ -104,7 +106,8 @@ impl<'a, S: FileSystem> Finder<'a, S> {
 
     /// The repository that a folder shows; `None` where it is passed over.
     fn shows(&self, safety: &Safety<'_>, folder: &[u8]) -> Result<Option<Found>, FindFault>
-        ensures { IfOk result (λ shown. IfSome shown (λ found. MayBeTaken (S.owned self.now.source.now) (map vec_items safety.now.directories.now) found.top.items found.git.path.items)) }
+        ensures { IfOk result (λ shown. IfSome shown (λ found.
+            MayBeTaken (S.owned self.now.source.now) (map vec_items safety.now.directories.now) found.top.items found.git.path.items)) }
     {
         let inner = joined(self.alloc, folder, b"/.git")?;
         let top = Vec::from_slice(self.alloc, path_of(folder))?;
