@@ -64,7 +64,8 @@ pub extern "C" fn gix_glob_parse_attribute_line<'a>(
     ensures unmoved { result ≡ NO_MEMORY → lines.new ≡ lines.old }
     ensures place { end_of lines.new.rest ≡ end_of lines.old.rest }
     ensures kept { ¬ IsTaken result → (out.new ≡ out.old) × (definition.new ≡ definition.old) × (lines.new.number ≡ lines.old.number) }
-    ensures taken { IsTaken result → TakesAttributes Crate is_top (unread_of lines.old) lines.new.rest.now out.old out.new definition.old definition.new result }
+    ensures taken { IsTaken result →
+        TakesAttributes Crate is_top (unread_of lines.old) lines.new.rest.now out.old out.new definition.old definition.new result }
     ensures number { IsTaken result → lines.new.number ≡ min (lines.old.number + 1) (2 ^ 64 - 1) }
     ensures memory { IsTaken result → LiesInMemory lines.old lines.new.rest.now memory.old.rest memory.new.rest out.new definition.new result }
     ensures memory_kept { ¬ IsTaken result → memory.new ≡ memory.old }
@@ -88,7 +89,8 @@ pub extern "C" fn gix_glob_parse_attribute_line_as_git<'a>(
     ensures unmoved { result ≡ NO_MEMORY → lines.new ≡ lines.old }
     ensures place { end_of lines.new.rest ≡ end_of lines.old.rest }
     ensures kept { ¬ IsTaken result → (out.new ≡ out.old) × (definition.new ≡ definition.old) × (lines.new.number ≡ lines.old.number) }
-    ensures taken { IsTaken result → TakesAttributes Git is_top (unread_of lines.old) lines.new.rest.now out.old out.new definition.old definition.new result }
+    ensures taken { IsTaken result →
+        TakesAttributes Git is_top (unread_of lines.old) lines.new.rest.now out.old out.new definition.old definition.new result }
     ensures number { IsTaken result → lines.new.number ≡ min (lines.old.number + 1) (2 ^ 64 - 1) }
     ensures memory { IsTaken result → LiesInMemory lines.old lines.new.rest.now memory.old.rest memory.new.rest out.new definition.new result }
     ensures memory_kept { ¬ IsTaken result → memory.new ≡ memory.old }
@@ -112,7 +114,8 @@ fn take_line<'a>(
     ensures unmoved { result ≡ NO_MEMORY → lines.new ≡ lines.old }
     ensures place { end_of lines.new.rest ≡ end_of lines.old.rest }
     ensures kept { ¬ IsTaken result → (out.new ≡ out.old) × (definition.new ≡ definition.old) × (lines.new.number ≡ lines.old.number) }
-    ensures taken { IsTaken result → TakesAttributes reading is_top (unread_of lines.old) lines.new.rest.now out.old out.new definition.old definition.new result }
+    ensures taken { IsTaken result →
+        TakesAttributes reading is_top (unread_of lines.old) lines.new.rest.now out.old out.new definition.old definition.new result }
     ensures number { IsTaken result → lines.new.number ≡ min (lines.old.number + 1) (2 ^ 64 - 1) }
     ensures memory { IsTaken result → LiesInMemory lines.old lines.new.rest.now memory.old.rest memory.new.rest out.new definition.new result }
     ensures memory_kept { ¬ IsTaken result → memory.new ≡ memory.old }
@@ -150,7 +153,8 @@ fn write_parts<'a>(
     definition: &mut TextMacro<'a>,
 ) -> u32
     requires { (gives : Gives) × GivesParts reading gives parts }
-    ensures reads { (gives : Gives) → GivesParts reading gives parts.entry → ReadsAttributes reading gives out.old out.new definition.old definition.new result }
+    ensures reads { (gives : Gives) → GivesParts reading gives parts.entry →
+        ReadsAttributes reading gives out.old out.new definition.old definition.new result }
     ensures taken { IsTaken result }
     ensures lies { (head line : Bor (List ℕ)) → LieIn head line parts.entry → TextsLie head line out.new definition.new result }
 {

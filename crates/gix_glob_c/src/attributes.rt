@@ -69,7 +69,8 @@ pub extern "C" fn gix_glob_attribute_of<'a>(
         → length attributes.now.macros.now ≤ length marks.old → result ≡ true }
     ensures marks { drop (length attributes.now.macros.now) marks.new ≡ drop (length attributes.now.macros.now) marks.old }
     ensures exact { All IsLawfulAttributes attributes.now.lists.now → result ≡ true → (filled : List Assigned)
-        × IsAssigned (map attribute_list attributes.now.lists.now) (map definition_of attributes.now.macros.now) (path_asked path.now) (rules_of (reading_of_lines attributes.now.lists.now) fold) filled
+        × IsAssigned (map attribute_list attributes.now.lists.now) (map definition_of attributes.now.macros.now)
+        (path_asked path.now) (rules_of (reading_of_lines attributes.now.lists.now) fold) filled
         × ((out.new.kind, out.new.value.now) ≡ told_of (state_in filled name.now)) }
 {
     let Some(asked) = path_of_file(path.bytes, path.is_dir) else {

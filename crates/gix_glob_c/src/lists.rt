@@ -1,6 +1,7 @@
 //! A list of patterns under its base, which may be prepared: `struct gix_glob_list` of the header, and which of its patterns matches
 //! a path last.
-ghost use Rattle.std.specs.Prelude.{◌≡◌, ◌↔◌, ◌⊎◌, ◌+◌, ◌*◌, ◌^◌, ◌<◌, ◌≤◌, ℕ, [], ◌∷◌, All, IfSome, IsTrue, MatchOption, Some, drop, length, map, option_map, slice_get, take, true, false};
+ghost use Rattle.std.specs.Prelude.{◌≡◌, ◌↔◌, ◌⊎◌, ◌+◌, ◌*◌, ◌^◌, ◌<◌, ◌≤◌, ℕ, [], ◌∷◌, true, false, All, IfSome, IsTrue, MatchOption, Some};
+ghost use Rattle.std.specs.Prelude.{drop, length, map, option_map, slice_get, take};
 ghost use Rattle.gix_glob.specs.Paths.{IsFolder};
 ghost use Rattle.glob_lists.specs.Deciding.{AnswersAt, Decides};
 ghost use Rattle.glob_lists.specs.Prepared.{ArePrepared};
@@ -97,7 +98,8 @@ pub extern "C" fn gix_glob_last_match(
     ensures none { (result ≡ none) ⊎ (result < length list.now.patterns.now) }
     ensures other { ¬ IsPathOfFile path.now → result ≡ none }
     ensures exact { IsLawfulList list.now → IsPathOfFile path.now
-        → Decides (entry_list list.now ∷ []) path.now is_dir (rules_of (reading_of_all list.now.patterns.now) fold) (option_map (λ (index : ℕ). (0, index)) (unless_none result)) }
+        → Decides (entry_list list.now ∷ []) path.now is_dir (rules_of (reading_of_all list.now.patterns.now) fold)
+        (option_map (λ (index : ℕ). (0, index)) (unless_none result)) }
 {
     let Some(path) = path_of_file(path, is_dir) else {
         return NONE;
