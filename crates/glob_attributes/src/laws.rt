@@ -37,7 +37,8 @@ pub fn file_lines_are_these()
 
 /// A file has one list of entries by each reading, which the equations of `attributes_of` give.
 pub fn attributes_are_these()
-    ensures { (reading : Reading) (bytes : List ℕ) (entries : List AttributeEntry) → Attributes reading bytes entries ↔ (entries ≡ attributes_of reading bytes) }
+    ensures { (reading : Reading) (bytes : List ℕ) (entries : List AttributeEntry) →
+        Attributes reading bytes entries ↔ (entries ≡ attributes_of reading bytes) }
 {
     readings_are_these();
     git_readings_are_these();

@@ -9,7 +9,8 @@ ghost use Rattle.glob_attributes.specs.States.{Assigned};
 pub(crate) fn marked_place(marks: &mut [bool], named: Option<usize>, sets: bool) -> Option<usize>
     requires { IfSome named (λ place. place < length marks.old) }
     ensures inside { IfSome result (λ place. place < length marks.old) }
-    ensures puts_in { (macros : List Definition) (assigned : Assigned) → length marks.old ≡ length macros → named ≡ last_place assigned.name macros → sets ≡ is_set assigned.state
+    ensures puts_in { (macros : List Definition) (assigned : Assigned) → length marks.old ≡ length macros
+        → named ≡ last_place assigned.name macros → sets ≡ is_set assigned.state
         → PutsIn macros assigned marks.old marks.new result }
 {
     let Some(place) = named else {

@@ -86,7 +86,9 @@ impl<'a> PathAttributes<'a> {
         path: &RepositoryPath<'_>,
     ) -> Result<PathAttributes<'a>, AllocError>
         requires folders { BasesAreFolders (map (entry_list_of seen_assignments) stronger.now) }
-        ensures { IfOk result (λ assigned. IsAssigned (map (entry_list_of seen_assignments) prepared.now.lists ++ map (entry_list_of seen_assignments) stronger.now) macros.now path.now prepared.now.rules assigned) }
+        ensures { IfOk result (λ assigned. IsAssigned
+            (map (entry_list_of seen_assignments) prepared.now.lists ++ map (entry_list_of seen_assignments) stronger.now)
+            macros.now path.now prepared.now.rules assigned) }
     {
         let mut pairs = Vec::with_capacity(alloc, FEW)?;
         prepared.matches_into(path, &mut pairs)?;
@@ -181,7 +183,8 @@ fn push_row<'a>(
     lists: &'a [List<AttributeLines>],
     pairs: &[(usize, usize)],
 ) -> Result<(), AllocError>
-    ensures { OnOk result (map seen_entry row.new.items ≡ map seen_entry row.old.items ++ flat_map (assigned_at (map (entry_list_of seen_assignments) lists.now)) pairs.now) }
+    ensures { OnOk result (map seen_entry row.new.items
+        ≡ map seen_entry row.old.items ++ flat_map (assigned_at (map (entry_list_of seen_assignments) lists.now)) pairs.now) }
 {
     for pair in pairs {
         push_each(row, assigned_at(lists, *pair))?;

@@ -95,10 +95,12 @@ fn put_in<'a>(
 ) -> Option<&'a [u8]>
     requires { length marks.old ≡ length macros.now }
     ensures put_in { (before : List Assigned) → AreMarked (map definition_of macros.now) before marks.old →
-        reverse (option_map_or (λ words. assigned_by words.now) result []) ≡ put_in (map definition_of macros.now) before (assignment_with (λ bytes. bytes.now) assignment.now) }
+        reverse (option_map_or (λ words. assigned_by words.now) result [])
+        ≡ put_in (map definition_of macros.now) before (assignment_with (λ bytes. bytes.now) assignment.now) }
     ensures marked { (before : List Assigned) → AreMarked (map definition_of macros.now) before marks.old →
         AreMarked (map definition_of macros.now) (assignment_with (λ bytes. bytes.now) assignment.now ∷ before) marks.new }
-    ensures fewer { length (option_map_or (λ words. assigned_by words.now) result []) + unmarked (map definition_of macros.now) marks.new ≤ unmarked (map definition_of macros.now) marks.old }
+    ensures fewer { length (option_map_or (λ words. assigned_by words.now) result []) + unmarked (map definition_of macros.now) marks.new
+        ≤ unmarked (map definition_of macros.now) marks.old }
     ensures room { option_map_or (λ words. 1) result 0 + unmarked_count marks.new ≤ unmarked_count marks.old }
     ensures count { length marks.new ≡ length marks.old }
 {
