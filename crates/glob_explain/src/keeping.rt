@@ -37,7 +37,8 @@ pub fn keeping_lines(
     rules: Rules,
 ) -> Result<Option<Keeping>, AllocError>
     requires { BasesAreFolders (seen lists.old) }
-    ensures kept { IfOk result (λ keeping. IfSome keeping (λ keeping. IfSome keeping.lines (λ lines. Keeps (seen lists.old) rules path.now keeping.list lines.items))) }
+    ensures kept { IfOk result (λ keeping. IfSome keeping (λ keeping. IfSome keeping.lines (λ lines.
+        Keeps (seen lists.old) rules path.now keeping.list lines.items))) }
     ensures same { OnOk result (seen lists.new ≡ seen lists.old) }
 {
     let bytes = path.bytes();
