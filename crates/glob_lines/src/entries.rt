@@ -39,7 +39,8 @@ impl<V: Drop> NumberedMappings<V> {
         requires { self.old.lines < usize.MAX }
         ensures lines { self.new.lines ≡ self.old.lines + 1 }
         ensures entry { OnOk result (map (entry_of (λ v. v)) self.new.mappings.items
-            ≡ map (entry_of (λ v. v)) self.old.mappings.items ++ option_to_list (entry_of_text line_reading value (self.old.lines + 1) (option_copied text.entry))) }
+            ≡ map (entry_of (λ v. v)) self.old.mappings.items
+            ++ option_to_list (entry_of_text line_reading value (self.old.lines + 1) (option_copied text.entry))) }
     {
         self.lines += 1;
         let Some(text) = text else {
@@ -59,7 +60,8 @@ impl<V: Drop> NumberedMappings<V> {
         requires { self.old.lines < usize.MAX }
         ensures lines { self.new.lines ≡ self.old.lines + 1 }
         ensures entry { OnOk result (map (entry_of (λ v. v)) self.new.mappings.items
-            ≡ map (entry_of (λ v. v)) self.old.mappings.items ++ option_to_list (entry_of_text git_reading value (self.old.lines + 1) (option_copied text.entry))) }
+            ≡ map (entry_of (λ v. v)) self.old.mappings.items
+            ++ option_to_list (entry_of_text git_reading value (self.old.lines + 1) (option_copied text.entry))) }
     {
         self.lines += 1;
         let Some(text) = text else {

@@ -113,7 +113,11 @@ impl<'a> PathReport for Matches<'a> {
 
     ghost Basis = { RuledList };
 
-    ghost basis = { λ report. record { entries = map (entry_of (λ _. tt)) report.list.now.patterns.items; base = option_map vec_items report.list.now.base; rules = report.stack.rules } };
+    ghost basis = { λ report. record {
+      entries = map (entry_of (λ _. tt)) report.list.now.patterns.items;
+      base = option_map vec_items report.list.now.base;
+      rules = report.stack.rules;
+    } };
 
     ghost writes = { λ it. WritesNumbers it.entries it.base it.rules };
 
