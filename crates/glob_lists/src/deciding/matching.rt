@@ -42,8 +42,10 @@ impl<'a, 'p, T: search::Pattern> Asked<'a, 'p, T> {
     fn push_matches(&self, i: usize, pairs: &mut Vec<(usize, usize)>) -> Result<(), AllocError>
         requires folders { BasesAreFolders (map (entry_list_of T.seen) self.now.lists.now) }
         requires inside { i < length self.now.lists.now }
-        requires found { AreMatchesUpTo (map (entry_list_of T.seen) self.now.lists.now) self.now.path.now.bytes self.now.path.now.is_dir self.now.rules i 0 pairs.old.items }
-        ensures { OnOk result (AreMatchesUpTo (map (entry_list_of T.seen) self.now.lists.now) self.now.path.now.bytes self.now.path.now.is_dir self.now.rules (i + 1) 0 pairs.new.items) }
+        requires found { AreMatchesUpTo (map (entry_list_of T.seen) self.now.lists.now)
+            self.now.path.now.bytes self.now.path.now.is_dir self.now.rules i 0 pairs.old.items }
+        ensures { OnOk result (AreMatchesUpTo (map (entry_list_of T.seen) self.now.lists.now)
+            self.now.path.now.bytes self.now.path.now.is_dir self.now.rules (i + 1) 0 pairs.new.items) }
     {
         let lists = self.lists;
         let list = &lists[i];

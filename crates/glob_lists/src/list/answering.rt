@@ -34,7 +34,8 @@ pub(crate) fn is_answer<L: Ledger>(
     rules: Rules,
     counts: &mut Steps<L>,
 ) -> bool
-    ensures exact { Passes row.now probe.now → Asks pattern.entry.text.now pattern.entry.mode row.now → TellsBelow row.now probe.now pattern.entry.text.now pattern.entry.mode pattern.entry.first_wildcard_pos rest.now rules result }
+    ensures exact { Passes row.now probe.now → Asks pattern.entry.text.now pattern.entry.mode row.now →
+        TellsBelow row.now probe.now pattern.entry.text.now pattern.entry.mode pattern.entry.first_wildcard_pos rest.now rules result }
     ensures steps { counts.new.steps ≤ counts.old.steps + pattern_step_limit (length pattern.entry.text.now) (length rest.now.bytes) }
     ensures looks { counts.new.looks ≤ counts.old.looks + pattern_look_limit (length pattern.entry.text.now) (length rest.now.bytes) }
     ensures grows { NeverFall counts.old counts.new }

@@ -79,7 +79,8 @@ impl<'a, T: search::Pattern> PreparedLists<'a, T> {
     pub(crate) fn count_shown_from(&self, i: usize, m: usize, question: &Question<'_, '_>) -> usize
         requires shows { Shows question.now.path.now.bytes question.now.probe }
         ensures few { result ≤ entry_count (map (entry_list_of T.seen) self.now) }
-        ensures some { PairAnswers (map (entry_list_of T.seen) self.now) question.now.path.now.bytes question.now.path.now.is_dir question.now.rules i m → 0 < result }
+        ensures some { PairAnswers (map (entry_list_of T.seen) self.now)
+            question.now.path.now.bytes question.now.path.now.is_dir question.now.rules i m → 0 < result }
     {
         // a law does nothing: it is called for what it ensures
         laws::answering_patterns_pass();
@@ -129,7 +130,8 @@ impl<'a, T: search::Pattern> PreparedLists<'a, T> {
         counts: &mut Steps<L>,
     ) -> Result<(), AllocError>
         requires shows { Shows question.now.path.now.bytes question.now.probe }
-        ensures { OnOk result (AreMatches (map (entry_list_of T.seen) self.now) question.now.path.now.bytes question.now.path.now.is_dir question.now.rules pairs.new.items) }
+        ensures { OnOk result (AreMatches (map (entry_list_of T.seen) self.now)
+            question.now.path.now.bytes question.now.path.now.is_dir question.now.rules pairs.new.items) }
     {
         pairs.clear();
         'lists: for i in (0..self.lists.len()).rev() {
