@@ -29,5 +29,6 @@ pub fn a_pattern_has_one_reading()
 
 /// A pattern has as many star tokens in one mode as in another.
 pub fn star_tokens_are_as_many_in_each_mode()
-    ensures { (mode other : Mode) (pattern : List ℕ) (ts us : List Token) → Tokens (way_of mode) pattern ts → Tokens (way_of other) pattern us → star_count ts ≡ star_count us }
+    ensures { (mode other : Mode) (pattern : List ℕ) (ts us : List Token)
+        → Tokens (way_of mode) pattern ts → Tokens (way_of other) pattern us → star_count ts ≡ star_count us }
 {}

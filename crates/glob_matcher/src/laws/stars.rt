@@ -13,17 +13,20 @@ ghost use Rattle.glob_matcher.specs.Pruning.{HasStars, IsBoundary, star_count};
 
 /// What begins with a run that crosses slashes, and matches from a place of the value, matches from every place before.
 pub fn a_crossing_run_splits_from_before()
-    ensures { (way : Way) (pattern value : List ℕ) (i j k e : ℕ) → TokenAt way pattern i Free j → k ≤ e → e ≤ length value → SplitsFrom value e pattern i way → SplitsFrom value k pattern i way }
+    ensures { (way : Way) (pattern value : List ℕ) (i j k e : ℕ) → TokenAt way pattern i Free j → k ≤ e → e ≤ length value
+        → SplitsFrom value e pattern i way → SplitsFrom value k pattern i way }
 {}
 
 /// What begins with a double star and its slash, and matches from a place after a slash, matches from every place before.
 pub fn a_double_star_splits_from_before()
-    ensures { (way : Way) (pattern value : List ℕ) (i j k e : ℕ) → TokenAt way pattern i Dirs j → k < e → e ≤ length value → slice_index value (e - 1) ≡ slash → SplitsFrom value e pattern i way → SplitsFrom value k pattern i way }
+    ensures { (way : Way) (pattern value : List ℕ) (i j k e : ℕ) → TokenAt way pattern i Dirs j → k < e → e ≤ length value → slice_index value (e - 1) ≡ slash
+        → SplitsFrom value e pattern i way → SplitsFrom value k pattern i way }
 {}
 
 /// What begins with a run within a component, and matches from a place, matches from every place before in that component.
 pub fn a_local_run_splits_from_before()
-    ensures { (way : Way) (pattern value : List ℕ) (i j k e : ℕ) → TokenAt way pattern i Local j → k ≤ e → e ≤ length value → NoSlash value k e → SplitsFrom value e pattern i way → SplitsFrom value k pattern i way }
+    ensures { (way : Way) (pattern value : List ℕ) (i j k e : ℕ) → TokenAt way pattern i Local j → k ≤ e → e ≤ length value → NoSlash value k e
+        → SplitsFrom value e pattern i way → SplitsFrom value k pattern i way }
 {}
 
 // ---- one more star

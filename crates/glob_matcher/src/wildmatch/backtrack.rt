@@ -56,7 +56,9 @@ impl<'c, 'a, L: Ledger, M: Texts> Engine<'c, 'a, L, M> {
     #[inline(always)]
     fn back_to_free(&mut self, mark: Mark) -> Option<State>
         requires { IsLeft M.way M.pattern M.value (Crossing.Free mark) }
-        ensures { IsBacktrack M.way M.pattern M.value (λ measure. AllowsLeft measure M.way M.pattern M.value (Crossing.Free mark) (amount_of measure self.old)) result self.old self.new }
+        ensures { IsBacktrack M.way M.pattern M.value
+            (λ measure. AllowsLeft measure M.way M.pattern M.value (Crossing.Free mark) (amount_of measure self.old))
+            result self.old self.new }
     {
         let Some((moved, _)) = self.pass(mark) else {
             return None;
@@ -82,7 +84,9 @@ impl<'c, 'a, L: Ledger, M: Texts> Engine<'c, 'a, L, M> {
     #[inline(always)]
     fn back_to_crossing(&mut self, crossing: Crossing) -> Option<State>
         requires { IsLeft M.way M.pattern M.value crossing }
-        ensures { IsBacktrack M.way M.pattern M.value (λ measure. AllowsLeft measure M.way M.pattern M.value crossing (amount_of measure self.old)) result self.old self.new }
+        ensures { IsBacktrack M.way M.pattern M.value
+            (λ measure. AllowsLeft measure M.way M.pattern M.value crossing (amount_of measure self.old))
+            result self.old self.new }
     {
         match crossing {
             Crossing::Unmet => None,
@@ -147,7 +151,9 @@ impl<'c, 'a, L: Ledger, M: Texts> Engine<'c, 'a, L, M> {
     #[inline(always)]
     pub fn backtrack(&mut self, state: State) -> Option<State>
         requires { IsMiss M.way M.pattern M.value state }
-        ensures { IsBacktrack M.way M.pattern M.value (λ measure. AllowsMiss measure M.way M.pattern M.value state (amount_of measure self.old)) result self.old self.new }
+        ensures { IsBacktrack M.way M.pattern M.value
+            (λ measure. AllowsMiss measure M.way M.pattern M.value state (amount_of measure self.old))
+            result self.old self.new }
     {
         match self.back_to_local(state) {
             Some(next) => Some(next),

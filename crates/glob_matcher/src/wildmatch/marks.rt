@@ -51,7 +51,8 @@ impl<'c, 'a, L: Ledger, M: Texts> Engine<'c, 'a, L, M> {
     /// Moves a mark by one byte, and tells which byte that was; `None` where the value ends at the mark.
     #[inline(always)]
     pub fn pass(&mut self, mark: Mark) -> Option<(Mark, u8)>
-        ensures moved { IfSome result (λ x. (x.0.place ≡ mark.place) × (x.0.at ≡ mark.at + 1) × (mark.at < length M.value) × (slice_index M.value mark.at ≡ x.1)) }
+        ensures moved { IfSome result (λ x. (x.0.place ≡ mark.place) × (x.0.at ≡ mark.at + 1)
+            × (mark.at < length M.value) × (slice_index M.value mark.at ≡ x.1)) }
         ensures unable { IfNone result (length M.value ≤ mark.at) }
         ensures count { TakesExactly self.old self.new 1 1 }
     {
@@ -125,7 +126,8 @@ impl<'c, 'a, L: Ledger, M: Texts> Engine<'c, 'a, L, M> {
     /// The same, also where the value ends at the mark.
     #[inline(always)]
     pub fn pass_within_or_end(&mut self, mark: Mark) -> Option<Mark>
-        ensures moved { IfSome result (λ x. (x.place ≡ mark.place) × (x.at ≡ mark.at + 1) × (mark.at < length M.value) × (slice_index M.value mark.at ≢ slash)) }
+        ensures moved { IfSome result (λ x. (x.place ≡ mark.place) × (x.at ≡ mark.at + 1)
+            × (mark.at < length M.value) × (slice_index M.value mark.at ≢ slash)) }
         ensures unable { IfNone result ((length M.value ≤ mark.at) ⊎ (slice_index M.value mark.at ≡ slash)) }
         ensures count { TakesExactly self.old self.new 1 1 }
     {
