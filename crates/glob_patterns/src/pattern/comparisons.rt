@@ -81,7 +81,9 @@ impl<'c, 'a, L: Ledger, M: Texts> Comparison<'c, 'a, L, M> {
     #[inline(always)]
     pub(super) fn shown(&mut self, pattern_mode: Mode, first_wildcard_pos: Option<usize>) -> Shown
         ensures meaning { IsPattern M.pattern pattern_mode first_wildcard_pos → IsShown result M.value M.pattern M.way }
-        ensures count { TakesUpTo self.old self.new (shown_step_limit result (length M.pattern) (length M.value)) (shown_look_limit result (length M.pattern) (length M.value)) }
+        ensures count { TakesUpTo self.old self.new
+            (shown_step_limit result (length M.pattern) (length M.value))
+            (shown_look_limit result (length M.pattern) (length M.value)) }
     {
         match self.answer(pattern_mode, first_wildcard_pos) {
             Some(true) => Shown::Match,
@@ -96,7 +98,9 @@ impl<'c, 'a, L: Ledger, M: Texts> Comparison<'c, 'a, L, M> {
     fn answer(&mut self, pattern_mode: Mode, first_wildcard_pos: Option<usize>) -> Option<bool>
         ensures meaning { IsPattern M.pattern pattern_mode first_wildcard_pos →
             IfSome result (λ answer. IsTrue answer ↔ SplitsBy M.value M.pattern M.way) }
-        ensures count { TakesUpTo self.old self.new (answer_step_limit result (length M.pattern) (length M.value)) (answer_look_limit result (length M.pattern) (length M.value)) }
+        ensures count { TakesUpTo self.old self.new
+            (answer_step_limit result (length M.pattern) (length M.value))
+            (answer_look_limit result (length M.pattern) (length M.value)) }
     {
         let Some(pos) = first_wildcard_pos else {
             return Some(self.are_alike());
@@ -124,7 +128,9 @@ impl<'c, 'a, L: Ledger, M: Texts> Comparison<'c, 'a, L, M> {
     #[inline(always)]
     fn between_stars(&mut self) -> Option<bool>
         ensures meaning { IfSome result (λ answer. IsTrue answer ↔ SplitsBy M.value M.pattern M.way) }
-        ensures count { TakesUpTo self.old self.new (answer_step_limit result (length M.pattern) (length M.value)) (answer_look_limit result (length M.pattern) (length M.value)) }
+        ensures count { TakesUpTo self.old self.new
+            (answer_step_limit result (length M.pattern) (length M.value))
+            (answer_look_limit result (length M.pattern) (length M.value)) }
     {
         if self.texts.value_len() > LONGEST_SEARCHED
             || !self.is_between_stars()
