@@ -38,7 +38,8 @@ pub(crate) fn check_ignore<R: Files + Env + Eprint + AllocGlobal, I: Read, O: Wr
     requires readable { has_failed input.old ≡ false }
     requires writable { has_failed output.old ≡ false }
     ensures status { IfOk result IsAnswered }
-    ensures answered { IfOk result (λ status. AnswersIgnore options.now asked.entry status (I.remaining (inner input.old)) (I.remaining (inner input.new)) (O.contents (inner output.old)) (O.contents (inner output.new))) }
+    ensures answered { IfOk result (λ status. AnswersIgnore options.now asked.entry status
+        (I.remaining (inner input.old)) (I.remaining (inner input.new)) (O.contents (inner output.old)) (O.contents (inner output.new))) }
 {
     if let Some(message) = asked.disagreement() {
         return Err(Fault::told(String::from_str(alloc, message)));

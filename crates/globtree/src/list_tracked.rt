@@ -168,7 +168,8 @@ fn push_matched<'a>(
     list: &PathspecList,
     entry: &'a Entry,
 ) -> Result<(), AllocError>
-    ensures { OnOk result (AddsMatched list.now (tracked entry.now) (map (λ (path : Bor (List ℕ)). path.now) paths.old.items) (map (λ (path : Bor (List ℕ)). path.now) paths.new.items)) }
+    ensures { OnOk result (AddsMatched list.now (tracked entry.now)
+        (map (λ (path : Bor (List ℕ)). path.now) paths.old.items) (map (λ (path : Bor (List ℕ)). path.now) paths.new.items)) }
 {
     let listed = ListedPath::of_entry(alloc, entry)?;
     if !listed.is_matched(list) {
@@ -180,7 +181,8 @@ fn push_matched<'a>(
 
 /// Pushes the path of an entry.
 fn push_path<'a>(paths: &mut Vec<&'a [u8]>, entry: &'a Entry) -> Result<(), AllocError>
-    ensures { IfOk result (λ _. map (λ (path : Bor (List ℕ)). path.now) paths.new.items ≡ map (λ (path : Bor (List ℕ)). path.now) paths.old.items ++ (tracked entry.now).path ∷ []) }
+    ensures { IfOk result (λ _. map (λ (path : Bor (List ℕ)). path.now) paths.new.items
+        ≡ map (λ (path : Bor (List ℕ)). path.now) paths.old.items ++ (tracked entry.now).path ∷ []) }
 {
     paths.push(entry.path.as_slice())?;
     Ok(())

@@ -29,7 +29,8 @@ pub(crate) fn match_pathspec<R: Env, I: Read, O: Write>(
     requires readable { has_failed input.old ≡ false }
     requires writable { has_failed output.old ≡ false }
     ensures status { IfOk result IsAnswered }
-    ensures answered { IfOk result (λ status. AnswersMatch asked.entry status (I.remaining (inner input.old)) (I.remaining (inner input.new)) (O.contents (inner output.old)) (O.contents (inner output.new))) }
+    ensures answered { IfOk result (λ status. AnswersMatch asked.entry status
+        (I.remaining (inner input.old)) (I.remaining (inner input.new)) (O.contents (inner output.old)) (O.contents (inner output.new))) }
 {
     let settings = settings_by(rt, alloc, Settings::default())?;
     let standpoint = top_alone(alloc)?;

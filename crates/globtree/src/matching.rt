@@ -61,7 +61,8 @@ impl<'a> PathMatcher<'a> {
 
     /// Appends what is written about the path that a record names. Where this fails, what was appended doesn't count.
     fn answer_record(&self, text: &mut Vec<u8>, bytes: &[u8]) -> Result<(), CheckFault>
-        ensures answered { OnOk result ((told written : List ℕ) × NamesPath self.now.form bytes.now told × IsMatchText self.now told written × (text.new.items ≡ text.old.items ++ written)) }
+        ensures answered { OnOk result ((told written : List ℕ)
+            × NamesPath self.now.form bytes.now told × IsMatchText self.now told written × (text.new.items ≡ text.old.items ++ written)) }
         ensures kept { StartsWith text.new.items text.old.items }
     {
         let mut spelt = Vec::new(self.alloc);

@@ -68,7 +68,9 @@ fn answer_command<R: Files + Env + Clock + Eprint + AllocGlobal + Clone + Drop, 
     requires readable { has_failed input.old ≡ false }
     requires writable { has_failed output.old ≡ false }
     ensures status { IfOk result (λ status. IsAnswered status ⊎ IsRefused status) }
-    ensures answered { IfOk result (λ status. IsAnswered status → AnswersCommand options.now command.entry status (I.remaining (inner input.old)) (I.remaining (inner input.new)) (O.contents (inner output.old)) (O.contents (inner output.new))) }
+    ensures answered { IfOk result (λ status. IsAnswered status →
+        AnswersCommand options.now command.entry status
+        (I.remaining (inner input.old)) (I.remaining (inner input.new)) (O.contents (inner output.old)) (O.contents (inner output.new))) }
     ensures unread { IfOk result (λ status. IsRefused status → input.new ≡ input.old) }
     ensures unwritten { IfOk result (λ status. IsRefused status → output.new ≡ output.old) }
 {

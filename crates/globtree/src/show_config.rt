@@ -66,7 +66,8 @@ fn write_answer<O: Write>(
     output: &mut Watched<O>,
 ) -> Result<u8>
     ensures status { IfOk result (λ status. status ≡ (if has_answer (asked_of question.entry) config.now then 0 else 1)) }
-    ensures written { OnOk result (Appends (O.contents (inner output.old)) (O.contents (inner output.new)) (answer_of manner (asked_of question.entry) config.now)) }
+    ensures written { OnOk result (Appends (O.contents (inner output.old)) (O.contents (inner output.new))
+        (answer_of manner (asked_of question.entry) config.now)) }
 {
     write_parts(alloc, Answer::new(config, question, manner), output)?;
     output.flush().map_err(Fault::Write)?;
