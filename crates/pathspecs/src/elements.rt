@@ -123,7 +123,8 @@ impl Element {
 
     /// Whether it has a pattern, and a folder's path begins with what stands in front of it.
     fn is_in_pattern(&self, folder: &[u8]) -> bool
-        ensures { IsTrue result ↔ (pattern_of self.now ≢ []) × ((rest : List ℕ) × IsCut self.now.magic.icase folder.now (take self.now.front self.now.text) rest) }
+        ensures { IsTrue result ↔ (pattern_of self.now ≢ [])
+            × ((rest : List ℕ) × IsCut self.now.magic.icase folder.now (take self.now.front self.now.text) rest) }
     {
         let (front, pattern) = self.text.split_at(self.front);
         has_bytes(pattern) && begins_so(self.magic.icase, folder, front)

@@ -3,7 +3,8 @@ ghost use Rattle.std.specs.Prelude.{◌≡◌, ◌==◌, ◌≤◌, length, opti
 ghost use Rattle.std.specs.List.{list_all, position, prefix_len};
 ghost use Rattle.std.specs.Result.{result_ok};
 ghost use Rattle.std.specs.Str.{byte};
-ghost use Rattle.pathspecs.specs.Spelling.{behind_signs, head_of, head_of_signs, head_of_words, head_seen, is_known, is_other_sign, is_sign, path_of, said_by_signs, said_by_words, says, seen, words_in};
+ghost use Rattle.pathspecs.specs.Spelling.{behind_signs, head_of, head_of_signs, head_of_words, head_seen, path_of, seen};
+ghost use Rattle.pathspecs.specs.Spelling.{is_known, is_other_sign, is_sign, said_by_signs, said_by_words, says, words_in};
 
 use crate::faults::WordFault;
 use crate::magic::Magic;

@@ -111,7 +111,8 @@ impl PathspecList {
 
     /// Whether some positive element by itself may match a path in a folder, or its case doesn't count.
     pub fn may_enter(&self, folder: &[u8]) -> bool
-        ensures { IsTrue result ↔ Any (λ item. (item.magic.exclude ≡ false) × ((Meets item folder.now ⊎ LeadsInto item folder.now) ⊎ (item.magic.icase ≡ true))) self.now }
+        ensures { IsTrue result ↔ Any (λ item. (item.magic.exclude ≡ false)
+            × ((Meets item folder.now ⊎ LeadsInto item folder.now) ⊎ (item.magic.icase ≡ true))) self.now }
     {
         self.say(Asked::Entering, folder)
     }
@@ -146,7 +147,8 @@ pub fn no_path_is_lost()
 
 /// Whether an element at one of these places answers so.
 fn some_says(elements: &[Element], places: &[usize], asked: Asked, path: &[u8]) -> bool
-    ensures { IsTrue result ↔ (place : ℕ) × Contains places.now place × ((item : PathspecItem) × (slice_get elements.now place ≡ Some item) × Says asked item path.now) }
+    ensures { IsTrue result ↔ (place : ℕ) × Contains places.now place
+        × ((item : PathspecItem) × (slice_get elements.now place ≡ Some item) × Says asked item path.now) }
 {
     'places: for place in places {
         if says_at(elements, *place, asked, path) {
