@@ -75,7 +75,9 @@ fn other_kind(found: &Metadata) -> FileKind
 
 /// Whether what was seen at two looks is one regular file.
 pub(crate) fn is_same_file(seen: &Sight, again: &Sight) -> bool
-    ensures { IsTrue result ↔ ((seen.now.kind ≡ Regular) × (again.now.kind ≡ Regular) × (seen.now.device ≡ again.now.device) × (seen.now.number ≡ again.now.number)) }
+    ensures { IsTrue result ↔
+        ((seen.now.kind ≡ Regular) × (again.now.kind ≡ Regular)
+        × (seen.now.device ≡ again.now.device) × (seen.now.number ≡ again.now.number)) }
 {
     matches!(seen.kind, FileKind::Regular)
         && matches!(again.kind, FileKind::Regular)
