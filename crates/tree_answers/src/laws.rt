@@ -30,6 +30,8 @@ pub fn written_git_patterns_are_their_lines()
 /// What is written in quotes is read back as the name that it was written for, and nothing is left. What is written without quotes
 /// isn't read as a name in quotes.
 pub fn quoted_names_read_back()
-    ensures quoted { (quoting : Quoting) (name : List ℕ) → AllByRecursion (λ b. b < 2 ^ 8) name → list_any (is_unusual quoting) name ≡ true → IsQuotedHead (quoted quoting name) name [] }
-    ensures plain { (quoting : Quoting) (name : List ℕ) → list_any (is_unusual quoting) name ≡ false → (quoted quoting name ≡ name) × ((other rest : List ℕ) → ¬ IsQuotedHead name other rest) }
+    ensures quoted { (quoting : Quoting) (name : List ℕ) → AllByRecursion (λ b. b < 2 ^ 8) name
+        → list_any (is_unusual quoting) name ≡ true → IsQuotedHead (quoted quoting name) name [] }
+    ensures plain { (quoting : Quoting) (name : List ℕ) → list_any (is_unusual quoting) name ≡ false
+        → (quoted quoting name ≡ name) × ((other rest : List ℕ) → ¬ IsQuotedHead name other rest) }
 {}
