@@ -244,7 +244,9 @@ impl<'a, R: Files + Clock + Eprint> FileSource for TreeFiles<'a, R> {
 
 /// What it is that is listed, if anything.
 fn kind_of(kind: FileType) -> Option<EntryKind>
-    ensures { MatchOption result (¬ IsDir kind × ¬ IsFile kind × ¬ IsSymlink kind) (λ found. MatchBool (is_folder found) (IsDir kind) (IsFile kind ⊎ IsSymlink kind)) }
+    ensures { MatchOption result
+        (¬ IsDir kind × ¬ IsFile kind × ¬ IsSymlink kind)
+        (λ found. MatchBool (is_folder found) (IsDir kind) (IsFile kind ⊎ IsSymlink kind)) }
 {
     if kind.is_dir() {
         Some(EntryKind::Folder)

@@ -26,7 +26,8 @@ pub struct AskedPaths<'a> {
 impl<'a> AskedPaths<'a> {
     /// Whether a folder is asked for that is no repository, or in which something tracked lies.
     fn have_folder(&self, path: &[u8], folder: &[u8]) -> bool
-        ensures { IsTrue result ↔ (MayMatchIn self.now.list.now folder.now ⊎ (HasEntryBelow (asked_of self.now).tracked path.now × IsOpen self.now.list.now folder.now)) }
+        ensures { IsTrue result ↔ (MayMatchIn self.now.list.now folder.now
+            ⊎ (HasEntryBelow (asked_of self.now).tracked path.now × IsOpen self.now.list.now folder.now)) }
     {
         self.list.may_match_in(folder) || self.open_tracked(path, folder)
     }
@@ -85,7 +86,8 @@ impl<'a, S: FileSource<Fault = CheckFault>> Narrowed<'a, S> {
     ) -> Result<bool, CheckFault>
         requires folder { folder.now ≡ as_folder path.now }
         requires matched { IsTrue is_matched ↔ Matches self.old.asked.list.now path.now }
-        ensures asked { IfOk result (λ is_asked. (whole : FileTree) → S.shows self.old.source whole → IsTrue is_asked ↔ AsksFor (asked_of self.old.asked) whole path.now kind) }
+        ensures asked { IfOk result (λ is_asked. (whole : FileTree) → S.shows self.old.source whole →
+            IsTrue is_asked ↔ AsksFor (asked_of self.old.asked) whole path.now kind) }
         ensures kept { self.new.asked ≡ self.old.asked }
         ensures stays { StaysKnown S.shows self.old.source self.new.source }
         ensures asks { GivesOnly (λ _. ⊥) (S.asked self.old.source) (S.asked self.new.source) }
@@ -99,7 +101,8 @@ impl<'a, S: FileSource<Fault = CheckFault>> Narrowed<'a, S> {
     /// Whether the folder at a path is asked for. Where that hangs on it, the source tells whether it is a repository.
     fn is_folder_asked(&mut self, path: &[u8], folder: &[u8]) -> Result<bool, CheckFault>
         requires { folder.now ≡ as_folder path.now }
-        ensures asked { IfOk result (λ is_asked. (whole : FileTree) → S.shows self.old.source whole → IsTrue is_asked ↔ AsksFor (asked_of self.old.asked) whole path.now EntryKind.Folder) }
+        ensures asked { IfOk result (λ is_asked. (whole : FileTree) → S.shows self.old.source whole →
+            IsTrue is_asked ↔ AsksFor (asked_of self.old.asked) whole path.now EntryKind.Folder) }
         ensures kept { self.new.asked ≡ self.old.asked }
         ensures stays { StaysKnown S.shows self.old.source self.new.source }
         ensures asks { GivesOnly (λ _. ⊥) (S.asked self.old.source) (S.asked self.new.source) }

@@ -145,7 +145,8 @@ pub(crate) fn pass_over_error<R: Eprint>(
 
 /// Whether an error says of a file that it may not be opened. No error of the system is [`ErrorKind::Other`]: a pipe is, which isn't opened.
 fn may_not_be_opened(error: &io::Error) -> bool
-    ensures { IsTrue result ↔ ((error_kind error.now ≡ kinds.PermissionDenied) ⊎ ((error_kind error.now ≡ kinds.FilesystemLoop) ⊎ ((error_kind error.now ≡ kinds.InvalidFilename) ⊎ (error_kind error.now ≡ kinds.Other)))) }
+    ensures { IsTrue result ↔ ((error_kind error.now ≡ kinds.PermissionDenied) ⊎ ((error_kind error.now ≡ kinds.FilesystemLoop)
+        ⊎ ((error_kind error.now ≡ kinds.InvalidFilename) ⊎ (error_kind error.now ≡ kinds.Other)))) }
 {
     matches!(
         error.kind(),
