@@ -2,8 +2,8 @@
 ghost use Rattle.std.specs.Prelude.{◌≡◌, ◌<◌, IfOk, IfSome, IsTrue, length};
 ghost use Rattle.glob_lists.specs.Deciding.{BasesAreFolders, HasEntryAt};
 ghost use Rattle.glob_lint.specs.declared.effects.Effect.TheVariants.{Changes};
-ghost use Rattle.glob_lint.specs.Effects.{Turns};
 ghost use Rattle.glob_lint.specs.Seen.{seen};
+ghost use Rattle.glob_lint.specs.Private.Findings.{TurnsSample};
 ghost use Rattle.glob_lint.specs.Private.Reasons.{IsFound};
 
 use crate::asked_line::AskedLine;
@@ -85,7 +85,7 @@ fn changes_about(sample: Sample) -> Effect
 fn shared_change(means: &mut Means, line: &AskedLine<'_, '_>) -> Result<Option<Sample>, AllocError>
     requires folders { BasesAreFolders (seen line.now.asked.now.lists.now) }
     requires there { HasEntryAt (seen line.now.asked.now.lists.now) line.now.pair }
-    ensures { IfOk result (λ sample. IfSome sample (λ sample. Turns line.now.asked.now.rules (seen line.now.asked.now.lists.now) line.now.pair sample.path.items sample.is_dir)) }
+    ensures { IfOk result (λ sample. IfSome sample (TurnsSample line.now)) }
 {
     let lists = line.asked.lists;
     'lists: for at in 0..lists.len() {
@@ -108,7 +108,7 @@ fn shared_change_in(
     requires folders { BasesAreFolders (seen line.now.asked.now.lists.now) }
     requires there { HasEntryAt (seen line.now.asked.now.lists.now) line.now.pair }
     requires inside { at < length line.now.asked.now.lists.now }
-    ensures { IfOk result (λ sample. IfSome sample (λ sample. Turns line.now.asked.now.rules (seen line.now.asked.now.lists.now) line.now.pair sample.path.items sample.is_dir)) }
+    ensures { IfOk result (λ sample. IfSome sample (TurnsSample line.now)) }
 {
     let patterns = line.asked.lists[at].patterns.as_slice();
     'lines: for place in 0..patterns.len() {
@@ -144,7 +144,7 @@ fn change_by(
 ) -> Result<Option<Sample>, AllocError>
     requires folders { BasesAreFolders (seen line.now.asked.now.lists.now) }
     requires there { HasEntryAt (seen line.now.asked.now.lists.now) line.now.pair }
-    ensures { IfOk result (λ sample. IfSome sample (λ sample. Turns line.now.asked.now.rules (seen line.now.asked.now.lists.now) line.now.pair sample.path.items sample.is_dir)) }
+    ensures { IfOk result (λ sample. IfSome sample (TurnsSample line.now)) }
 {
     'samples: for sample in samples {
         let is_turned = is_changed(means, line, &sample)?;
@@ -164,7 +164,7 @@ fn own_change(
 ) -> Result<Option<Sample>, AllocError>
     requires folders { BasesAreFolders (seen line.now.asked.now.lists.now) }
     requires there { HasEntryAt (seen line.now.asked.now.lists.now) line.now.pair }
-    ensures { IfOk result (λ sample. IfSome sample (λ sample. Turns line.now.asked.now.rules (seen line.now.asked.now.lists.now) line.now.pair sample.path.items sample.is_dir)) }
+    ensures { IfOk result (λ sample. IfSome sample (TurnsSample line.now)) }
 {
     let rules = line.asked.rules;
     'samples: for n in first..end {
@@ -188,7 +188,7 @@ fn is_changed(
 ) -> Result<bool, AllocError>
     requires folders { BasesAreFolders (seen line.now.asked.now.lists.now) }
     requires there { HasEntryAt (seen line.now.asked.now.lists.now) line.now.pair }
-    ensures { IfOk result (λ turns. IsTrue turns → Turns line.now.asked.now.rules (seen line.now.asked.now.lists.now) line.now.pair sample.now.path.items sample.now.is_dir) }
+    ensures { IfOk result (λ turns. IsTrue turns → TurnsSample line.now sample.now) }
 {
     if !means.take_questions(questions_of(&sample.path)) {
         return Ok(false);

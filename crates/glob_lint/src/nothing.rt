@@ -117,7 +117,8 @@ impl Part {
 
     /// The part with a dot more.
     fn with_dot(self) -> Part
-        ensures { (way : Way) (row later after : Row) (x : IsNext way later (kind.Byte 46) after) → StandsAt way row later self → StandsAt way row after result }
+        ensures { (way : Way) (row later after : Row) (x : IsNext way later (kind.Byte 46) after)
+            → StandsAt way row later self → StandsAt way row after result }
     {
         match self {
             Part::Empty => Part::Dot,

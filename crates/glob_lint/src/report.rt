@@ -88,7 +88,8 @@ fn add_list(
 ) -> Result<(), AllocError>
     requires folders { BasesAreFolders (seen asked.now.lists.now) }
     requires inside { at < length asked.now.lists.now }
-    ensures { OnOk result (AddsFindings asked.now.rules (seen asked.now.lists.now) (λ pair. HasEntryAt (seen asked.now.lists.now) pair × (pair.0 ≡ at)) findings.old.items findings.new.items) }
+    ensures { OnOk result (AddsFindings asked.now.rules (seen asked.now.lists.now)
+        (λ pair. HasEntryAt (seen asked.now.lists.now) pair × (pair.0 ≡ at)) findings.old.items findings.new.items) }
 {
     let list = &asked.lists[at];
     means.enter(asked.lists, list);

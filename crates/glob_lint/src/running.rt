@@ -129,7 +129,8 @@ impl<'a> Rests<'a> {
 
     /// Whether the next token of the right line takes each byte that the next one of the left line does, both of these kinds.
     fn takes(&self, right: TokenKind, left: TokenKind, way: Way) -> bool
-        ensures { (left_after right_after : Row) (x : IsNext way (row_of self.now.left) left left_after) (y : IsNext way (row_of self.now.right) right right_after)
+        ensures { (left_after right_after : Row)
+            (x : IsNext way (row_of self.now.left) left left_after) (y : IsNext way (row_of self.now.right) right right_after)
             → IsTrue result → FitsAll way x.token y.token }
     {
         if let (TokenKind::Byte(byte), TokenKind::Byte(wanted)) = (left, right) {
@@ -145,7 +146,8 @@ impl<'a> Rests<'a> {
 
     /// Whether the next token of the right line takes a byte, unless the next one of the left line doesn't.
     fn takes_byte(&self, right: TokenKind, left: TokenKind, byte: u8, way: Way) -> bool
-        ensures { (left_after right_after : Row) (x : IsNext way (row_of self.now.left) left left_after) (y : IsNext way (row_of self.now.right) right right_after)
+        ensures { (left_after right_after : Row)
+            (x : IsNext way (row_of self.now.left) left left_after) (y : IsNext way (row_of self.now.right) right right_after)
             → IsTrue result → Fits way x.token byte → Fits way y.token byte }
     {
         !self.left.fits(left, byte, way) || self.right.fits(right, byte, way)

@@ -2,10 +2,10 @@
 ghost use Rattle.std.specs.Prelude.{◌≡◌, ◌↔◌, ◌∷◌, [], ℕ, true, IfOk, IfSome, IsTrue, MatchOption, Option, Some};
 ghost use Rattle.glob_lists.specs.Deciding.{BasesAreFolders, Decides, HasEntryAt};
 ghost use Rattle.glob_trees.specs.Trees.{DecidesInTree, Ignores};
-ghost use Rattle.glob_lint.specs.Effects.{Turns};
 ghost use Rattle.glob_lint.specs.Ignoring.{Ignoring};
 ghost use Rattle.glob_lint.specs.Seen.{seen};
 ghost use Rattle.glob_lint.specs.Private.Asking.{DecidesSo, IsIgnored, IsLastBut, NoneIgnoredUpTo};
+ghost use Rattle.glob_lint.specs.Private.Findings.{TurnsSample};
 ghost use Rattle.glob_lint.specs.Without.{lists_but};
 
 use crate::asked::AskedLists;
@@ -27,7 +27,7 @@ pub(crate) fn turns(
 ) -> Result<bool, AllocError>
     requires folders { BasesAreFolders (seen line.now.asked.now.lists.now) }
     requires there { HasEntryAt (seen line.now.asked.now.lists.now) line.now.pair }
-    ensures { IfOk result (λ turns. IsTrue turns → Turns line.now.asked.now.rules (seen line.now.asked.now.lists.now) line.now.pair sample.now.path.items sample.now.is_dir) }
+    ensures { IfOk result (λ turns. IsTrue turns → TurnsSample line.now sample.now) }
 {
     if !is_real(&sample.path) {
         return Ok(false);
@@ -127,7 +127,9 @@ fn ignores_without(
     path: &RepositoryPath<'_>,
     found: &mut Vec<(usize, usize)>,
 ) -> Result<bool, AllocError>
-    ensures { IfOk result (λ ignored. (other : Option (ℕ × ℕ)) × Decides (lists_but (line.now.pair ∷ []) 0 (seen line.now.asked.now.lists.now)) path.now.bytes path.now.is_dir line.now.asked.now.rules other
+    ensures { IfOk result (λ ignored. (other : Option (ℕ × ℕ))
+        × Decides (lists_but (line.now.pair ∷ []) 0 (seen line.now.asked.now.lists.now))
+        path.now.bytes path.now.is_dir line.now.asked.now.rules other
         × (IsTrue ignored ↔ Ignoring (lists_but (line.now.pair ∷ []) 0 (seen line.now.asked.now.lists.now)) other)) }
 {
     line.asked.matches_into(path, found)?;

@@ -3,8 +3,16 @@ use Rattle.std.specs.Prelude.{◌≡◌, ℕ, ◌<◌, List, ◌++◌, All, Any}
 use Rattle.glob_lists.specs.declared.rules.Rules.{Rules}
 use Rattle.gix_glob.specs.EntryLists.{EntryList}
 use Rattle.glob_lists.specs.Deciding.{HasEntryAt}
+use Rattle.glob_lint.specs.declared.asked_line.AskedLine.{AskedLine}
 use Rattle.glob_lint.specs.declared.report.Finding.{Finding}
+use Rattle.glob_lint.specs.declared.samples.Sample.{Sample}
+use Rattle.glob_lint.specs.Effects.{Turns}
 use Rattle.glob_lint.specs.Private.Reasons.{IsFound}
+use Rattle.glob_lint.specs.Seen.{seen}
+
+-- the line changes the answer about the path of the sample
+abbrev pub TurnsSample : AskedLine → Sample → Type 0
+TurnsSample line sample = Turns line.asked.now.rules (seen line.asked.now.lists.now) line.pair sample.path.items sample.is_dir
 
 -- something is said of the line at this pair of places
 abbrev pub IsNamed : List Finding → ℕ × ℕ → Type 0
