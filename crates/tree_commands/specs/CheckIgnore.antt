@@ -20,6 +20,7 @@ use Rattle.tree_answers.specs.Lines.{Decision, line_text}
 use Rattle.tree_commands.specs.declared.check_ignore.fault.IgnoreFault.{IgnoreFault}
 use Rattle.tree_commands.specs.declared.check_ignore.fault.IgnoreFault.TheVariants.{Empty, InSubmodule, Outside, Unspelt}
 use Rattle.tree_commands.specs.declared.check_ignore.flags.IgnoreFlags.{IgnoreFlags}
+use Rattle.tree_commands.specs.declared.check_ignore.running.IgnoreSources.{IgnoreSources}
 use Rattle.tree_commands.specs.Tops.{DecidesForTop}
 
 -- What is known of paths: whether a folder stands at one that is told from the top; and whether one that is told from the root is the
@@ -48,6 +49,10 @@ pub record Question : Type 0 where
 abbrev pub question_of : {S T X : Type 0} → Standpoint → IgnoreFlags → List Tracked → TreeParts S T X → Known → Question
 question_of standpoint flags tracked tree known =
     record { leads = word_leads standpoint; literal = word_front standpoint; tracked = tracked; known = known; front_count = tree.front_count; fronts = take tree.front_count (map (entry_list_of {V = Unit {0}} (λ _. tt)) tree.lists); rules = tree.rules; flags = flags }
+
+-- and of sources, of which `known` tells what is known of paths
+abbrev pub question_to : {S K T X : Type 0} → (K → Known) → Standpoint → IgnoreFlags → IgnoreSources S K T X → Question
+question_to known standpoint flags sources = question_of standpoint flags sources.tracked sources.tree (known sources.kinds)
 
 -- a folder of a path ends before a slash, and the path itself at its end
 abbrev pub EndsFolder : List ℕ → ℕ → Type 0

@@ -109,15 +109,20 @@ pub fn run_files<S: FileSource, W: Write>(
     ensures lists { OnOk result ((paths : List (List ℕ)) × AllPairs ComesBefore paths
         × Appends (W.contents (inner writer.old)) (W.contents (inner writer.new)) (flat_map (path_line listing.mark listing.standpoint listing.form) paths)
         × ((tree : FileTree) → S.shows source.old tree → (path : List ℕ) →
-        Contains paths path ↔ (IsReached listing.standpoint (asked_basis listing told.now tracked.now) tree told.now path × IsTold (asked_basis listing told.now tracked.now) tree path))) }
+        Contains paths path ↔
+        (IsReached listing.standpoint (asked_basis listing told.now tracked.now) tree told.now path
+        × IsTold (asked_basis listing told.now tracked.now) tree path))) }
     // After a fault that is none of the writer's, a front of some of these lines was.
     ensures front { OnErr result (has_failed writer.new ≡ false → (paths : List (List ℕ)) × AllPairs ComesBefore paths
         × AppendsFront (W.contents (inner writer.old)) (W.contents (inner writer.new)) (flat_map (path_line listing.mark listing.standpoint listing.form) paths)
         × ((tree : FileTree) → S.shows source.old tree → (path : List ℕ) →
-        Contains paths path → (IsReached listing.standpoint (asked_basis listing told.now tracked.now) tree told.now path × IsTold (asked_basis listing told.now tracked.now) tree path))) }
+        Contains paths path →
+        (IsReached listing.standpoint (asked_basis listing told.now tracked.now) tree told.now path
+        × IsTold (asked_basis listing told.now tracked.now) tree path))) }
     // Each folder that the source is asked for its names is reached, or lies in one about which a search decides.
     ensures asks { GivesOnly (λ folder. (tree : FileTree) → S.shows source.old tree →
-        MayAsk (IsReached listing.standpoint (asked_basis listing told.now tracked.now) tree told.now) (asked_basis listing told.now tracked.now) tree folder) (S.asked source.old) (S.asked source.new) }
+        MayAsk (IsReached listing.standpoint (asked_basis listing told.now tracked.now) tree told.now)
+        (asked_basis listing told.now tracked.now) tree folder) (S.asked source.old) (S.asked source.new) }
     ensures stays { StaysKnown S.shows source.old source.new }
     ensures base { IsErrOf result faults.Base → ¬ BasesAreFolders (map (entry_list_of {V = Unit {0}} (λ _. tt)) listing.fronts.items) }
     ensures empty { IsErrOf result faults.Empty → told.now ≡ [] }
@@ -174,9 +179,13 @@ fn write_listed<S: FileSource, W: Write>(
     requires folders { BasesAreFolders (seen_lists lister.old.on_way.lists.items) }
     requires under_way { IsUnderWay lister.old.on_way.terms.case [] lister.old.pending.items (seen_lists lister.old.on_way.lists.items) }
     requires none { lines.old.text.items ≡ [] }
-    ensures ok { OnOk result (WritesAll (path_line lines.old.mark lines.old.standpoint lines.old.form) (S.shows source.old) (terms_of lister.old.on_way.terms) (beginning_of lister.old) (W.contents (inner writer.old)) (W.contents (inner writer.new))) }
+    ensures ok { OnOk result (WritesAll (path_line lines.old.mark lines.old.standpoint lines.old.form)
+        (S.shows source.old) (terms_of lister.old.on_way.terms) (beginning_of lister.old)
+        (W.contents (inner writer.old)) (W.contents (inner writer.new))) }
     ensures front { OnErr result (has_failed writer.new ≡ false →
-        WritesFront (path_line lines.old.mark lines.old.standpoint lines.old.form) (S.shows source.old) (terms_of lister.old.on_way.terms) (beginning_of lister.old) (W.contents (inner writer.old)) (W.contents (inner writer.new))) }
+        WritesFront (path_line lines.old.mark lines.old.standpoint lines.old.form)
+        (S.shows source.old) (terms_of lister.old.on_way.terms) (beginning_of lister.old)
+        (W.contents (inner writer.old)) (W.contents (inner writer.new))) }
     ensures asks { GivesOnly (λ folder. OfKnown (S.shows source.old) (terms_of lister.old.on_way.terms) (beginning_of lister.old)
         (λ basis tree start. MayAsk (IsMet basis tree start) basis tree folder)) (S.asked source.old) (S.asked source.new) }
     ensures stays { StaysKnown S.shows source.old source.new }

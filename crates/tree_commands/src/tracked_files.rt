@@ -42,7 +42,8 @@ pub fn tracked_at<'a>(
     entries: &'a [Entry],
     told: &[u8],
 ) -> Result<Vec<&'a [u8]>, LeadFault>
-    ensures paths { IfOk result (λ paths. paths_asked standpoint.now told.now (map tracked entries.now) ≡ Some (map (λ (path : Bor (List ℕ)). path.now) paths.items)) }
+    ensures paths { IfOk result (λ paths. paths_asked standpoint.now told.now (map tracked entries.now)
+        ≡ Some (map (λ (path : Bor (List ℕ)). path.now) paths.items)) }
     ensures empty { IsErrOf result Empty → told.now ≡ [] }
     ensures outside { IsErrOf result Outside → led standpoint.now told.now ≡ None }
 {
@@ -90,7 +91,9 @@ fn push_lying<'a>(
     is_told_folder: bool,
 ) -> Result<(), AllocError>
     requires { below.now ≡ path.now ++ slash ∷ [] }
-    ensures { OnOk result (map (λ (path : Bor (List ℕ)). path.now) paths.new.items ≡ map (λ (path : Bor (List ℕ)). path.now) paths.old.items ++ paths_at path.now is_told_folder (tracked entry.now ∷ [])) }
+    ensures { OnOk result (map (λ (path : Bor (List ℕ)). path.now) paths.new.items
+        ≡ map (λ (path : Bor (List ℕ)). path.now) paths.old.items
+        ++ paths_at path.now is_told_folder (tracked entry.now ∷ [])) }
 {
     if lies_at(entry, path, below, is_told_folder) {
         paths.push(entry.path.as_slice())?;
@@ -186,7 +189,9 @@ pub fn write_ignored<
 )
     requires { has_failed writer.old ≡ false }
     ensures ok { OnOk result.1 (Writes
-        (AreIgnored (question_of standpoint.now (names_alone form) [] tree (K.known kinds)) (S.shows (Unit {0}) result.0.tree.source) standpoint.now (map (λ (path : Bor (List ℕ)). path.now) paths.now))
+        (AreIgnored (question_of standpoint.now (names_alone form) [] tree (K.known kinds))
+        (S.shows (Unit {0}) result.0.tree.source)
+        standpoint.now (map (λ (path : Bor (List ℕ)). path.now) paths.now))
         (Appends (W.contents (inner writer.old)) (W.contents (inner writer.new)))) }
     ensures write { is_write_fault result.1 ≡ has_failed writer.new }
 {

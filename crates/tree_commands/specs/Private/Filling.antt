@@ -1,22 +1,35 @@
 -- What is said of folders about which searches of them decide.
-use Rattle.std.specs.Prelude.{◌≡◌, ◌≢◌, ◌⊎◌, ℕ, ◌≤◌, true, false, List, [], length, take, Option, Some, MatchOption}
+use Rattle.std.specs.Prelude.{◌≡◌, ◌≢◌, ◌⊎◌, ◌↔◌, ℕ, ◌≤◌, Bool, true, false, IsTrue, List, [], length, take, Option, Some, MatchOption}
 use Rattle.gix_glob.specs.EntryLists.{EntryList}
 use Rattle.glob_trees.specs.Ways.{Folder, start_of}
 use Rattle.tree_commands.specs.declared.files.choosing.Chosen.{Chosen}
 use Rattle.tree_commands.specs.declared.files.choosing.Chosen.TheVariants.{Ignored}
 use Rattle.tree_commands.specs.declared.files.choosing.Folders.{Folders}
 use Rattle.tree_commands.specs.declared.files.choosing.Folders.TheVariants.{NamedIfAllIgnored, NamedIfFilled}
+use Rattle.tree_commands.specs.declared.files.entries.ListsOnWay.{ListsOnWay}
 use Rattle.tree_commands.specs.declared.files.pending.Pending.{Pending}
 use Rattle.tree_commands.specs.FileTrees.{FileTree}
 use Rattle.git_index.specs.Entries.{IsTracked}
-use Rattle.tree_commands.specs.Files.{Basis, IsAllIgnored, IsFilled, IsNameHidden, IsReplaced, Terms, search_of}
-use Rattle.tree_commands.specs.Private.Listing.{Among, Enters, IsEntered, IsIgnoredNext, IsPassedOver, IsToList, Stands, path_of}
+use Rattle.tree_commands.specs.Files.{Basis, IsAllIgnored, IsFilled, IsNameHidden, IsReplaced, IsSearched, Terms, search_of}
+use Rattle.tree_commands.specs.Private.Listing.{Among, Enters, IsEntered, IsIgnoredNext, IsPassedOver, IsToList, Stands, path_of, seen_lists, terms_of}
 use Rattle.tree_commands.specs.Lookups.{HasEntryBelow}
 use Rattle.tree_commands.specs.Private.UnderWay.{Beginning}
 
 -- what follows of a known tree wherever a listing stands at the path with these lists
 abbrev pub OfStanding : (FileTree → Type 0) → Terms → List (EntryList (Unit {0})) → Pending → (Basis → FileTree → Type 0) → Type 0
 OfStanding Known terms lists next Holds = (tree : FileTree) → Known tree → (basis : Basis) → basis.terms ≡ terms → Stands basis tree lists next → Holds basis tree
+
+-- the same where those are what a listing has on its way
+abbrev pub OfPlace : (FileTree → Type 0) → ListsOnWay → Pending → (Basis → FileTree → Type 0) → Type 0
+OfPlace Known on_way place Holds = OfStanding Known (terms_of on_way.terms) (seen_lists on_way.lists.items) place Holds
+
+-- the answer says whether this holds of the folder at whose path the listing stands
+abbrev pub SaysOfPlace : (FileTree → Type 0) → ListsOnWay → Pending → (Basis → FileTree → Folder → Type 0) → Bool → Type 0
+SaysOfPlace Known on_way place Holds says = OfPlace Known on_way place (λ basis tree. (folder : Folder) → path_of place ≡ start_of folder → IsTrue says ↔ Holds basis tree folder)
+
+-- a folder is searched from there
+abbrev pub IsSearchedFrom : (FileTree → Type 0) → ListsOnWay → Pending → Folder → Type 0
+IsSearchedFrom Known on_way place folder = OfPlace Known on_way place (λ basis tree. IsSearched basis tree (path_of place) folder)
 
 -- where a listing stands, a search of the paths that are chosen so stands, too
 abbrev pub MaySearch : Terms → List (EntryList (Unit {0})) → Pending → Folders → Chosen → Type 0

@@ -1,5 +1,6 @@
 //! What answers each told path by the line that decides about it.
-ghost use Rattle.std.specs.Prelude.{◌≡◌, ◌↔◌, ℕ, ◌≤◌, ◌++◌, false, IfErr, IfOk, IfSome, IsTrue, List, None, OnErr, OnOk, Option, Some, is_some, [], length, map, option_map, take};
+ghost use Rattle.std.specs.Prelude.{◌≡◌, ◌↔◌, ℕ, ◌≤◌, ◌++◌, [], false, IfErr, IfOk, IfSome, IsTrue, List, None, OnErr, OnOk, Option, Some};
+ghost use Rattle.std.specs.Prelude.{is_some, length, map, option_map, take};
 ghost use Rattle.std.specs.Io.{StartsWith};
 ghost use Rattle.std.specs.Io.KnownBytes.{Appends};
 ghost use Rattle.std.specs.List.{AllByRecursion, list_any};
@@ -23,7 +24,8 @@ ghost use Rattle.git_index.specs.Holding.{IsHeld, LiesInSubmodule};
 ghost use Rattle.tree_answers.specs.Lines.{Decision, behind};
 ghost use Rattle.tree_answers.specs.Records.{IsTextOf, LeadsAsTold, NamesPath};
 ghost use Rattle.tree_commands.specs.Answering.{IsTextOfFirst, StopsAt, TextOfNamed, Writes};
-ghost use Rattle.tree_commands.specs.CheckIgnore.{IsIgnoreAnswer, IsIgnoreText, IsLineAt, LeadsNowhere, LeadsTo, Refuses, counted, question_of, text_about, told_path};
+ghost use Rattle.tree_commands.specs.CheckIgnore.{IsIgnoreAnswer, IsIgnoreText, IsLineAt, LeadsNowhere, LeadsTo, Refuses};
+ghost use Rattle.tree_commands.specs.CheckIgnore.{counted, question_to, text_about, told_path};
 ghost use Rattle.tree_commands.specs.Private.Asking.{IsRecordFault, TellsLine, asked_by};
 ghost use Rattle.tree_commands.specs.Private.Finding.{FindsTold, line_of, lists_of};
 
@@ -73,7 +75,7 @@ impl<'a, S: FolderLists<GitIgnoreLines> + Drop, K: PathKinds<Fault = S::Fault> +
         flags: IgnoreFlags,
         sources: IgnoreSources<S, K>,
     ) -> IgnoreAsker<'a, S, K>
-        ensures asks { asked_by K.known result ≡ question_of standpoint.now flags sources.tracked sources.tree (K.known sources.kinds) }
+        ensures asks { asked_by K.known result ≡ question_to K.known standpoint.now flags sources }
         ensures none { result.is_any ≡ false }
     {
         let IgnoreSources {
@@ -124,8 +126,10 @@ impl<'a, S: FolderLists<GitIgnoreLines> + Drop, K: PathKinds<Fault = S::Fault> +
         requires none { self.old.is_any ≡ false }
         requires readable { has_failed reader.old ≡ false }
         requires writable { has_failed writer.old ≡ false }
-        ensures ends { EndsRun (λ is_any. TextOfNamed (IsIgnoreText (asked_by K.known self.old) (S.shows (Unit {0}) self.new.finder.tree.source) is_any) self.old.flags.form)
-            (TextOf (IsTextOf (IsIgnoreAnswer (asked_by K.known self.old) (S.shows (Unit {0}) self.new.finder.tree.source)) self.old.flags.form)) (behind self.old.flags.form 10) result
+        ensures ends { EndsRun
+            (λ is_any. TextOfNamed (IsIgnoreText (asked_by K.known self.old) (S.shows (Unit {0}) self.new.finder.tree.source) is_any) self.old.flags.form)
+            (TextOf (IsTextOf (IsIgnoreAnswer (asked_by K.known self.old) (S.shows (Unit {0}) self.new.finder.tree.source)) self.old.flags.form))
+            (behind self.old.flags.form 10) result
             (R.remaining (inner reader.old)) (R.remaining (inner reader.new)) (W.contents (inner writer.old)) (W.contents (inner writer.new))
             (has_failed reader.new) (has_failed writer.new) }
         ensures refused { AllByRecursion (IsRecordFault (asked_by K.known self.old)) (told_refusal result) }
@@ -156,11 +160,13 @@ impl<'a, S: FolderLists<GitIgnoreLines> + Drop, K: PathKinds<Fault = S::Fault> +
             Writes (IsIgnoreText (asked_by K.known self.old) (S.shows (Unit {0}) self.new.finder.tree.source) is_any (map (λ path. path.now) paths.now))
             (Appends (W.contents (inner writer.old)) (W.contents (inner writer.new)))) }
         ensures refused { AllByRecursion
-            (StopsAt (IsIgnoreAnswer (asked_by K.known self.old) (S.shows (Unit {0}) self.new.finder.tree.source)) (Refuses (asked_by K.known self.old)) (map (λ path. path.now) paths.now) false
+            (StopsAt (IsIgnoreAnswer (asked_by K.known self.old) (S.shows (Unit {0}) self.new.finder.tree.source))
+            (Refuses (asked_by K.known self.old)) (map (λ path. path.now) paths.now) false
             (W.contents (inner writer.old)) (W.contents (inner writer.new)))
             (told_refusal result) }
         ensures cut { OnErr result
-            (Writes (IsTextOfFirst (IsIgnoreAnswer (asked_by K.known self.old) (S.shows (Unit {0}) self.new.finder.tree.source)) (map (λ path. path.now) paths.now))
+            (Writes (IsTextOfFirst (IsIgnoreAnswer (asked_by K.known self.old) (S.shows (Unit {0}) self.new.finder.tree.source))
+            (map (λ path. path.now) paths.now))
             (AppendsFront (W.contents (inner writer.old)) (W.contents (inner writer.new)))) }
         ensures write { is_write_fault result ≡ has_failed writer.new }
         ensures asks { asked_by K.known self.new ≡ asked_by K.known self.old }
@@ -182,7 +188,8 @@ impl<'a, S: FolderLists<GitIgnoreLines> + Drop, K: PathKinds<Fault = S::Fault> +
         bytes: &[u8],
     ) -> Result<(), IgnoreFault<S::Fault>>
         ensures answered { OnOk result ((told : List ℕ) × NamesPath self.old.flags.form bytes.now told
-            × TellsLine (asked_by K.known self.old) (S.shows (Unit {0}) self.new.finder.tree.source) told self.old.is_any self.new.is_any text.old.items text.new.items) }
+            × TellsLine (asked_by K.known self.old) (S.shows (Unit {0}) self.new.finder.tree.source)
+            told self.old.is_any self.new.is_any text.old.items text.new.items) }
         ensures kept { StartsWith text.new.items text.old.items }
         ensures goes_on { GoesOn (S.shows (Unit {0})) self.old.finder.tree.source self.new.finder.tree.source }
         ensures asks { asked_by K.known self.new ≡ asked_by K.known self.old }
@@ -199,7 +206,8 @@ impl<'a, S: FolderLists<GitIgnoreLines> + Drop, K: PathKinds<Fault = S::Fault> +
         text: &mut Vec<u8>,
         told: &ToldPath<'_>,
     ) -> Result<(), IgnoreFault<S::Fault>>
-        ensures answered { OnOk result (TellsLine (asked_by K.known self.old) (S.shows (Unit {0}) self.new.finder.tree.source) told.now.bytes.now self.old.is_any self.new.is_any text.old.items text.new.items) }
+        ensures answered { OnOk result (TellsLine (asked_by K.known self.old) (S.shows (Unit {0}) self.new.finder.tree.source)
+            told.now.bytes.now self.old.is_any self.new.is_any text.old.items text.new.items) }
         ensures kept { StartsWith text.new.items text.old.items }
         ensures goes_on { GoesOn (S.shows (Unit {0})) self.old.finder.tree.source self.new.finder.tree.source }
         ensures asks { asked_by K.known self.new ≡ asked_by K.known self.old }

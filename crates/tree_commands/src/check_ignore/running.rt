@@ -11,7 +11,7 @@ ghost use Rattle.tree_answers.specs.Lines.{behind};
 ghost use Rattle.tree_answers.specs.Records.{IsTextOf};
 ghost use Rattle.tree_commands.specs.Answering.{IsTextOfFirst, StopsAt, TextOfNamed, Writes};
 ghost use Rattle.tree_commands.specs.declared.check_ignore.fault.IgnoreFault.TheVariants.{BadlyQuoted};
-ghost use Rattle.tree_commands.specs.CheckIgnore.{IsIgnoreAnswer, IsIgnoreText, Refuses, question_of};
+ghost use Rattle.tree_commands.specs.CheckIgnore.{IsIgnoreAnswer, IsIgnoreText, Refuses, question_to};
 
 use crate::check_ignore::asking::IgnoreAsker;
 use crate::check_ignore::fault::IgnoreFault;
@@ -68,13 +68,17 @@ pub fn run_check_ignore<
 )
     requires readable { has_failed records.old ≡ false }
     requires writable { has_failed writer.old ≡ false }
-    ensures ends { EndsRun (λ is_any. TextOfNamed (IsIgnoreText (question_of standpoint.now flags sources.tracked sources.tree (K.known sources.kinds)) (S.shows (Unit {0}) result.0.tree.source) is_any) flags.form)
-        (TextOf (IsTextOf (IsIgnoreAnswer (question_of standpoint.now flags sources.tracked sources.tree (K.known sources.kinds)) (S.shows (Unit {0}) result.0.tree.source)) flags.form)) (behind flags.form 10) result.1
+    ensures ends { EndsRun
+        (λ is_any. TextOfNamed (IsIgnoreText (question_to K.known standpoint.now flags sources) (S.shows (Unit {0}) result.0.tree.source) is_any) flags.form)
+        (TextOf (IsTextOf (IsIgnoreAnswer (question_to K.known standpoint.now flags sources) (S.shows (Unit {0}) result.0.tree.source)) flags.form))
+        (behind flags.form 10) result.1
         (R.remaining (inner records.old)) (R.remaining (inner records.new)) (W.contents (inner writer.old)) (W.contents (inner writer.new))
         (has_failed records.new) (has_failed writer.new) }
     // What is told of a path that got no answer is so.
-    ensures refused { AllByRecursion (λ fault. ((told : List ℕ) × Refuses (question_of standpoint.now flags sources.tracked sources.tree (K.known sources.kinds)) told fault) ⊎ (fault ≡ BadlyQuoted)) (told_refusal result.1) }
-    ensures again { question_of standpoint.now flags result.0.tracked result.0.tree (K.known result.0.kinds) ≡ question_of standpoint.now flags sources.tracked sources.tree (K.known sources.kinds) }
+    ensures refused { AllByRecursion
+        (λ fault. ((told : List ℕ) × Refuses (question_to K.known standpoint.now flags sources) told fault) ⊎ (fault ≡ BadlyQuoted))
+        (told_refusal result.1) }
+    ensures again { question_to K.known standpoint.now flags result.0 ≡ question_to K.known standpoint.now flags sources }
 {
     let mut asker = IgnoreAsker::new(alloc, standpoint, flags, sources);
     let outcome = asker.answer_records(records, writer);
@@ -104,19 +108,22 @@ pub fn check_ignore_paths<
 )
     requires { has_failed writer.old ≡ false }
     ensures ok { IfOk result.1 (λ is_any.
-        Writes (IsIgnoreText (question_of standpoint.now flags sources.tracked sources.tree (K.known sources.kinds)) (S.shows (Unit {0}) result.0.tree.source) is_any (map (λ path. path.now) paths.now))
+        Writes (IsIgnoreText (question_to K.known standpoint.now flags sources) (S.shows (Unit {0}) result.0.tree.source) is_any
+        (map (λ path. path.now) paths.now))
         (Appends (W.contents (inner writer.old)) (W.contents (inner writer.new)))) }
     // After the fault of a path, nothing was written.
     ensures refused { AllByRecursion
-        (StopsAt (IsIgnoreAnswer (question_of standpoint.now flags sources.tracked sources.tree (K.known sources.kinds)) (S.shows (Unit {0}) result.0.tree.source)) (Refuses (question_of standpoint.now flags sources.tracked sources.tree (K.known sources.kinds))) (map (λ path. path.now) paths.now) false
+        (StopsAt (IsIgnoreAnswer (question_to K.known standpoint.now flags sources) (S.shows (Unit {0}) result.0.tree.source))
+        (Refuses (question_to K.known standpoint.now flags sources)) (map (λ path. path.now) paths.now) false
         (W.contents (inner writer.old)) (W.contents (inner writer.new)))
         (told_refusal result.1) }
     // After one of the writer's, a beginning of the text was.
     ensures cut { OnErr result.1
-        (Writes (IsTextOfFirst (IsIgnoreAnswer (question_of standpoint.now flags sources.tracked sources.tree (K.known sources.kinds)) (S.shows (Unit {0}) result.0.tree.source)) (map (λ path. path.now) paths.now))
+        (Writes (IsTextOfFirst (IsIgnoreAnswer (question_to K.known standpoint.now flags sources) (S.shows (Unit {0}) result.0.tree.source))
+        (map (λ path. path.now) paths.now))
         (AppendsFront (W.contents (inner writer.old)) (W.contents (inner writer.new)))) }
     ensures write { is_write_fault result.1 ≡ has_failed writer.new }
-    ensures again { question_of standpoint.now flags result.0.tracked result.0.tree (K.known result.0.kinds) ≡ question_of standpoint.now flags sources.tracked sources.tree (K.known sources.kinds) }
+    ensures again { question_to K.known standpoint.now flags result.0 ≡ question_to K.known standpoint.now flags sources }
 {
     let mut asker = IgnoreAsker::new(alloc, standpoint, flags, sources);
     let outcome = asker.answer_words(paths, writer);

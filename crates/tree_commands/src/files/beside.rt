@@ -6,7 +6,7 @@ ghost use Rattle.glob_lists.specs.Deciding.{BasesAreFolders};
 ghost use Rattle.glob_trees.specs.Ways.{Folder, GivesOnly, start_of};
 ghost use Rattle.tree_commands.specs.FileTrees.{StaysKnown};
 ghost use Rattle.tree_commands.specs.Files.{IsAllIgnored, IsSearched};
-ghost use Rattle.tree_commands.specs.Private.Filling.{EntersBeside, MayBeAllIgnored, OfStanding, Steps};
+ghost use Rattle.tree_commands.specs.Private.Filling.{EntersBeside, IsSearchedFrom, MayBeAllIgnored, OfStanding, SaysOfPlace, Steps};
 ghost use Rattle.tree_commands.specs.Private.Listing.{MayVisit, seen_lists, terms_of};
 ghost use Rattle.tree_commands.specs.Private.ListingFaults.{is_of_start};
 
@@ -30,11 +30,16 @@ impl<'a> Lister<'a> {
         requires folders { BasesAreFolders (seen_lists self.old.on_way.lists.items) }
         requires may { MayVisit self.old.on_way.terms.case next.path.items }
         requires count { next.list_count ≤ length self.old.on_way.lists.items }
-        ensures steps { IfOk result (λ told. Steps (S.shows source.old) (terms_of self.old.on_way.terms) next (take next.list_count (seen_lists self.old.on_way.lists.items)) (seen_lists self.new.on_way.lists.items) self.old.pending.items self.new.pending.items (option_map vec_items told)) }
+        ensures steps { IfOk result (λ told. Steps (S.shows source.old) (terms_of self.old.on_way.terms) next
+            (take next.list_count (seen_lists self.old.on_way.lists.items)) (seen_lists self.new.on_way.lists.items)
+            self.old.pending.items self.new.pending.items (option_map vec_items told)) }
         ensures terms { self.new.on_way.terms ≡ self.old.on_way.terms }
         ensures folders { OnOk result (BasesAreFolders (seen_lists self.new.on_way.lists.items)) }
         ensures stays { StaysKnown S.shows source.old source.new }
-        ensures asks { GivesOnly (λ folder. (next.path.items ≡ start_of folder) ⊎ OfStanding (S.shows source.old) (terms_of self.old.on_way.terms) (take next.list_count (seen_lists self.old.on_way.lists.items)) next (λ basis tree. IsSearched basis tree next.path.items folder)) (S.asked source.old) (S.asked source.new) }
+        ensures asks { GivesOnly (λ folder. (next.path.items ≡ start_of folder)
+            ⊎ OfStanding (S.shows source.old) (terms_of self.old.on_way.terms) (take next.list_count (seen_lists self.old.on_way.lists.items)) next
+            (λ basis tree. IsSearched basis tree next.path.items folder))
+            (S.asked source.old) (S.asked source.new) }
         ensures begun { IfErr result (λ fault. is_of_start fault ≡ false) }
     {
         self.on_way.lists.truncate(next.list_count);
@@ -50,11 +55,14 @@ impl<'a> Lister<'a> {
         requires folders { BasesAreFolders (seen_lists self.old.on_way.lists.items) }
         requires may { MayVisit self.old.on_way.terms.case next.path.items }
         requires count { next.list_count ≡ length self.old.on_way.lists.items }
-        ensures steps { IfOk result (λ told. Steps (S.shows source.old) (terms_of self.old.on_way.terms) next (seen_lists self.old.on_way.lists.items) (seen_lists self.new.on_way.lists.items) self.old.pending.items self.new.pending.items (option_map vec_items told)) }
+        ensures steps { IfOk result (λ told. Steps (S.shows source.old) (terms_of self.old.on_way.terms) next
+            (seen_lists self.old.on_way.lists.items) (seen_lists self.new.on_way.lists.items) self.old.pending.items self.new.pending.items
+            (option_map vec_items told)) }
         ensures terms { self.new.on_way.terms ≡ self.old.on_way.terms }
         ensures folders { OnOk result (BasesAreFolders (seen_lists self.new.on_way.lists.items)) }
         ensures stays { StaysKnown S.shows source.old source.new }
-        ensures asks { GivesOnly (λ folder. (next.path.items ≡ start_of folder) ⊎ OfStanding (S.shows source.old) (terms_of self.old.on_way.terms) (seen_lists self.old.on_way.lists.items) next (λ basis tree. IsSearched basis tree next.path.items folder)) (S.asked source.old) (S.asked source.new) }
+        ensures asks { GivesOnly (λ folder. (next.path.items ≡ start_of folder) ⊎ IsSearchedFrom (S.shows source.old) self.old.on_way next folder)
+            (S.asked source.old) (S.asked source.new) }
         ensures begun { IfErr result (λ fault. is_of_start fault ≡ false) }
     {
         let is_all_ignored = self.is_all_ignored(source, &next)?;
@@ -74,13 +82,15 @@ impl<'a> Lister<'a> {
         requires folders { BasesAreFolders (seen_lists self.old.on_way.lists.items) }
         requires may { MayVisit self.old.on_way.terms.case place.now.path.items }
         requires count { place.now.list_count ≡ length self.old.on_way.lists.items }
-        ensures ignored { IfOk result (λ is_all. OfStanding (S.shows source.old) (terms_of self.old.on_way.terms) (seen_lists self.old.on_way.lists.items) place.now (λ basis tree. (folder : Folder) → place.now.path.items ≡ start_of folder → IsTrue is_all ↔ IsAllIgnored basis tree folder)) }
-        ensures may { IfOk result (λ is_all. IsTrue is_all → (folder : Folder) × (place.now.path.items ≡ start_of folder) × MayBeAllIgnored (terms_of self.old.on_way.terms) (seen_lists self.old.on_way.lists.items) place.now folder) }
+        ensures ignored { IfOk result (SaysOfPlace (S.shows source.old) self.old.on_way place.now IsAllIgnored) }
+        ensures may { IfOk result (λ is_all. IsTrue is_all →
+            (folder : Folder) × (place.now.path.items ≡ start_of folder)
+            × MayBeAllIgnored (terms_of self.old.on_way.terms) (seen_lists self.old.on_way.lists.items) place.now folder) }
         ensures lists { OnOk result (seen_lists self.new.on_way.lists.items ≡ seen_lists self.old.on_way.lists.items) }
         ensures terms { self.new.on_way.terms ≡ self.old.on_way.terms }
         ensures pending { self.new.pending ≡ self.old.pending }
         ensures stays { StaysKnown S.shows source.old source.new }
-        ensures asks { GivesOnly (λ folder. OfStanding (S.shows source.old) (terms_of self.old.on_way.terms) (seen_lists self.old.on_way.lists.items) place.now (λ basis tree. IsSearched basis tree place.now.path.items folder)) (S.asked source.old) (S.asked source.new) }
+        ensures asks { GivesOnly (IsSearchedFrom (S.shows source.old) self.old.on_way place.now) (S.asked source.old) (S.asked source.new) }
         ensures begun { IfErr result (λ fault. is_of_start fault ≡ false) }
     {
         if !may_be_all_ignored(&self.on_way, place) {
@@ -99,7 +109,8 @@ impl<'a> Lister<'a> {
         requires folders { BasesAreFolders (seen_lists self.old.on_way.lists.items) }
         requires may { MayVisit self.old.on_way.terms.case next.now.path.items }
         requires ends { EndsInSlash next.now.path.items }
-        ensures enters { OnOk result (EntersBeside (S.shows source.old) (terms_of self.old.on_way.terms) next.now (seen_lists self.old.on_way.lists.items) (seen_lists self.new.on_way.lists.items) self.old.pending.items self.new.pending.items) }
+        ensures enters { OnOk result (EntersBeside (S.shows source.old) (terms_of self.old.on_way.terms) next.now
+            (seen_lists self.old.on_way.lists.items) (seen_lists self.new.on_way.lists.items) self.old.pending.items self.new.pending.items) }
         ensures terms { self.new.on_way.terms ≡ self.old.on_way.terms }
         ensures folders { OnOk result (BasesAreFolders (seen_lists self.new.on_way.lists.items)) }
         ensures stays { StaysKnown S.shows source.old source.new }
@@ -120,7 +131,8 @@ fn may_be_all_ignored(on_way: &ListsOnWay<'_>, place: &Pending) -> bool
     requires folders { BasesAreFolders (seen_lists on_way.now.lists.items) }
     requires may { MayVisit on_way.now.terms.case place.now.path.items }
     requires count { place.now.list_count ≤ length on_way.now.lists.items }
-    ensures each { (folder : Folder) → place.now.path.items ≡ start_of folder → IsTrue result ↔ MayBeAllIgnored (terms_of on_way.now.terms) (seen_lists on_way.now.lists.items) place.now folder }
+    ensures each { (folder : Folder) → place.now.path.items ≡ start_of folder →
+        IsTrue result ↔ MayBeAllIgnored (terms_of on_way.now.terms) (seen_lists on_way.now.lists.items) place.now folder }
     ensures some { IsTrue result → (folder : Folder) × (place.now.path.items ≡ start_of folder) }
 {
     let Some(folder) = folder_at(&place.path) else {

@@ -9,7 +9,8 @@ ghost use Rattle.glob_trees.specs.Ways.{GivesOnly};
 ghost use Rattle.git_paths.specs.Paths.{is_name};
 ghost use Rattle.tree_commands.specs.FileTrees.{FileTree, StaysKnown, names_in};
 ghost use Rattle.tree_commands.specs.Files.{IsEntryName, is_folder, is_git};
-ghost use Rattle.tree_commands.specs.Private.Listing.{AddsFound, Among, EndsInName, IsChosenThere, IsFoundAmong, IsMetThere, IsNoneAmong, LeadsOn, LiesThere, StandsThere, seen_lists, terms_of};
+ghost use Rattle.tree_commands.specs.Private.Listing.{AddsFound, Among, EndsInName, IsFoundAmong, IsNoneAmong, LeadsOn, seen_lists, terms_of};
+ghost use Rattle.tree_commands.specs.Private.Listing.{IsChosenThere, IsMetThere, LiesThere, StandsThere};
 
 use crate::files::asking::kind_at;
 use crate::files::ignoring::{Ignoring, ignoring_by, is_ignored_by};
@@ -42,7 +43,8 @@ pub(crate) fn entries_of<S: FileSource>(
     requires plain { LeadsOn on_way.now.terms.case start.now }
     ensures each { IfOk result (λ paths. AllByRecursion (EndsInName on_way.now.terms.case start.now) (map vec_items paths.items)) }
     ensures found { IfOk result (λ paths. (tree : FileTree) → S.shows source.old tree → (path : List ℕ) →
-        Among (map vec_items paths.items) path ↔ IsFoundAmong (seen_lists on_way.now.lists.items) (terms_of on_way.now.terms) tree start.now (names_in names.now) path) }
+        Among (map vec_items paths.items) path ↔
+        IsFoundAmong (seen_lists on_way.now.lists.items) (terms_of on_way.now.terms) tree start.now (names_in names.now) path) }
     ensures stays { StaysKnown S.shows source.old source.new }
     ensures asks { GivesOnly (λ _. ⊥) (S.asked source.old) (S.asked source.new) }
 {
@@ -66,7 +68,8 @@ pub(crate) fn has_no_entry<S: FileSource>(
     start: &[u8],
     names: &[u8],
 ) -> Result<bool, TreeFault<S::Fault>>
-    ensures none { IfOk result (λ is_none. (tree : FileTree) → S.shows source.old tree → IsTrue is_none ↔ IsNoneAmong case tree start.now (names_in names.now)) }
+    ensures none { IfOk result (λ is_none. (tree : FileTree) → S.shows source.old tree →
+        IsTrue is_none ↔ IsNoneAmong case tree start.now (names_in names.now)) }
     ensures stays { StaysKnown S.shows source.old source.new }
     ensures asks { GivesOnly (λ _. ⊥) (S.asked source.old) (S.asked source.new) }
 {
@@ -139,7 +142,8 @@ fn push_found<S: FileSource>(
 ) -> Result<(), TreeFault<S::Fault>>
     requires folders { BasesAreFolders (seen_lists on_way.now.lists.items) }
     requires plain { IsPlainPath (start.now ++ name.now) }
-    ensures adds { OnOk result (AddsFound (S.shows source.old) (seen_lists on_way.now.lists.items) (terms_of on_way.now.terms) (start.now ++ name.now) (map vec_items paths.old.items) (map vec_items paths.new.items)) }
+    ensures adds { OnOk result (AddsFound (S.shows source.old) (seen_lists on_way.now.lists.items) (terms_of on_way.now.terms)
+        (start.now ++ name.now) (map vec_items paths.old.items) (map vec_items paths.new.items)) }
     ensures stays { StaysKnown S.shows source.old source.new }
     ensures asks { GivesOnly (λ _. ⊥) (S.asked source.old) (S.asked source.new) }
 {

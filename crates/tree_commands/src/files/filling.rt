@@ -6,8 +6,8 @@ ghost use Rattle.glob_lists.specs.Deciding.{BasesAreFolders};
 ghost use Rattle.glob_trees.specs.Ways.{Folder, GivesOnly, start_of};
 ghost use Rattle.tree_commands.specs.declared.files.choosing.Chosen.{Chosen};
 ghost use Rattle.tree_commands.specs.FileTrees.{StaysKnown};
-ghost use Rattle.tree_commands.specs.Files.{AsksSearches, HasListedBy, IsFilled, IsMet, IsNameHidden, IsReplaced, IsSearched, IsTold, entering, search_of};
-ghost use Rattle.tree_commands.specs.Private.Filling.{KeepsLists, MaySearch, OfStanding, StepsOnce, Tells};
+ghost use Rattle.tree_commands.specs.Files.{AsksSearches, HasListedBy, IsFilled, IsMet, IsNameHidden, IsReplaced, IsTold, entering, search_of};
+ghost use Rattle.tree_commands.specs.Private.Filling.{IsSearchedFrom, KeepsLists, MaySearch, OfPlace, SaysOfPlace, StepsOnce, Tells};
 ghost use Rattle.tree_commands.specs.Private.Listing.{FlagsFolder, MayVisit, seen_lists, terms_of};
 ghost use Rattle.tree_commands.specs.Private.ListingFaults.{is_of_start};
 ghost use Rattle.tree_commands.specs.Private.UnderWay.{IsUnderWay, OfKnown, beginning_of};
@@ -35,11 +35,14 @@ impl<'a> Lister<'a> {
         requires folders { BasesAreFolders (seen_lists self.old.on_way.lists.items) }
         requires may { MayVisit self.old.on_way.terms.case next.path.items }
         requires count { next.list_count ≡ length self.old.on_way.lists.items }
-        ensures steps { IfOk result (λ told. StepsOnce (S.shows source.old) (terms_of self.old.on_way.terms) next (seen_lists self.old.on_way.lists.items) (seen_lists self.new.on_way.lists.items) self.old.pending.items self.new.pending.items (option_map vec_items told)) }
+        ensures steps { IfOk result (λ told. StepsOnce (S.shows source.old) (terms_of self.old.on_way.terms) next
+            (seen_lists self.old.on_way.lists.items) (seen_lists self.new.on_way.lists.items) self.old.pending.items self.new.pending.items
+            (option_map vec_items told)) }
         ensures terms { self.new.on_way.terms ≡ self.old.on_way.terms }
         ensures folders { OnOk result (BasesAreFolders (seen_lists self.new.on_way.lists.items)) }
         ensures stays { StaysKnown S.shows source.old source.new }
-        ensures asks { GivesOnly (λ folder. (next.path.items ≡ start_of folder) ⊎ OfStanding (S.shows source.old) (terms_of self.old.on_way.terms) (seen_lists self.old.on_way.lists.items) next (λ basis tree. IsSearched basis tree next.path.items folder)) (S.asked source.old) (S.asked source.new) }
+        ensures asks { GivesOnly (λ folder. (next.path.items ≡ start_of folder) ⊎ IsSearchedFrom (S.shows source.old) self.old.on_way next folder)
+            (S.asked source.old) (S.asked source.new) }
         ensures begun { IfErr result (λ fault. is_of_start fault ≡ false) }
     {
         let is_replaced = self.is_replaced(source, &next)?;
@@ -59,13 +62,13 @@ impl<'a> Lister<'a> {
         requires folders { BasesAreFolders (seen_lists self.old.on_way.lists.items) }
         requires may { MayVisit self.old.on_way.terms.case place.now.path.items }
         requires count { place.now.list_count ≡ length self.old.on_way.lists.items }
-        ensures replaced { IfOk result (λ is_replaced. OfStanding (S.shows source.old) (terms_of self.old.on_way.terms) (seen_lists self.old.on_way.lists.items) place.now (λ basis tree. (folder : Folder) → place.now.path.items ≡ start_of folder → IsTrue is_replaced ↔ IsReplaced basis tree folder)) }
+        ensures replaced { IfOk result (SaysOfPlace (S.shows source.old) self.old.on_way place.now IsReplaced) }
         ensures starts { IfOk result (λ is_replaced. IsTrue is_replaced → (folder : Folder) × (place.now.path.items ≡ start_of folder) × (folder ≢ [])) }
         ensures lists { OnOk result (seen_lists self.new.on_way.lists.items ≡ seen_lists self.old.on_way.lists.items) }
         ensures terms { self.new.on_way.terms ≡ self.old.on_way.terms }
         ensures pending { self.new.pending ≡ self.old.pending }
         ensures stays { StaysKnown S.shows source.old source.new }
-        ensures asks { GivesOnly (λ folder. OfStanding (S.shows source.old) (terms_of self.old.on_way.terms) (seen_lists self.old.on_way.lists.items) place.now (λ basis tree. IsSearched basis tree place.now.path.items folder)) (S.asked source.old) (S.asked source.new) }
+        ensures asks { GivesOnly (IsSearchedFrom (S.shows source.old) self.old.on_way place.now) (S.asked source.old) (S.asked source.new) }
         ensures begun { IfErr result (λ fault. is_of_start fault ≡ false) }
     {
         if !replaces_filled(self.on_way.terms.folders) {
@@ -90,11 +93,14 @@ impl<'a> Lister<'a> {
         requires folders { BasesAreFolders (seen_lists self.old.on_way.lists.items) }
         requires may { MayVisit self.old.on_way.terms.case next.path.items }
         requires count { next.list_count ≡ length self.old.on_way.lists.items }
-        ensures tells { IfOk result (λ told. Tells (S.shows source.old) (terms_of self.old.on_way.terms) next (seen_lists self.old.on_way.lists.items) (seen_lists self.new.on_way.lists.items) self.old.pending.items self.new.pending.items (option_map vec_items told)) }
+        ensures tells { IfOk result (λ told. Tells (S.shows source.old) (terms_of self.old.on_way.terms) next
+            (seen_lists self.old.on_way.lists.items) (seen_lists self.new.on_way.lists.items) self.old.pending.items self.new.pending.items
+            (option_map vec_items told)) }
         ensures terms { self.new.on_way.terms ≡ self.old.on_way.terms }
         ensures folders { OnOk result (BasesAreFolders (seen_lists self.new.on_way.lists.items)) }
         ensures stays { StaysKnown S.shows source.old source.new }
-        ensures asks { GivesOnly (λ folder. (next.path.items ≡ start_of folder) ⊎ OfStanding (S.shows source.old) (terms_of self.old.on_way.terms) (seen_lists self.old.on_way.lists.items) next (λ basis tree. IsSearched basis tree next.path.items folder)) (S.asked source.old) (S.asked source.new) }
+        ensures asks { GivesOnly (λ folder. (next.path.items ≡ start_of folder) ⊎ IsSearchedFrom (S.shows source.old) self.old.on_way next folder)
+            (S.asked source.old) (S.asked source.new) }
         ensures begun { IfErr result (λ fault. is_of_start fault ≡ false) }
     {
         let (list_count, is_below) = (next.list_count, next.is_below);
@@ -123,12 +129,14 @@ impl<'a> Lister<'a> {
         requires may { MayVisit self.old.on_way.terms.case place.now.path.items }
         requires ends { EndsInSlash place.now.path.items }
         requires count { place.now.list_count ≡ length self.old.on_way.lists.items }
-        ensures filled { IfOk result (λ is_filled. OfStanding (S.shows source.old) (terms_of self.old.on_way.terms) (seen_lists self.old.on_way.lists.items) place.now (λ basis tree. (folder : Folder) → place.now.path.items ≡ start_of folder → IsTrue is_filled ↔ IsFilled basis tree folder)) }
+        ensures filled { IfOk result (SaysOfPlace (S.shows source.old) self.old.on_way place.now IsFilled) }
         ensures lists { OnOk result (seen_lists self.new.on_way.lists.items ≡ seen_lists self.old.on_way.lists.items) }
         ensures terms { self.new.on_way.terms ≡ self.old.on_way.terms }
         ensures pending { self.new.pending ≡ self.old.pending }
         ensures stays { StaysKnown S.shows source.old source.new }
-        ensures asks { GivesOnly (λ folder. OfStanding (S.shows source.old) (terms_of self.old.on_way.terms) (seen_lists self.old.on_way.lists.items) place.now (λ basis tree. (chosen : Chosen) × IsMet (entering chosen basis) tree place.now.path.items (start_of folder))) (S.asked source.old) (S.asked source.new) }
+        ensures asks { GivesOnly (λ folder. OfPlace (S.shows source.old) self.old.on_way place.now
+            (λ basis tree. (chosen : Chosen) × IsMet (entering chosen basis) tree place.now.path.items (start_of folder)))
+            (S.asked source.old) (S.asked source.new) }
         ensures begun { IfErr result (λ fault. is_of_start fault ≡ false) }
     {
         let chosen = self.on_way.terms.chosen;
@@ -162,12 +170,14 @@ impl<'a> Lister<'a> {
         requires count { place.now.list_count ≡ length self.old.on_way.lists.items }
         requires standing { MaySearch (terms_of self.old.on_way.terms) (seen_lists self.old.on_way.lists.items) place.now folders chosen }
         requires plain { ¬ AsksSearches folders }
-        ensures any { IfOk result (λ is_any. OfStanding (S.shows source.old) (terms_of self.old.on_way.terms) (seen_lists self.old.on_way.lists.items) place.now (λ basis tree. (folder : Folder) → place.now.path.items ≡ start_of folder → IsTrue is_any ↔ HasListedBy folders chosen basis tree folder)) }
+        ensures any { IfOk result (SaysOfPlace (S.shows source.old) self.old.on_way place.now (HasListedBy folders chosen)) }
         ensures lists { OnOk result (seen_lists self.new.on_way.lists.items ≡ seen_lists self.old.on_way.lists.items) }
         ensures terms { self.new.on_way.terms ≡ self.old.on_way.terms }
         ensures pending { self.new.pending ≡ self.old.pending }
         ensures stays { StaysKnown S.shows source.old source.new }
-        ensures asks { GivesOnly (λ folder. OfStanding (S.shows source.old) (terms_of self.old.on_way.terms) (seen_lists self.old.on_way.lists.items) place.now (λ basis tree. IsMet (search_of folders chosen basis) tree place.now.path.items (start_of folder))) (S.asked source.old) (S.asked source.new) }
+        ensures asks { GivesOnly (λ folder. OfPlace (S.shows source.old) self.old.on_way place.now
+            (λ basis tree. IsMet (search_of folders chosen basis) tree place.now.path.items (start_of folder)))
+            (S.asked source.old) (S.asked source.new) }
         ensures begun { IfErr result (λ fault. is_of_start fault ≡ false) }
     {
         let path = path_of(place)?;
@@ -218,7 +228,8 @@ fn is_ignored_at(on_way: &ListsOnWay<'_>, place: &Pending) -> bool
     requires folders { BasesAreFolders (seen_lists on_way.now.lists.items) }
     requires may { MayVisit on_way.now.terms.case place.now.path.items }
     requires count { place.now.list_count ≤ length on_way.now.lists.items }
-    ensures { (folder : Folder) → place.now.path.items ≡ start_of folder → FlagsFolder (terms_of on_way.now.terms) (seen_lists on_way.now.lists.items) place.now folder result }
+    ensures { (folder : Folder) → place.now.path.items ≡ start_of folder →
+        FlagsFolder (terms_of on_way.now.terms) (seen_lists on_way.now.lists.items) place.now folder result }
 {
     match folder_at(&place.path) {
         Some(folder) => is_ignored_folder(on_way, place, folder),
@@ -234,7 +245,8 @@ fn lists_any<S: FileSource>(
     requires folders { BasesAreFolders (seen_lists search.old.on_way.lists.items) }
     requires under_way { IsUnderWay search.old.on_way.terms.case [] search.old.pending.items (seen_lists search.old.on_way.lists.items) }
     requires plain { ¬ AsksSearches search.old.on_way.terms.folders }
-    ensures any { IfOk result (λ is_any. OfKnown (S.shows source.old) (terms_of search.old.on_way.terms) (beginning_of search.old) (λ basis tree start. IsTrue is_any ↔ ((path : List ℕ) × IsMet basis tree start path × IsTold basis tree path))) }
+    ensures any { IfOk result (λ is_any. OfKnown (S.shows source.old) (terms_of search.old.on_way.terms) (beginning_of search.old)
+        (λ basis tree start. IsTrue is_any ↔ ((path : List ℕ) × IsMet basis tree start path × IsTold basis tree path))) }
     ensures lists { OnOk result (KeepsLists (beginning_of search.old) (seen_lists search.new.on_way.lists.items)) }
     ensures stays { StaysKnown S.shows source.old source.new }
     ensures asks { GivesOnly (λ folder. OfKnown (S.shows source.old) (terms_of search.old.on_way.terms) (beginning_of search.old)

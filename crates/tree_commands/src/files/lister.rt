@@ -6,7 +6,8 @@ ghost use Rattle.glob_lists.specs.Deciding.{BasesAreFolders};
 ghost use Rattle.glob_lists.specs.Paths.{IsPlainPath};
 ghost use Rattle.glob_trees.specs.Ways.{GivesOnly, start_of, unless_empty};
 ghost use Rattle.tree_commands.specs.FileTrees.{AreFoundIn, FileTree, StaysKnown};
-ghost use Rattle.tree_commands.specs.Private.Listing.{AddsOwn, Enters, Flags, FlagsFolder, IsFree, IsToldBy, LeadsOn, ListsFile, ListsFolder, MayVisit, SaysShut, Visits, if_listed, reads_list, seen_list, seen_lists, terms_of};
+ghost use Rattle.tree_commands.specs.Private.Listing.{AddsOwn, Enters, Flags, FlagsFolder, IsFree, IsToldBy, LeadsOn, ListsFile, ListsFolder};
+ghost use Rattle.tree_commands.specs.Private.Listing.{MayVisit, SaysShut, Visits, if_listed, reads_list, seen_list, seen_lists, terms_of};
 
 use crate::files::asking::{list_of, names_in};
 use crate::files::choosing::Chosen;
@@ -61,7 +62,9 @@ impl<'a> Lister<'a> {
         requires folders { BasesAreFolders (seen_lists self.old.on_way.lists.items) }
         requires may { MayVisit self.old.on_way.terms.case next.path.items }
         requires count { next.list_count ≤ length self.old.on_way.lists.items }
-        ensures visits { IfOk result (λ listed. Visits (S.shows source.old) (terms_of self.old.on_way.terms) next (seen_lists self.old.on_way.lists.items) (seen_lists self.new.on_way.lists.items) self.old.pending.items self.new.pending.items (option_map vec_items listed)) }
+        ensures visits { IfOk result (λ listed. Visits (S.shows source.old) (terms_of self.old.on_way.terms) next
+            (seen_lists self.old.on_way.lists.items) (seen_lists self.new.on_way.lists.items) self.old.pending.items self.new.pending.items
+            (option_map vec_items listed)) }
         ensures terms { self.new.on_way.terms ≡ self.old.on_way.terms }
         ensures folders { OnOk result (BasesAreFolders (seen_lists self.new.on_way.lists.items)) }
         ensures stays { StaysKnown S.shows source.old source.new }
@@ -105,7 +108,9 @@ impl<'a> Lister<'a> {
         requires folders { BasesAreFolders (seen_lists self.old.on_way.lists.items) }
         requires start { next.now.path.items ≡ start_of folder.now }
         requires plain { LeadsOn self.old.on_way.terms.case next.now.path.items }
-        ensures enters { OnOk result (Enters (λ tree. S.shows source.old tree × AreFoundIn tree folder.now names.now) (terms_of self.old.on_way.terms) folder.now next.now.list_count is_ignored (seen_lists self.old.on_way.lists.items) (seen_lists self.new.on_way.lists.items) self.old.pending.items self.new.pending.items) }
+        ensures enters { OnOk result (Enters (λ tree. S.shows source.old tree × AreFoundIn tree folder.now names.now)
+            (terms_of self.old.on_way.terms) folder.now next.now.list_count is_ignored
+            (seen_lists self.old.on_way.lists.items) (seen_lists self.new.on_way.lists.items) self.old.pending.items self.new.pending.items) }
         ensures terms { self.new.on_way.terms ≡ self.old.on_way.terms }
         ensures folders { OnOk result (BasesAreFolders (seen_lists self.new.on_way.lists.items)) }
         ensures stays { StaysKnown S.shows source.old source.new }
@@ -209,7 +214,8 @@ fn is_shut<S: FileSource>(
     names: &FolderNames,
 ) -> Result<bool, TreeFault<S::Fault>>
     requires { start.now ≡ start_of folder.now }
-    ensures shut { IfOk result (λ is_shut. (tree : FileTree) → S.shows source.old tree → AreFoundIn tree folder.now names.now → SaysShut (terms_of terms.now) tree folder.now is_shut) }
+    ensures shut { IfOk result (λ is_shut. (tree : FileTree) → S.shows source.old tree → AreFoundIn tree folder.now names.now →
+        SaysShut (terms_of terms.now) tree folder.now is_shut) }
     ensures free { IfOk result (λ is_shut. IsTrue is_shut → IsFree (terms_of terms.now) folder.now) }
     ensures stays { StaysKnown S.shows source.old source.new }
     ensures asks { GivesOnly (λ _. ⊥) (S.asked source.old) (S.asked source.new) }
@@ -255,7 +261,9 @@ fn push_list_of<S: FileSource>(
     names: &FolderNames,
 ) -> Result<(), TreeFault<S::Fault>>
     requires folders { BasesAreFolders (seen_lists on_way.old.lists.items) }
-    ensures adds { OnOk result (AddsOwn (λ tree. S.shows source.old tree × AreFoundIn tree folder.now names.now × (reads_list on_way.old.terms.chosen is_ignored ≡ true)) folder.now (seen_lists on_way.old.lists.items) (seen_lists on_way.new.lists.items)) }
+    ensures adds { OnOk result (AddsOwn
+        (λ tree. S.shows source.old tree × AreFoundIn tree folder.now names.now × (reads_list on_way.old.terms.chosen is_ignored ≡ true))
+        folder.now (seen_lists on_way.old.lists.items) (seen_lists on_way.new.lists.items)) }
     ensures terms { on_way.new.terms ≡ on_way.old.terms }
     ensures folders { OnOk result (BasesAreFolders (seen_lists on_way.new.lists.items)) }
     ensures stays { StaysKnown S.shows source.old source.new }

@@ -5,7 +5,7 @@ ghost use Rattle.glob_lists.specs.Deciding.{BasesAreFolders};
 ghost use Rattle.glob_lists.specs.Paths.{IsPlainPath};
 ghost use Rattle.glob_trees.specs.Ways.{GivesOnly};
 ghost use Rattle.tree_commands.specs.FileTrees.{FileTree, StaysKnown};
-ghost use Rattle.tree_commands.specs.Files.{LetsPass};
+ghost use Rattle.tree_commands.specs.Files.{LetsPass, basis_of};
 ghost use Rattle.tree_commands.specs.Lookups.{HasEntryBelow};
 ghost use Rattle.tree_commands.specs.Private.Listing.{Begins, IsClear, LeavesOut, MayBegin, PutsListsTo, StandsAtStart, seen_lists, terms_of};
 
@@ -31,7 +31,8 @@ impl<'a> Lister<'a> {
     ) -> Result<(), TreeFault<S::Fault>>
         requires folders { BasesAreFolders (seen_lists self.old.on_way.lists.items) }
         requires none { self.old.pending.items ≡ [] }
-        ensures begins { OnOk result (Begins (S.shows source.old) (record { fronts = seen_lists self.old.on_way.lists.items; terms = terms_of self.old.on_way.terms }) path.items is_told_folder (seen_lists self.new.on_way.lists.items) self.new.pending.items) }
+        ensures begins { OnOk result (Begins (S.shows source.old) (basis_of self.old.on_way.lists.items (terms_of self.old.on_way.terms))
+            path.items is_told_folder (seen_lists self.new.on_way.lists.items) self.new.pending.items) }
         ensures terms { self.new.on_way.terms ≡ self.old.on_way.terms }
         ensures folders { OnOk result (BasesAreFolders (seen_lists self.new.on_way.lists.items)) }
         ensures stays { StaysKnown S.shows source.old source.new }
@@ -46,7 +47,8 @@ impl<'a> Lister<'a> {
 
     /// Puts the path at which the listing begins, with all lists.
     pub(crate) fn put_start(&mut self, path: Vec<u8>, is_below: bool) -> Result<(), AllocError>
-        ensures pending { OnOk result (self.new.pending.items ≡ self.old.pending.items ++ record { path = path; list_count = length self.old.on_way.lists.items; is_below = is_below } ∷ []) }
+        ensures pending { OnOk result (self.new.pending.items ≡ self.old.pending.items
+            ++ record { path = path; list_count = length self.old.on_way.lists.items; is_below = is_below } ∷ []) }
         ensures on_way { self.new.on_way ≡ self.old.on_way }
     {
         self.pending.push(Pending {
@@ -67,7 +69,8 @@ impl<'a> Lister<'a> {
         requires folders { BasesAreFolders (seen_lists self.old.on_way.lists.items) }
         requires none { self.old.pending.items ≡ [] }
         requires below { path.items ≢ [] }
-        ensures begins { OnOk result (Begins (S.shows source.old) (record { fronts = seen_lists self.old.on_way.lists.items; terms = terms_of self.old.on_way.terms }) path.items is_told_folder (seen_lists self.new.on_way.lists.items) self.new.pending.items) }
+        ensures begins { OnOk result (Begins (S.shows source.old) (basis_of self.old.on_way.lists.items (terms_of self.old.on_way.terms))
+            path.items is_told_folder (seen_lists self.new.on_way.lists.items) self.new.pending.items) }
         ensures terms { self.new.on_way.terms ≡ self.old.on_way.terms }
         ensures folders { OnOk result (BasesAreFolders (seen_lists self.new.on_way.lists.items)) }
         ensures stays { StaysKnown S.shows source.old source.new }
@@ -144,7 +147,8 @@ fn is_of_repository<S: FileSource>(
     terms: &Terms<'_>,
     path: &[u8],
 ) -> Result<bool, TreeFault<S::Fault>>
-    ensures clear { IfOk result (λ is_of. (tree : FileTree) → S.shows source.old tree → MatchBool is_of (¬ IsClear (terms_of terms.now) tree path.now) (IsClear (terms_of terms.now) tree path.now)) }
+    ensures clear { IfOk result (λ is_of. (tree : FileTree) → S.shows source.old tree →
+        MatchBool is_of (¬ IsClear (terms_of terms.now) tree path.now) (IsClear (terms_of terms.now) tree path.now)) }
     ensures stays { StaysKnown S.shows source.old source.new }
     ensures asks { GivesOnly (λ _. ⊥) (S.asked source.old) (S.asked source.new) }
 {
@@ -166,7 +170,8 @@ fn is_repository<S: FileSource>(
     terms: &Terms<'_>,
     folder: &[u8],
 ) -> Result<bool, TreeFault<S::Fault>>
-    ensures own { IfOk result (λ is_own. (tree : FileTree) → S.shows source.old tree → MatchBool is_own (¬ LetsPass (terms_of terms.now) tree folder.now) (LetsPass (terms_of terms.now) tree folder.now)) }
+    ensures own { IfOk result (λ is_own. (tree : FileTree) → S.shows source.old tree →
+        MatchBool is_own (¬ LetsPass (terms_of terms.now) tree folder.now) (LetsPass (terms_of terms.now) tree folder.now)) }
     ensures stays { StaysKnown S.shows source.old source.new }
     ensures asks { GivesOnly (λ _. ⊥) (S.asked source.old) (S.asked source.new) }
 {
@@ -215,7 +220,8 @@ fn put_lists_to<S: FileSource>(
 ) -> Result<bool, TreeFault<S::Fault>>
     requires folders { BasesAreFolders (seen_lists on_way.old.lists.items) }
     requires plain { IsPlainPath path.now }
-    ensures puts { IfOk result (λ is_below. (tree : FileTree) → S.shows source.old tree → PutsListsTo (record { fronts = seen_lists on_way.old.lists.items; terms = terms_of on_way.old.terms }) tree path.now (seen_lists on_way.new.lists.items) is_below) }
+    ensures puts { IfOk result (λ is_below. (tree : FileTree) → S.shows source.old tree →
+        PutsListsTo (basis_of on_way.old.lists.items (terms_of on_way.old.terms)) tree path.now (seen_lists on_way.new.lists.items) is_below) }
     ensures terms { on_way.new.terms ≡ on_way.old.terms }
     ensures folders { OnOk result (BasesAreFolders (seen_lists on_way.new.lists.items)) }
     ensures stays { StaysKnown S.shows source.old source.new }
