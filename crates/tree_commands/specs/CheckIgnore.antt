@@ -51,7 +51,7 @@ question_of standpoint flags tracked tree known =
     record { leads = word_leads standpoint; literal = word_front standpoint; tracked = tracked; known = known; front_count = tree.front_count; fronts = take tree.front_count (map (entry_list_of {V = Unit {0}} (λ _. tt)) tree.lists); rules = tree.rules; flags = flags }
 
 -- and of sources, of which `known` tells what is known of paths
-abbrev pub question_to : {S K T X : Type 0} → (K → Known) → Standpoint → IgnoreFlags → IgnoreSources S K T X → Question
+abbrev pub question_to : {S K T : Type 0} → (K → Known) → Standpoint → IgnoreFlags → IgnoreSources S K T → Question
 question_to known standpoint flags sources = question_of standpoint flags sources.tracked sources.tree (known sources.kinds)
 
 -- a folder of a path ends before a slash, and the path itself at its end
