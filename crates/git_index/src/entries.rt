@@ -7,9 +7,18 @@ ghost use Rattle.git_index.specs.Private.Reading.{Gives, entries_at, entry_at, i
 use crate::entry::{Entry, Kind};
 use crate::fault::IndexFault;
 use crate::fields::{skip, u16_at, u32_at};
-use crate::paths::{parts_of, push_path};
+use crate::paths::{PathParts, parts_of, push_path};
 use crate::place::{Place, entries_in};
 use std::alloc::Global;
+
+/// What an entry's length and parts depend on.
+#[derive(Copy, Clone)]
+pub struct Layout {
+    /// The version of the file.
+    pub version: u32,
+    /// How many bytes a hash has.
+    pub hash_len: usize,
+}
 
 /// The kind that a mode tells.
 #[tactic(auto, unfolding(crate::specs::Private::Reading::kind_of))]
@@ -54,30 +63,35 @@ fn more_flags(extended: bool, bytes: &[u8]) -> Result<(u16, &[u8]), IndexFault>
 #[tactic(auto, unfolding(crate::specs::Private::Reading::entry_at))]
 fn entry_of<'a>(
     text: &mut Vec<u8>,
-    version: u32,
-    hash_len: usize,
+    layout: Layout,
     previous: usize,
     room: usize,
     bytes: &'a [u8],
 ) -> Result<(Place, &'a [u8]), IndexFault>
-    requires hash { hash_len ≤ 32 }
+    requires hash { layout.hash_len ≤ 32 }
     requires previous { previous ≤ length text.old.items }
-    ensures gives { Gives (λ x. (placed text.new.items x.0, x.1.now)) result (entry_at version hash_len (drop previous text.old.items) room bytes.now) }
+    ensures gives { Gives (λ x. (placed text.new.items x.0, x.1.now)) result
+        (entry_at layout.version layout.hash_len (drop previous text.old.items) room bytes.now) }
     ensures grown { IfOk result (λ x. GoesOnBy text.old.items text.new.items x.0) }
     ensures fits { IfOk result (λ x. x.0.end - x.0.start ≤ room) }
 {
     let rest = skip(bytes, 24)?;
     let (mode, rest) = u32_at(rest)?;
-    let rest = skip(rest, 12 + hash_len)?;
+    let rest = skip(rest, 12 + layout.hash_len)?;
     let (flags, rest) = u16_at(rest)?;
     let kind = kind(mode)?;
     let extended = has_bit(flags, 14);
     let (more, rest) = more_flags(extended, rest)?;
-    let front = 42 + hash_len + if extended { 2 } else { 0 };
+    let front = 42 + layout.hash_len + if extended { 2 } else { 0 };
     let start = text.len();
-    let (kept, added, rest) = parts_of(version, front, &text[previous..], rest)?;
+    let (kept, added, rest) = parts_of(layout.version, front, &text[previous..], rest)?;
     let kept = kept.len();
-    push_path(text, previous, kept, added, flags % 0x1000, room)?;
+    let parts = PathParts {
+        kept,
+        added,
+        told: flags % 0x1000,
+    };
+    push_path(text, previous, parts, room)?;
     let place = Place {
         start,
         end: text.len(),
@@ -93,20 +107,19 @@ fn entry_of<'a>(
 /// So many entries, and what follows them. Their paths may have together `room` bytes.
 pub fn entries_of(
     alloc: Global,
-    version: u32,
-    hash_len: usize,
+    layout: Layout,
     count: u32,
     room: usize,
     bytes: &[u8],
 ) -> Result<(Vec<Entry>, &[u8]), IndexFault>
-    requires { hash_len ≤ 32 }
-    ensures { Gives (λ x. (map tracked x.0.items, x.1.now)) result (entries_at version hash_len count [] room bytes.now) }
+    requires { layout.hash_len ≤ 32 }
+    ensures { Gives (λ x. (map tracked x.0.items, x.1.now)) result (entries_at layout.version layout.hash_len count [] room bytes.now) }
 {
     let mut text = Vec::new(alloc);
     let mut places: Vec<Place> = Vec::new(alloc);
     let (mut previous, mut room, mut rest) = (0, room, bytes);
     for _ in 0..count {
-        let (place, behind) = entry_of(&mut text, version, hash_len, previous, room, rest)?;
+        let (place, behind) = entry_of(&mut text, layout, previous, room, rest)?;
         previous = place.start;
         room -= place.end - place.start;
         places.push(place)?;

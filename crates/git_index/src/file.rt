@@ -5,7 +5,7 @@ ghost use Rattle.git_index.specs.Entries.{Tracked, tracked};
 ghost use Rattle.git_index.specs.Format.{HasRoom, IsIndexFile, hash_len};
 ghost use Rattle.git_index.specs.Private.Reading.{Finds};
 
-use crate::entries::entries_of;
+use crate::entries::{Layout, entries_of};
 use crate::entry::Entry;
 use crate::fault::IndexFault;
 use crate::header::header_of;
@@ -36,7 +36,8 @@ pub fn read(
     let (content, _checksum) = bytes.split_at(bytes.len() - hash_len);
     let (version, count, rest) = header_of(content)?;
     let room = bytes.len().saturating_mul(PATH_BYTES_PER_BYTE);
-    let (entries, extensions) = entries_of(alloc, version, hash_len, count, room, rest)?;
+    let layout = Layout { version, hash_len };
+    let (entries, extensions) = entries_of(alloc, layout, count, room, rest)?;
     Ok((entries, extensions))
 }
 

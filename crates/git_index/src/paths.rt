@@ -60,6 +60,17 @@ pub fn parts_of<'a, 'b>(
     }
 }
 
+/// What makes a path, behind a text in which the path before lies.
+#[derive(Copy, Clone)]
+pub struct PathParts<'a> {
+    /// How many bytes of the path before it begins with.
+    pub kept: usize,
+    /// What follows them.
+    pub added: &'a [u8],
+    /// The length that the flags tell.
+    pub told: u16,
+}
+
 /// Adds so many bytes from the place on where the path before begins.
 fn push_kept(text: &mut Vec<u8>, previous: usize, kept: usize) -> Result<(), AllocError>
     requires { previous + kept ≤ length text.old.items }
@@ -72,23 +83,21 @@ fn push_kept(text: &mut Vec<u8>, previous: usize, kept: usize) -> Result<(), All
     Ok(())
 }
 
-/// Adds the path of the two parts to the text, if it has the length that the flags tell and there is room for it. The first part lies in
-/// the text already, from the place on where the path before begins.
+/// Adds a path to the text, if it has the length that the flags tell and there is room for it. The path before begins at `previous`.
 #[tactic(auto, unfolding(crate::specs::Private::Reading::joined_of))]
 pub fn push_path(
     text: &mut Vec<u8>,
     previous: usize,
-    kept: usize,
-    added: &[u8],
-    told: u16,
+    parts: PathParts<'_>,
     room: usize,
 ) -> Result<(), IndexFault>
-    requires { previous + kept ≤ length text.old.items }
+    requires { previous + parts.kept ≤ length text.old.items }
     ensures { MatchResult result
         (λ _. (path : List ℕ) × (text.new.items ≡ text.old.items ++ path)
-        × (joined_of (take kept (drop previous text.old.items)) added.now told room ≡ Ok path) × (length path ≤ room))
-        (λ fault. (fault ≡ Memory) ⊎ (joined_of (take kept (drop previous text.old.items)) added.now told room ≡ Err fault)) }
+        × (joined_of (take parts.kept (drop previous text.old.items)) parts.added.now parts.told room ≡ Ok path) × (length path ≤ room))
+        (λ fault. (fault ≡ Memory) ⊎ (joined_of (take parts.kept (drop previous text.old.items)) parts.added.now parts.told room ≡ Err fault)) }
 {
+    let PathParts { kept, added, told } = parts;
     if kept > room || added.len() > room - kept {
         return Err(IndexFault::PathsTooLong);
     }

@@ -20,7 +20,7 @@ returns-in_err-push_path-clause-gives c =
       | then-extended w ↦ w.front-is ∙ ap (λ (b : Bool). cond b 2 0) (sym w.if-extended.true)
       | else-extended w ↦ w.front-is ∙ ap (λ (b : Bool). cond b 2 0) (sym w.if-extended.false)
     ] in
-    let read = entry_by c.args.version c.args.hash_len c.args.text.now.items c.deref.result.now c.args.previous c.args.room c.args.bytes.now c.in_ok-rest.rest.now (c.in_ok-mode.mode, c.in_ok-mode.rest.now) c.in_ok-rest-2.rest.now
+    let read = entry_by c.args.layout.version c.args.layout.hash_len c.args.text.now.items c.deref.result.now c.args.previous c.args.room c.args.bytes.now c.in_ok-rest.rest.now (c.in_ok-mode.mode, c.in_ok-mode.rest.now) c.in_ok-rest-2.rest.now
     (c.in_ok-flags.flags, c.in_ok-flags.rest.now) c.in_ok-kind.kind c.has_bit-extended.result (c.in_ok-more.more, c.in_ok-more.rest.now) c.if-extended.front c.in_ok-kept.kept.now c.in_ok-kept.added.now c.in_ok-kept.rest.now (Err c.in_err-push_path.field-0.0)
     c.deref.ensures.value c.has_bit-extended.ensures front c.in_ok-rest.ensures c.in_ok-mode.ensures c.in_ok-rest-2.ensures c.in_ok-flags.ensures c.in_ok-kind.ensures c.in_ok-more.ensures c.in_ok-kept.ensures.gives c.in_ok-kept.ensures.front.0 in
     rw (p.1, p.2) (elim c.in_err-push_path.ensures [ inl memory ↦ inl memory | inr wrong ↦ inr (read wrong) ])
@@ -32,7 +32,7 @@ returns-clause-gives c =
       | then-extended w ↦ w.front-is ∙ ap (λ (b : Bool). cond b 2 0) (sym w.if-extended.true)
       | else-extended w ↦ w.front-is ∙ ap (λ (b : Bool). cond b 2 0) (sym w.if-extended.false)
     ] in
-    let read = entry_by c.args.version c.args.hash_len c.args.text.now.items c.deref.result.now c.args.previous c.args.room c.args.bytes.now c.in_ok-rest.rest.now (c.in_ok-mode.mode, c.in_ok-mode.rest.now) c.in_ok-rest-2.rest.now
+    let read = entry_by c.args.layout.version c.args.layout.hash_len c.args.text.now.items c.deref.result.now c.args.previous c.args.room c.args.bytes.now c.in_ok-rest.rest.now (c.in_ok-mode.mode, c.in_ok-mode.rest.now) c.in_ok-rest-2.rest.now
     (c.in_ok-flags.flags, c.in_ok-flags.rest.now) c.in_ok-kind.kind c.has_bit-extended.result (c.in_ok-more.more, c.in_ok-more.rest.now) c.if-extended.front c.in_ok-kept.kept.now c.in_ok-kept.added.now c.in_ok-kept.rest.now (Ok pushed.0)
     c.deref.ensures.value c.has_bit-extended.ensures front c.in_ok-rest.ensures c.in_ok-mode.ensures c.in_ok-rest-2.ensures c.in_ok-flags.ensures c.in_ok-kind.ensures c.in_ok-more.ensures c.in_ok-kept.ensures.gives c.in_ok-kept.ensures.front.0 pushed.2 in
     let part : slice_range c.push_path.new.text.items c.len-start.result c.len.result ≡ pushed.0 =
