@@ -27,13 +27,13 @@ use std::alloc::{AllocError, Global};
 /// The lists that decide about the entries of a folder: those before all folders, and those of the folders on the way to it, with patterns.
 #[derive(Drop)]
 pub(crate) struct ListsOnWay<'a> {
+    pub(crate) alloc: Global,
     pub(crate) lists: Vec<PreparedList<GitIgnoreLines>>,
     pub(crate) terms: Terms<'a>,
 }
 
 /// The paths of the entries of a folder that are met, by the bytes of its names. `start` begins their paths.
 pub(crate) fn entries_of<S: FileSource>(
-    alloc: Global,
     source: &mut S,
     on_way: &ListsOnWay<'_>,
     start: &[u8],
@@ -48,12 +48,12 @@ pub(crate) fn entries_of<S: FileSource>(
     ensures stays { StaysKnown S.shows source.old source.new }
     ensures asks { GivesOnly (λ _. ⊥) (S.asked source.old) (S.asked source.new) }
 {
-    let mut paths = Vec::new(alloc);
+    let mut paths = Vec::new(on_way.alloc);
     let mut rest = names_of(names);
     'names: while let Some(left) = rest {
         let (name, behind) = first_name(left);
         if is_entry_name(on_way.terms.case, name) {
-            push_found(alloc, source, on_way, &mut paths, start, name)?;
+            push_found(source, on_way, &mut paths, start, name)?;
         }
         rest = behind;
     }
@@ -62,21 +62,20 @@ pub(crate) fn entries_of<S: FileSource>(
 
 /// Whether nothing lies in a folder, by its names: nothing stands behind any that may be listed. `start` begins the paths of its entries.
 pub(crate) fn has_no_entry<S: FileSource>(
-    alloc: Global,
     source: &mut S,
-    case: Case,
+    on_way: &ListsOnWay<'_>,
     start: &[u8],
     names: &[u8],
 ) -> Result<bool, TreeFault<S::Fault>>
     ensures none { IfOk result (λ is_none. (tree : FileTree) → S.shows source.old tree →
-        IsTrue is_none ↔ IsNoneAmong case tree start.now (names_in names.now)) }
+        IsTrue is_none ↔ IsNoneAmong on_way.now.terms.case tree start.now (names_in names.now)) }
     ensures stays { StaysKnown S.shows source.old source.new }
     ensures asks { GivesOnly (λ _. ⊥) (S.asked source.old) (S.asked source.new) }
 {
     let mut others = names_of(names);
     'names: while let Some(left) = others {
         let (name, behind) = first_name(left);
-        let is_there = has_entry(alloc, source, case, start, name)?;
+        let is_there = has_entry(source, on_way, start, name)?;
         if is_there {
             return Ok(false);
         }
@@ -87,20 +86,19 @@ pub(crate) fn has_no_entry<S: FileSource>(
 
 /// Whether a name may be listed, and something stands behind it.
 fn has_entry<S: FileSource>(
-    alloc: Global,
     source: &mut S,
-    case: Case,
+    on_way: &ListsOnWay<'_>,
     start: &[u8],
     name: &[u8],
 ) -> Result<bool, TreeFault<S::Fault>>
-    ensures there { IfOk result (λ is_there. (tree : FileTree) → S.shows source.old tree → LiesThere case tree start.now name.now is_there) }
+    ensures there { IfOk result (λ is_there. (tree : FileTree) → S.shows source.old tree → LiesThere on_way.now.terms.case tree start.now name.now is_there) }
     ensures stays { StaysKnown S.shows source.old source.new }
     ensures asks { GivesOnly (λ _. ⊥) (S.asked source.old) (S.asked source.new) }
 {
-    if !is_entry_name(case, name) {
+    if !is_entry_name(on_way.terms.case, name) {
         return Ok(false);
     }
-    let mut path = Vec::with_capacity(alloc, start.len() + name.len())?;
+    let mut path = Vec::with_capacity(on_way.alloc, start.len() + name.len())?;
     path.extend_from_slice(start)?;
     path.extend_from_slice(name)?;
     let found = kind_at(source, &path)?;
@@ -133,7 +131,6 @@ pub(crate) fn is_git(case: Case, name: &[u8]) -> bool
 
 /// Pushes the path of a name, where what stands there is kept.
 fn push_found<S: FileSource>(
-    alloc: Global,
     source: &mut S,
     on_way: &ListsOnWay<'_>,
     paths: &mut Vec<Vec<u8>>,
@@ -148,7 +145,7 @@ fn push_found<S: FileSource>(
     ensures asks { GivesOnly (λ _. ⊥) (S.asked source.old) (S.asked source.new) }
 {
     // a slash may follow
-    let mut path = Vec::with_capacity(alloc, start.len() + name.len() + 1)?;
+    let mut path = Vec::with_capacity(on_way.alloc, start.len() + name.len() + 1)?;
     path.extend_from_slice(start)?;
     path.extend_from_slice(name)?;
     let Some(kind) = what_is_met(source, on_way, &path)? else {

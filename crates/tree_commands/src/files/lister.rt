@@ -28,7 +28,6 @@ use std::alloc::{AllocError, Global};
 /// A listing under way.
 #[derive(Drop)]
 pub(crate) struct Lister<'a> {
-    pub(crate) alloc: Global,
     pub(crate) on_way: ListsOnWay<'a>,
     /// The paths that are still to be visited, the next one last.
     pub(crate) pending: Vec<Pending>,
@@ -46,8 +45,11 @@ impl<'a> Lister<'a> {
         ensures none { result.pending.items ≡ [] }
     {
         Lister {
-            alloc,
-            on_way: ListsOnWay { lists, terms },
+            on_way: ListsOnWay {
+                alloc,
+                lists,
+                terms,
+            },
             pending: Vec::new(alloc),
         }
     }
@@ -80,14 +82,7 @@ impl<'a> Lister<'a> {
             return Ok(only_if(is_listed, next.path));
         }
         let names = names_in(source, folder)?;
-        let is_shut = is_shut(
-            self.alloc,
-            source,
-            &self.on_way.terms,
-            &next.path,
-            folder,
-            &names,
-        )?;
+        let is_shut = is_shut(source, &self.on_way, &next.path, folder, &names)?;
         if is_shut {
             let is_listed = lists_folder(&self.on_way.terms, folder, is_ignored);
             return Ok(only_if(is_listed, next.path));
@@ -117,15 +112,8 @@ impl<'a> Lister<'a> {
         ensures asks { GivesOnly (λ _. ⊥) (S.asked source.old) (S.asked source.new) }
     {
         self.on_way.lists.truncate(next.list_count);
-        push_list_of(
-            self.alloc,
-            source,
-            &mut self.on_way,
-            folder,
-            is_ignored,
-            names,
-        )?;
-        let paths = entries_of(self.alloc, source, &self.on_way, &next.path, &names.bytes)?;
+        push_list_of(source, &mut self.on_way, folder, is_ignored, names)?;
+        let paths = entries_of(source, &self.on_way, &next.path, &names.bytes)?;
         put_in_order(
             &mut self.pending,
             paths,
@@ -206,30 +194,29 @@ fn is_told(terms: &Terms<'_>, folder: &[u8], is_ignored: bool) -> bool
 /// Whether what is found in a folder below the top, in which no tracked path lies, is why it isn't gone into: it is a repository of its own, or
 /// empty, where such folders are told. `start` is the folder's path.
 fn is_shut<S: FileSource>(
-    alloc: Global,
     source: &mut S,
-    terms: &Terms<'_>,
+    on_way: &ListsOnWay<'_>,
     start: &[u8],
     folder: &[u8],
     names: &FolderNames,
 ) -> Result<bool, TreeFault<S::Fault>>
     requires { start.now ≡ start_of folder.now }
     ensures shut { IfOk result (λ is_shut. (tree : FileTree) → S.shows source.old tree → AreFoundIn tree folder.now names.now →
-        SaysShut (terms_of terms.now) tree folder.now is_shut) }
-    ensures free { IfOk result (λ is_shut. IsTrue is_shut → IsFree (terms_of terms.now) folder.now) }
+        SaysShut (terms_of on_way.now.terms) tree folder.now is_shut) }
+    ensures free { IfOk result (λ is_shut. IsTrue is_shut → IsFree (terms_of on_way.now.terms) folder.now) }
     ensures stays { StaysKnown S.shows source.old source.new }
     ensures asks { GivesOnly (λ _. ⊥) (S.asked source.old) (S.asked source.new) }
 {
-    if !is_free(terms, folder) {
+    if !is_free(&on_way.terms, folder) {
         return Ok(false);
     }
     if names.has_git {
         return Ok(true);
     }
-    if !tells_empty(terms.folders) {
+    if !tells_empty(on_way.terms.folders) {
         return Ok(false);
     }
-    let is_empty = has_no_entry(alloc, source, terms.case, start, &names.bytes)?;
+    let is_empty = has_no_entry(source, on_way, start, &names.bytes)?;
     Ok(is_empty)
 }
 
@@ -253,7 +240,6 @@ fn reads_list(chosen: Chosen, is_ignored: bool) -> bool
 
 /// Pushes the list of a folder behind the others, where it counts, and the folder may have patterns by what is found in it, and has.
 fn push_list_of<S: FileSource>(
-    alloc: Global,
     source: &mut S,
     on_way: &mut ListsOnWay<'_>,
     folder: &[u8],
@@ -275,12 +261,11 @@ fn push_list_of<S: FileSource>(
     if !reads_list(on_way.terms.chosen, is_ignored) {
         return Ok(());
     }
-    push_own(alloc, source, on_way, folder)
+    push_own(source, on_way, folder)
 }
 
 /// Pushes the list of a folder behind the others, where it has patterns.
 pub(crate) fn push_own<S: FileSource>(
-    alloc: Global,
     source: &mut S,
     on_way: &mut ListsOnWay<'_>,
     folder: &[u8],
@@ -293,21 +278,17 @@ pub(crate) fn push_own<S: FileSource>(
     ensures asks { GivesOnly (λ _. ⊥) (S.asked source.old) (S.asked source.new) }
 {
     let list = list_of(source, folder)?;
-    push_if_any(alloc, on_way, list)?;
+    push_if_any(on_way, list)?;
     Ok(())
 }
 
 /// Pushes a list behind the others, where it has patterns.
-fn push_if_any(
-    alloc: Global,
-    on_way: &mut ListsOnWay<'_>,
-    list: List<GitIgnoreLines>,
-) -> Result<(), AllocError>
+fn push_if_any(on_way: &mut ListsOnWay<'_>, list: List<GitIgnoreLines>) -> Result<(), AllocError>
     ensures adds { OnOk result (seen_lists on_way.new.lists.items ≡ seen_lists on_way.old.lists.items ++ unless_empty (seen_list list)) }
     ensures terms { on_way.new.terms ≡ on_way.old.terms }
 {
     if !list.patterns.is_empty() {
-        on_way.lists.push(PreparedList::new(alloc, list))?;
+        on_way.lists.push(PreparedList::new(on_way.alloc, list))?;
     }
     Ok(())
 }

@@ -19,7 +19,7 @@ use crate::files::terms::{Terms, is_hidden, leaves_out, takes_all};
 use git_paths::last_name;
 use glob_lists::plain_path;
 use glob_trees::TreeFault;
-use std::alloc::{AllocError, Global};
+use std::alloc::AllocError;
 
 impl<'a> Lister<'a> {
     /// Begins at a path that is told from the top, by no bytes where it is the top itself. It may be told as a folder's.
@@ -79,7 +79,7 @@ impl<'a> Lister<'a> {
         let Some(kind) = kind_to_begin(source, &self.on_way.terms, &path, is_told_folder)? else {
             return Ok(());
         };
-        let is_below = put_lists_to(self.alloc, source, &mut self.on_way, &path)?;
+        let is_below = put_lists_to(source, &mut self.on_way, &path)?;
         if is_left_out(&self.on_way, &path, is_folder(kind), is_below) {
             return Ok(());
         }
@@ -213,7 +213,6 @@ fn kind_at_start<S: FileSource>(
 /// Puts the lists of the folders on the way to a path behind the others, as far as patterns count. It answers whether a folder above the path
 /// is ignored.
 fn put_lists_to<S: FileSource>(
-    alloc: Global,
     source: &mut S,
     on_way: &mut ListsOnWay<'_>,
     path: &[u8],
@@ -230,7 +229,7 @@ fn put_lists_to<S: FileSource>(
     if takes_all(on_way.terms.chosen) {
         return Ok(false);
     }
-    push_own(alloc, source, on_way, b"")?;
+    push_own(source, on_way, b"")?;
     'bytes: for place in 0..path.len() {
         if path[place] != b'/' {
             continue;
@@ -239,7 +238,7 @@ fn put_lists_to<S: FileSource>(
         if is_ignored_by(&on_way.lists, on_way.terms.case, folder, true) {
             return Ok(true);
         }
-        push_own(alloc, source, on_way, folder)?;
+        push_own(source, on_way, folder)?;
     }
     Ok(false)
 }

@@ -9,7 +9,7 @@ use Rattle.tree_commands.proofs.files.entries.has_no_entry.Given as goal
 -- nothing stands behind the names so far
 abbrev pub invariant-names : goal.invariant-names
 invariant-names g l = record {
-  none : IsNoneSoFar (g.S.FileSource.shows l.fn.source) l.fn.case l.fn.start (names_in l.fn.names) (names_left (option_copied l.others));
+  none : IsNoneSoFar (g.S.FileSource.shows l.fn.source) l.fn.on_way.terms.case l.fn.start (names_in l.fn.names) (names_left (option_copied l.others));
   stays : StaysKnown g.S.FileSource.shows l.fn.source l.source;
   asks : GivesOnly (λ _. ⊥) (g.S.FileSource.asked l.fn.source) (g.S.FileSource.asked l.source);
 }

@@ -16,7 +16,7 @@ returns-then-names-clause-shut g c = λ tree known found. ((λ yes. (inl (sym fo
 pub returns-then-not-tells_empty-clause-shut : goal.returns-then-not-tells_empty-clause-shut
 returns-then-not-tells_empty-clause-shut g c = λ tree known found. says_false (λ both. ⊎_elim
     (λ (git : tree.has_git c.args.folder.now ≡ true). false≢true (sym c.if-names.false ∙ found.git ∙ git))
-    (λ (empty : (c.args.terms.now.folders ≡ NamedIfEmpty) × IsEmpty c.args.terms.now.case tree c.args.folder.now). false≢true (sym c.if-not-tells_empty.true ∙ c.tells_empty.ensures.1 empty.0))
+    (λ (empty : (c.args.on_way.now.terms.folders ≡ NamedIfEmpty) × IsEmpty c.args.on_way.now.terms.case tree c.args.folder.now). false≢true (sym c.if-not-tells_empty.true ∙ c.tells_empty.ensures.1 empty.0))
     both.0)
 
 pub returns-clause-shut : goal.returns-clause-shut
@@ -24,11 +24,11 @@ returns-clause-shut g c = λ tree known found.
     let says = c.in_ok-is_empty.ensures.none tree known in
     let names = ap names_in c.deref.ensures.value ∙ found.names in
     let asks = c.tells_empty.ensures.0 c.if-not-tells_empty.false in (
-      (λ yes. (inr (asks, empty_by_none c.args.terms.now.case tree c.args.folder.now c.args.start.now (names_in c.deref.result.now) c.requires names (says.0 yes)), c.is_free.ensures.0 c.if-not-is_free.false)),
+      (λ yes. (inr (asks, empty_by_none c.args.on_way.now.terms.case tree c.args.folder.now c.args.start.now (names_in c.deref.result.now) c.requires names (says.0 yes)), c.is_free.ensures.0 c.if-not-is_free.false)),
       (λ both. ⊎_elim
           (λ (git : tree.has_git c.args.folder.now ≡ true). absurd (false≢true (sym c.if-names.false ∙ found.git ∙ git)))
-          (λ (empty : (c.args.terms.now.folders ≡ NamedIfEmpty) × IsEmpty c.args.terms.now.case tree c.args.folder.now).
-          says.1 (none_by_empty c.args.terms.now.case tree c.args.folder.now c.args.start.now (names_in c.deref.result.now) c.requires names empty.1))
+          (λ (empty : (c.args.on_way.now.terms.folders ≡ NamedIfEmpty) × IsEmpty c.args.on_way.now.terms.case tree c.args.folder.now).
+          says.1 (none_by_empty c.args.on_way.now.terms.case tree c.args.folder.now c.args.start.now (names_in c.deref.result.now) c.requires names empty.1))
           both.0),
     )
 
