@@ -40,6 +40,25 @@ pub enum ShowUntracked {
     All,
 }
 
+/// A file for each repository: the key that sets its path, and its name among the user's settings, where none does.
+#[derive(Copy, Clone)]
+struct UserFile {
+    key: &'static [u8],
+    name: &'static [u8],
+}
+
+/// That of patterns.
+const EXCLUDES: UserFile = UserFile {
+    key: b"core.excludesfile",
+    name: b"ignore",
+};
+
+/// That of attributes.
+const ATTRIBUTES: UserFile = UserFile {
+    key: b"core.attributesfile",
+    name: b"attributes",
+};
+
 /// What a configuration sets. `config_home` is `XDG_CONFIG_HOME`, and `around.home` is `HOME`.
 ///
 /// # Errors
@@ -63,22 +82,8 @@ pub(crate) fn core_settings<F>(
     Ok(CoreSettings {
         ignore_case: boolean_at(config, b"core.ignorecase", false),
         quote_path: boolean_at(config, b"core.quotepath", true),
-        excludes: file_at(
-            alloc,
-            config,
-            around,
-            config_home,
-            b"core.excludesfile",
-            b"ignore",
-        )?,
-        attributes: file_at(
-            alloc,
-            config,
-            around,
-            config_home,
-            b"core.attributesfile",
-            b"attributes",
-        )?,
+        excludes: file_at(alloc, config, around, config_home, EXCLUDES)?,
+        attributes: file_at(alloc, config, around, config_home, ATTRIBUTES)?,
         untracked: mode_in(config),
         relative_paths: boolean_at(config, b"status.relativepaths", true),
     })
@@ -217,18 +222,17 @@ pub(crate) fn boolean_at(config: &Config, key: &[u8], default: bool) -> bool
     }
 }
 
-/// The file that counts of a key; by default that of a name among the user's settings.
+/// The file that counts of one for each repository.
 fn file_at(
     alloc: Global,
     config: &Config,
     around: &Surroundings,
     config_home: Option<&[u8]>,
-    key: &[u8],
-    name: &[u8],
+    file: UserFile,
 ) -> Result<Option<Vec<u8>>, AllocError> {
-    match config.last_of(key) {
+    match config.last_of(file.key) {
         Some(setting) => path_at(alloc, around, &setting),
-        None => settings_file(alloc, config_home, around.home.as_deref(), name),
+        None => settings_file(alloc, config_home, around.home.as_deref(), file.name),
     }
 }
 
