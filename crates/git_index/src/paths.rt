@@ -94,8 +94,10 @@ pub fn push_path(
     requires { previous + parts.kept ≤ length text.old.items }
     ensures { MatchResult result
         (λ _. (path : List ℕ) × (text.new.items ≡ text.old.items ++ path)
-        × (joined_of (take parts.kept (drop previous text.old.items)) parts.added.now parts.told room ≡ Ok path) × (length path ≤ room))
-        (λ fault. (fault ≡ Memory) ⊎ (joined_of (take parts.kept (drop previous text.old.items)) parts.added.now parts.told room ≡ Err fault)) }
+        × (joined_of (take parts.entry.kept (drop previous text.old.items)) parts.entry.added.now parts.entry.told room ≡ Ok path)
+        × (length path ≤ room))
+        (λ fault. (fault ≡ Memory)
+        ⊎ (joined_of (take parts.entry.kept (drop previous text.old.items)) parts.entry.added.now parts.entry.told room ≡ Err fault)) }
 {
     let PathParts { kept, added, told } = parts;
     if kept > room || added.len() > room - kept {

@@ -181,14 +181,15 @@ impl<'a> Lister<'a> {
         ensures begun { IfErr result (λ fault. is_of_start fault ≡ false) }
     {
         let path = path_of(place)?;
-        let lists = mem::replace(&mut self.on_way.lists, Vec::new(self.on_way.alloc));
+        let alloc = self.on_way.alloc;
+        let lists = mem::replace(&mut self.on_way.lists, Vec::new(alloc));
         let terms = Terms {
             case: self.on_way.terms.case,
             chosen,
             folders,
             tracked: self.on_way.terms.tracked,
         };
-        let mut search = Lister::new(self.on_way.alloc, lists, terms);
+        let mut search = Lister::new(alloc, lists, terms);
         search.put_start(path, place.is_below)?;
         let is_any = lists_any(&mut search, source)?;
         let mut lists = search.into_lists();
