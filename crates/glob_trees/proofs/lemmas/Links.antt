@@ -13,7 +13,7 @@ use Rattle.std.proofs.lemmas.List.{length-set}
 use Rattle.std.proofs.lemmas.Option.{same_Some}
 use Rattle.std.proofs.lemmas.Map.Text.{is_eq-slice_cmp}
 use Rattle.std.proofs.lemmas.Slice.Eq.{bytes_eq-Decides}
-use Rattle.glob_trees.specs.Known.{AddsFolder, FolderNames, KnowsNone}
+use Rattle.glob_trees.specs.Known.{AddsFolder, FolderNames}
 use Rattle.glob_trees.specs.Links.{link, named_in}
 use Rattle.glob_trees.specs.Private.Known.{AreInside}
 use Rattle.glob_trees.proofs.lemmas.Cases.{cases_bytes, cases_places}
@@ -68,26 +68,9 @@ module _ {Z : Type 0} where
   get_more (m ∷ inner) empty none zero name = refl
   get_more (m ∷ inner) empty none (suc outer) name = get_more inner empty none outer name
 
-  link_more : (top : BTreeMap (Vec ℕ Z) ℕ) (inner : List (BTreeMap (Vec ℕ Z) ℕ)) (empty : BTreeMap (Vec ℕ Z) ℕ) → empty.entries ≡ [] → (outer : Option ℕ) (name : List ℕ) → link top (inner ++ empty ∷ []) outer name ≡ link top inner outer name
-  link_more top inner empty none None name = refl
-  link_more top inner empty none (Some outer) name = get_more inner empty none outer name
-
   -- what is known by these names
   abbrev pub names_by : BTreeMap (Vec ℕ Z) ℕ → List (BTreeMap (Vec ℕ Z) ℕ) → FolderNames
   names_by top inner = record { count = length inner; found = link top inner }
-
-  pub knows_none : (top : BTreeMap (Vec ℕ Z) ℕ) (inner : List (BTreeMap (Vec ℕ Z) ℕ)) → top.entries ≡ [] → inner ≡ [] → KnowsNone (names_by top inner)
-  knows_none top inner none few = subst (λ ls. KnowsNone (names_by top ls)) (sym few) (record { count = refl; none = none_found })
-    where
-      none_found : (outer : Option ℕ) (name : List ℕ) → link top [] outer name ≡ None
-      none_found None name = ap (lookup (at_name name)) none
-      none_found (Some outer) name = refl
-
-  pub inside_none : (top : BTreeMap (Vec ℕ Z) ℕ) (inner : List (BTreeMap (Vec ℕ Z) ℕ)) → top.entries ≡ [] → inner ≡ [] → AreInside top inner
-  inside_none top inner none few outer name place found =
-      let knows = knows_none top inner none few in
-      let clash : None ≡ Some place = sym (knows.none outer name) ∙ found in
-      absurd (cc)
 
   pub if_inside : (top : BTreeMap (Vec ℕ Z) ℕ) (inner : List (BTreeMap (Vec ℕ Z) ℕ)) (outer : Option ℕ) (name : List ℕ) (result : Option ℕ) → result ≡ link top inner outer name → AreInside top inner → IfSome result (λ place. place < length inner)
   if_inside top inner outer name None is all = tt

@@ -1,5 +1,5 @@
 -- Which folders lie on the way to a path.
-use Rattle.std.proofs.Common.{◌≡◌, ◌⊎◌, inl, inr, ⊎_elim, ℕ, List, [], ◌∷◌, ◌++◌, refl, sym, ap, subst, ◌∙◌, append_assoc, arith}
+use Rattle.std.proofs.Common.{◌≡◌, ◌⊎◌, inl, inr, ⊎_elim, ℕ, List, [], ◌∷◌, ◌++◌, sym, ap, subst, ◌∙◌, append_assoc, arith}
 use Rattle.std.specs.List.{Contains}
 use Rattle.std.proofs.lemmas.Bool.{cases_eq}
 use Rattle.std.proofs.lemmas.List.Elements.{Contains-append_cases, Contains-append_left, Contains-push, Contains-push_cases}
@@ -7,14 +7,10 @@ use Rattle.gix_glob.specs.Bytes.{slash}
 use Rattle.glob_trees.specs.Trees.{IsAbove}
 use Rattle.glob_trees.specs.Ways.{folder_before, folders_from, folders_to}
 use Rattle.glob_trees.proofs.lemmas.Folders.{above_is_shorter}
-use Rattle.glob_trees.proofs.lemmas.WayLemmas.{before_other, folders_more, folders_slash, further}
+use Rattle.glob_trees.proofs.lemmas.WayLemmas.{before_other}
 
 pub none_contained : {X : Type 0} (x : X) → ¬ Contains [] x
 none_contained x h = omega (arith, h.1)
-
-pub on_way_more : (front more folder : List ℕ) → Contains (folders_to front) folder → Contains (folders_to (front ++ more)) folder
-on_way_more front more folder h =
-    subst (λ fs. Contains fs folder) (sym (folders_more front more)) (Contains-append_left (folders_to front) (further front more) folder h)
 
 pub top_on_way : (front : List ℕ) → Contains (folders_to front) []
 top_on_way [] = Contains-push [] []
@@ -56,10 +52,3 @@ not_on_own_way front some h = ⊎_elim
     (λ (none : front ≡ []). some none)
     (λ (above : IsAbove front front). let shorter = above_is_shorter front front above in omega (arith))
     (on_way_is_above front front h)
-
-now_entered : (x : ℕ) (xs : List ℕ) → Contains (folders_to ((x ∷ xs) ++ slash ∷ [])) (x ∷ xs)
-now_entered x xs = subst (λ fs. Contains fs (x ∷ xs)) (sym (folders_slash x xs)) (Contains-push (folders_to (x ∷ xs)) (x ∷ xs))
-
-pub on_way_to_own : (front : List ℕ) → ¬ (front ≡ []) → Contains (folders_to (front ++ slash ∷ [])) front
-on_way_to_own [] some = absurd (some refl)
-on_way_to_own (x ∷ xs) some = now_entered x xs

@@ -57,10 +57,6 @@ tail n xs = take_all (length xs - n) (drop n xs) (omega (arith, length-drop n xs
 
 -- ---- what calls leave
 
-pub on_err : {A E : Type 0} (result : Result A E) (P : Type 0) → P → OnErr result P
-on_err (Ok a) P holds = tt
-on_err (Err e) P holds = holds
-
 -- what holds where a call succeeds gives another fact there
 pub ok_gives : {A E : Type 0} (result : Result A E) (P Q : Type 0) → (P → Q) → OnOk result P → OnOk result Q
 ok_gives (Ok a) P Q gives holds = gives holds

@@ -6,10 +6,10 @@ use Rattle.gix_glob.specs.Bytes.{HasByte, slash}
 use Rattle.glob_trees.specs.declared.found.Found.{Found}
 use Rattle.glob_trees.specs.declared.walk.Walk.{Walk}
 use Rattle.glob_trees.specs.declared.found.Found.TheVariants.{Refused}
-use Rattle.glob_trees.specs.Private.Walks.{IsBefore, IsFresh, IsIn, IsPassed, IsUnderWay, KeepsOn}
+use Rattle.glob_trees.specs.Private.Walks.{IsFresh, IsIn, IsPassed, IsUnderWay, KeepsOn}
 use Rattle.glob_trees.specs.Walks.{HasGone}
 use Rattle.glob_trees.specs.Ways.{Folder, folders_below}
-use Rattle.glob_trees.proofs.lemmas.Stepping.{begins_before, next_below, passing_below, slash_next, some_front}
+use Rattle.glob_trees.proofs.lemmas.Stepping.{next_below, passing_below, slash_next}
 use Rattle.glob_trees.proofs.lemmas.WayLemmas.{below_slash}
 use Rattle.glob_trees.proofs.lemmas.Walks.{entered, fresh}
 
@@ -80,13 +80,6 @@ passed_folder path place here deep start is =
       inside = omega (arith, long);
       level = ap folders_below (sym next);
     }
-
-pub before_slash : (start path : List ℕ) (place : ℕ) → HasByte path place slash → ¬ (place ≡ 0) → IsPassed start path place → IsBefore start (take place path)
-before_slash start path place here deep passed = record {
-  begins = begins_before start path place passed.begins passed.inside;
-  level = passed.level;
-  deep = some_front path place here deep;
-}
 
 pub all_passed : (start path : List ℕ) (place : ℕ) → IsPassed start path place → length path ≤ place → IsIn start path
 all_passed start path place passed past = record { begins = passed.begins; level = ap folders_below (sym (take_all place path past)) ∙ passed.level }

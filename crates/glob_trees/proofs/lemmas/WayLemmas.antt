@@ -1,5 +1,5 @@
 -- The folders on the way to a path, as the path grows by a byte, and the last of them.
-use Rattle.std.proofs.Common.{◌≡◌, ◌⊎◌, inl, inr, ⊎_elim, ℕ, ◌<◌, List, [], ◌∷◌, ◌++◌, length, refl, sym, ap, subst, ◌∙◌, append_assoc, append-nil, length-append, arith}
+use Rattle.std.proofs.Common.{◌≡◌, ◌⊎◌, inl, inr, ⊎_elim, ℕ, List, [], ◌∷◌, ◌++◌, length, refl, sym, ap, subst, ◌∙◌, append_assoc, append-nil, length-append, arith}
 use Rattle.std.specs.List.{AllZip}
 use Rattle.std.proofs.lemmas.Bool.{cases_eq}
 use Rattle.gix_glob.specs.Bytes.{slash}
@@ -115,26 +115,3 @@ module _ {A B : Type 0} (R : A → B → Type 0) where
   zip_more [] (b ∷ ys) x y zip here = absurd zip
   zip_more (a ∷ xs) [] x y zip here = absurd zip
   zip_more (a ∷ xs) (b ∷ ys) x y zip here = (zip.0, zip_more xs ys x y zip.1 here)
-
-  -- the last pair, and those before it
-  pub record ZipsLast (xs : List A) (ys : List B) (y : B) : Type 0 where
-    pub init : List A
-    pub last : A
-    pub joined : xs ≡ init ++ last ∷ []
-    pub zip : AllZip R init ys
-    pub here : R last y
-
-  pub zip_last : (xs : List A) (ys : List B) (y : B) → AllZip R xs (ys ++ y ∷ []) → ZipsLast xs ys y
-  zip_last [] [] y zip = absurd zip
-  zip_last [] (b ∷ ys) y zip = absurd zip
-  zip_last (a ∷ []) [] y zip = record { init = []; last = a; joined = refl; zip = tt; here = zip.0 }
-  zip_last (a ∷ c ∷ xs) [] y zip = absurd zip.1
-  zip_last (a ∷ xs) (b ∷ ys) y zip =
-      let rest = zip_last xs ys y zip.1 in
-      record { init = a ∷ rest.init; last = rest.last; joined = ap (λ l. a ∷ l) rest.joined; zip = (zip.0, rest.zip); here = rest.here }
-
--- the top has a list
-pub zips_some : {B : Type 0} (R : List ℕ → B → Type 0) (front : List ℕ) (ys : List B) → AllZip R (folders_to front) ys → 0 < length ys
-zips_some R [] [] zip = absurd zip
-zips_some R (x ∷ xs) [] zip = absurd zip
-zips_some R front (y ∷ ys) zip = omega (arith)
